@@ -1,0 +1,68 @@
+// Small functions on numbers that several crates need, and the laws that their proofs cite. All laws stand in specs/, one topic a file;
+// another crate's specs and proofs cite them as `Rattle.numbers.specs.FILE.{NAMES}`.
+ghost use mathlib.Core.Path.{_≡_};
+ghost use Rattle.numbers.specs.Clamp.{clampZ, upTo, clipZ, signedTo, signedByteZ};
+ghost use Rattle.numbers.specs.Wrap.{wrap16Of};
+
+// A number in 16 bits, or an argument that is refused.
+pub enum Wrapped {
+    Value(i32),
+    Refused,
+}
+
+// v modulo 65536, in -32768..32767. The multiple of 65536 that is added keeps what is divided positive.
+pub fn wrap16(v: i64) -> Wrapped
+    ensures { λ r. ⌜ r ≡ wrap16Of v ⌝ }
+{
+    if (-1000000000 <= v) & (v <= 1000000000) {
+        let u = (v + 4294967296) % 65536;
+        if u < 32768 {
+            Wrapped::Value(u as i32)
+        } else {
+            Wrapped::Value((u - 65536) as i32)
+        }
+    } else {
+        Wrapped::Refused
+    }
+}
+
+// v, or the end of lo..=hi that it lies beyond.
+fn clamp(v: i32, lo: i32, hi: i32) -> i32
+    ensures { λ r. ⌜ r ≡ clampZ lo hi v ⌝ }
+{
+    if v < lo {
+        lo
+    } else if v > hi {
+        hi
+    } else {
+        v
+    }
+}
+
+// v in 0..=top.
+pub fn clamp_to(v: i32, top: u8) -> u8
+    ensures { λ r. ⌜ r ≡ upTo top v ⌝ }
+{
+    clamp(v, 0, top as i32) as u8
+}
+
+// v as a sample, 0..=255.
+pub fn clip(v: i32) -> u8
+    ensures { λ r. ⌜ r ≡ clipZ v ⌝ }
+{
+    clamp_to(v, 255)
+}
+
+// v in -(top + 1)..=top.
+pub fn signed_to(v: i32, top: u8) -> i32
+    ensures { λ r. ⌜ r ≡ signedTo top v ⌝ }
+{
+    clamp(v, -1 - top as i32, top as i32)
+}
+
+// v as a signed byte, -128..=127.
+pub fn signed_byte(v: i32) -> i32
+    ensures { λ r. ⌜ r ≡ signedByteZ v ⌝ }
+{
+    signed_to(v, 127)
+}

@@ -1,0 +1,20 @@
+use Prim.Native.Nat.{_^_}
+use native.Mathlib.Nat.{mod-eq-of-lt, mul-le-mul}
+use native.Mathlib.Omega.{arith}
+use lib.Pow.{pow-mono}
+use borrow.Author.Needs.{needs}
+use Rattle.reader.proofs.boolean.times.Statement.{statement}
+use Rattle.reader.proofs.boolean.times.Tie as tie
+use Rattle.reader.proofs.boolean.times.Reads as reads
+use Rattle.reader.proofs.boolean.times.Lts as lts
+
+-- src/boolean.rt:56:5
+shl-result : tie.Need-shl-result
+shl-result c = search needs
+
+-- src/boolean.rt:52:1
+returns : tie.Need-returns
+returns c = mod-eq-of-lt (omega (arith, mul-le-mul {n₁ = c .args .x} {m₁ = 2 ^ c .args .k} {n₂ = 65792} {m₂ = 256} (omega arith) (pow-mono (c .pre .1))))
+
+pub times-spec : {M : Type 1} → statement M
+times-spec = tie.close (tie.spec shl-result returns)

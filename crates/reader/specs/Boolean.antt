@@ -1,0 +1,108 @@
+-- The boolean decoder (RFC 6386, section 7.3): what a symbol is, where a byte is missing, which readers are in range.
+use Prim.Native.Nat.{ℕ, zero, suc, _+_, _-_, _*_, _/_, _%_, _^_}
+use mathlib.Core.List.{List}
+use mathlib.Core.Bool.{Bool, true, false, _&&_}
+use lib.ListN.{length, getD}
+use lib.Dec.{ltb, leb, eqb}
+use Rattle.reader.specs.declared.boolean.Reader.{Reader}
+use Rattle.reader.specs.declared.boolean.Opened.{Opened}
+use Rattle.reader.specs.declared.boolean.Opened.the-variants as O
+use Rattle.reader.specs.declared.boolean.Symbol.{Symbol}
+use Rattle.reader.specs.declared.boolean.Symbol.the-variants as S
+
+-- What asking a partition gives: a value and the reader after it, or a byte is missing.
+pub data Given (A : Type 0) : Type 0 where
+  given : A → Reader → Given A
+  missing : Given A
+
+-- ---- one symbol
+-- split = 1 + (((range - 1) * probability) >> 8)
+unfoldable pub splitOf : ℕ → ℕ → ℕ
+splitOf range prob = 1 + (range - 1) * prob / 256
+
+-- a one takes the range less the split, and 256 * split off the window; a zero takes the split, and leaves the window
+abbrev pub partOf : Reader → ℕ → Bool → Reader
+partOf r split true = record { at = r .at; range = r .range - split; shifts = r .shifts; window = r .window - 256 * split }
+partOf r split false = record { at = r .at; range = split; shifts = r .shifts; window = r .window }
+
+-- a shift: range and window double, the window keeping its low sixteen bits
+abbrev pub shifted : Reader → Reader
+shifted r = record { at = r .at; range = r .range * 2; shifts = r .shifts + 1; window = r .window * 2 % 65536 }
+
+-- an eighth shift: it also loads the byte b
+abbrev pub loaded : ℕ → Reader → Reader
+loaded b r = record { at = r .at + 1; range = r .range * 2; shifts = 0; window = r .window * 2 % 65536 + b }
+
+-- while the range is below 128, shift; each eighth shift loads the next byte, and there the byte can be missing.
+-- At most n shifts: seven suffice, since a range is at least 1 (`grow-enough`).
+unfoldable pub grow : ℕ → List ℕ → Bool → Reader → Given Bool
+grow zero s bit r = given bit r
+grow (suc n) s bit r =
+    elim (ltb (r .range) 128) [
+      | false ↦ given bit r
+      | true ↦ elim (eqb (r .shifts) 7) [
+        | false ↦ grow n s bit (shifted r)
+        | true ↦ elim (ltb (r .at) (length s)) [
+          | false ↦ missing
+          | true ↦ grow n s bit (loaded (getD s (r .at) 0) r)
+        ]
+      ]
+    ]
+
+-- the bit is 1 where the window is at least 256 * split; then the doubling
+unfoldable pub symbolOf : List ℕ → Reader → ℕ → Given Bool
+symbolOf s r prob =
+    elim (leb (256 * splitOf (r .range) prob) (r .window)) [
+      | true ↦ grow 7 s true (partOf r (splitOf (r .range) prob) true)
+      | false ↦ grow 7 s false (partOf r (splitOf (r .range) prob) false)
+    ]
+
+-- ---- a partition is opened with two bytes and range 255
+abbrev pub firstReader : List ℕ → Reader
+firstReader s = record { at = 2; range = 255; shifts = 0; window = getD s 0 0 * 256 + getD s 1 0 }
+
+-- ---- a reader is in range over s: its next byte's place is 2..length, its range 128..255, its shifts since a load 0..7, and
+-- its window below 65536 and a multiple of 2^shifts
+unfoldable pub validOf : List ℕ → Reader → Bool
+validOf s r =
+    leb 2 (r .at)
+    && (leb (r .at) (length s)
+    && (leb 128 (r .range)
+    && (ltb (r .range) 256
+    && (ltb (r .shifts) 8 && (ltb (r .window) 65536 && eqb (r .window % 2 ^ r .shifts) 0)))))
+
+-- ---- the calls' answers
+abbrev pub toSymbol : Given Bool → Symbol
+toSymbol (given b r) = S.Got b r
+toSymbol missing = S.Missing
+
+-- `symbol`: refused where the reader is out of range
+unfoldable pub symbolAnswer : List ℕ → Reader → ℕ → Symbol
+symbolAnswer s r prob = elim (validOf s r) [ true ↦ toSymbol (symbolOf s r prob) | false ↦ S.Refused ]
+
+-- `open`: refused where the partition has under two bytes
+unfoldable pub openAnswer : List ℕ → Opened
+openAnswer s = elim (leb 2 (length s)) [ true ↦ O.Ready (firstReader s) | false ↦ O.Refused ]
+
+-- ---- the answers as numbers and values. Reading calls say only that a byte is missing: `short` is the number that the layer
+-- above gives that, 6 where modes and 7 where tokens run out. A refusal's values are zero.
+abbrev pub noReader : Reader
+noReader = record { at = 0; range = 0; shifts = 0; window = 0 }
+
+abbrev pub openedNumberOf : Opened → ℕ
+openedNumberOf (O.Ready r) = 0
+openedNumberOf O.Refused = 5
+
+abbrev pub openedValuesOf : Opened → Reader
+openedValuesOf (O.Ready r) = r
+openedValuesOf O.Refused = noReader
+
+abbrev pub symbolNumberOf : ℕ → Symbol → ℕ
+symbolNumberOf short (S.Got b r) = 0
+symbolNumberOf short S.Missing = short
+symbolNumberOf short S.Refused = 9
+
+abbrev pub symbolValuesOf : Symbol → Bool × Reader
+symbolValuesOf (S.Got b r) = (b, r)
+symbolValuesOf S.Missing = (false, noReader)
+symbolValuesOf S.Refused = (false, noReader)

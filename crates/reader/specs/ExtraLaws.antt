@@ -1,0 +1,84 @@
+-- The laws of extra bits: what code and callers cite.
+use Prim.Native.Nat.{ℕ, zero, suc, _+_, _*_, _≤_, _<_, _^_}
+use mathlib.Core.Path.{_≡_, refl, sym, _∙_, ap}
+use native.Mathlib.Omega.{arith}
+use native.Mathlib.Nat.{mul-one, one-mul}
+use native.Mathlib.Numerals.{add-one}
+use mathlib.Core.List.{List, [], _∷_}
+use mathlib.Core.Bool.{Bool, true, false, _&&_}
+use lib.ListN.{length, getD, drop, drop-of-length-le}
+use lib.Seq.{drop-cons}
+use lib.Dec.{leb}
+use borrow.Author.Tests.{le-leb, lt-leb}
+use Rattle.numbers.specs.Tests.{both-true, both-false}
+use Rattle.numbers.specs.Powers.{twice}
+use Rattle.reader.specs.declared.boolean.Reader.{Reader}
+use Rattle.reader.specs.declared.extra.Number.{Number}
+use Rattle.reader.specs.declared.extra.Number.the-variants as N
+use Rattle.reader.specs.Boolean.{Given, given, missing, validOf}
+use Rattle.reader.specs.BooleanLaws.{Bytes, Valid, valid-test}
+use Rattle.reader.specs.Reading.{Reading, done, ask, _>>=_, symbol, run, Within, ends, asks}
+use Rattle.reader.specs.ReadingLaws.{run-done, run-then, run-stops, within-weaken}
+use Rattle.reader.specs.Extra.{bitOf, extraFrom, extra, toNumber, extraOf, extraAnswer}
+
+pub bit-small : (b : Bool) → bitOf b < 2
+bit-small true = omega arith
+bit-small false = omega arith
+
+-- ---- one bit at a time, at index i
+module _ (s ps : List ℕ) (v i : ℕ) (r : Reader) where
+  pub extra-end : length ps ≤ i → run (extraFrom v (drop i ps)) s r ≡ given v r
+  unfolding extraFrom
+  extra-end h = rw (drop-of-length-le ps h, extraFrom) (run-done v s r)
+
+  module _ (h : i < length ps) where
+    asks-next : extraFrom v (drop i ps) ≡ (symbol (getD ps i 0) >>= λ b. extraFrom (v + v + bitOf b) (drop (i + 1) ps))
+    unfolding extraFrom
+    asks-next = rw (drop-cons ps i 0 h, add-one, extraFrom)
+
+    pub extra-missing : run (symbol (getD ps i 0)) s r ≡ missing → run (extraFrom v (drop i ps)) s r ≡ missing
+    extra-missing e = ap (λ m. run m s r) asks-next ∙ run-stops (λ b. extraFrom (v + v + bitOf b) (drop (i + 1) ps)) s (symbol (getD ps i 0)) r e
+
+    pub extra-got : {b : Bool} {q : Reader} → run (symbol (getD ps i 0)) s r ≡ given b q → run (extraFrom v (drop i ps)) s r ≡ run (extraFrom (v + v + bitOf b) (drop (i + 1) ps)) s q
+    extra-got e = ap (λ m. run m s r) asks-next ∙ run-then (λ b. extraFrom (v + v + bitOf b) (drop (i + 1) ps)) s (symbol (getD ps i 0)) r e
+
+-- every path asks as many symbols as there are probabilities, and gives a number of as many bits
+extra-from-within : (ps : List ℕ) (v m : ℕ) → Bytes ps → v < m → Within (λ x. x < m * 2 ^ length ps) (length ps) (extraFrom v ps)
+unfolding extraFrom
+extra-from-within [] v m y h = let l : v < m * 2 ^ 0 = rw (mul-one m) h in ends l
+extra-from-within (p ∷ ps) v m y h =
+    asks (y 0) (λ b. within-weaken (λ x l. rw (twice m (length ps)) at l) (extra-from-within ps (v + v + bitOf b) (m * 2) (λ i. y (suc i)) (omega (arith, bit-small b))))
+
+pub extra-within : (ps : List ℕ) → Bytes ps → Within (λ x. x < 2 ^ length ps) (length ps) (extra ps)
+extra-within ps y = within-weaken (λ x l. rw (one-mul (2 ^ length ps)) at l) (extra-from-within ps 0 1 y (omega arith))
+
+-- ---- the public call
+-- what its answer says of the grammar; where the arguments are good it is never Refused
+abbrev pub fromNumber : Number → Given ℕ
+fromNumber (N.Value v r) = given v r
+fromNumber N.Missing = missing
+fromNumber N.Refused = missing
+
+from-number : (x : Given ℕ) → x ≡ fromNumber (toNumber x)
+from-number (given v r) = refl
+from-number missing = refl
+
+module _ (s ps : List ℕ) (r : Reader) where
+  pub extra-good : Valid s r → length ps ≤ 16 → extraAnswer s ps r ≡ extraOf s ps r
+  unfolding extraAnswer
+  extra-good v h = rw (both-true (valid-test s r v) (le-leb _ _ h), extraAnswer)
+
+  refused : validOf s r && leb (length ps) 16 ≡ false → N.Refused ≡ extraAnswer s ps r
+  unfolding extraAnswer
+  refused e = rw (e, extraAnswer)
+
+  pub extra-reader : validOf s r ≡ false → N.Refused ≡ extraAnswer s ps r
+  extra-reader e = refused (rw e)
+
+  pub extra-many : 16 < length ps → N.Refused ≡ extraAnswer s ps r
+  extra-many h = refused (both-false (validOf s r) (lt-leb _ _ h))
+
+  -- THE LAW for callers of `extra_bits`
+  pub numbered : Valid s r → length ps ≤ 16 → {x : Number} → x ≡ extraAnswer s ps r → run (extra ps) s r ≡ fromNumber x
+  unfolding extraOf
+  numbered v h f = from-number (run (extra ps) s r) ∙ ap fromNumber (sym (f ∙ extra-good v h))

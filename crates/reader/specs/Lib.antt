@@ -1,0 +1,9 @@
+pub mod Boolean
+pub mod BooleanLaws
+pub mod BooleanFast
+pub mod Reading
+pub mod ReadingLaws
+pub mod Trees
+pub mod TreesLaws
+pub mod Extra
+pub mod ExtraLaws

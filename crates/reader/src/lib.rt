@@ -1,0 +1,6 @@
+// What every layer above reads by: the boolean decoder of RFC 6386 section 7.3 (boolean), trees of its symbols, section 8.1
+// (trees), and the extra bits of a number (extra). specs/ has the same as grammars: what a part of a frame asks, apart from
+// how a reader answers.
+pub mod boolean;
+pub mod extra;
+pub mod trees;
