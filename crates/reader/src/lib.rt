@@ -3,4 +3,5 @@
 // how a reader answers.
 pub mod boolean;
 pub mod extra;
+pub mod header;
 pub mod trees;

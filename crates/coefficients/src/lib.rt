@@ -1,0 +1,4 @@
+// The coefficients of a block: how its tokens are read (tokens, RFC 6386 section 13), and what becomes of them (transform,
+// sections 14.3 and 14.4).
+pub mod tokens;
+pub mod transform;

@@ -1,0 +1,6 @@
+pub mod Kernel
+pub mod KernelLaws
+pub mod Source
+pub mod SourceLaws
+pub mod Rfc15
+pub mod Rfc15Laws

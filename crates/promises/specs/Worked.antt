@@ -1,0 +1,82 @@
+-- The worked numbers, as one table: what the definitions give, row by row, beside what the scope says. Proved by computation.
+use Prim.Native.Nat.{ℕ}
+use mathlib.Core.Path.{_≡_, refl}
+use mathlib.Core.Bool.{Bool, true, false}
+use mathlib.Core.List.{List, [], _∷_}
+use lib.ListN.{replicate}
+use lib.IntN.{ℤ, pos, negsuc}
+use Rattle.numbers.specs.Clamp.{clampZ, upTo}
+use Rattle.numbers.specs.Lists.{build}
+use Rattle.numbers.specs.Wrap.{wrapZ, turns}
+use Rattle.coefficients.specs.Tokens.{signOf}
+use Rattle.coefficients.specs.Transform.{gridOf, transposeOf, columnOf, scaledOf, passOf, rowsOf, verticalOf, horizontalOf, resultsOf, samplesOf}
+use Rattle.kernel.specs.Kernel.{filterOf, movedOf, stepsOf, noSteps, commonSteps, macroblockSteps, innerSteps, sides, part, half, eighth, tapped, across, ruleOf, highVariance, roughAt, smooth, firstFalse, withinLimit}
+
+-- a row: what is computed, and what it must be
+pub record Row : Type 0 where
+  pub gives : List ℤ
+  pub must : List ℤ
+
+abbrev given : List Row → List (List ℤ)
+given [] = []
+given (r ∷ rs) = r .gives ∷ given rs
+
+abbrev wanted : List Row → List (List ℤ)
+wanted [] = []
+wanted (r ∷ rs) = r .must ∷ wanted rs
+
+abbrev signed : List ℕ → List ℤ
+signed [] = []
+signed (x ∷ xs) = pos x ∷ signed xs
+
+-- a block whose first coefficient alone is not 0, and sixteen samples that are all one value
+abbrev dc : ℤ → List ℤ
+dc d = d ∷ replicate 15 (pos 0)
+
+abbrev all : ℤ → List ℤ
+all z = replicate 16 z
+
+-- a product with a quantizer, of either sign
+abbrev product : Bool → ℕ → List ℤ
+product negative x = wrapZ (signOf negative x) ∷ []
+
+abbrev flat : List ℕ
+flat = 100 ∷ 100 ∷ 100 ∷ 100 ∷ 110 ∷ 110 ∷ 110 ∷ 110 ∷ []
+
+abbrev edge : Bool → Bool → ℕ → List ℤ
+edge simple macroblock limit = signed (filterOf flat simple macroblock limit 0 0)
+
+abbrev pub table : List Row
+table =
+    -- the inverse DCT of a DC alone
+    record { gives = samplesOf false (dc (pos 3)); must = all (pos 0) }
+    ∷ record { gives = samplesOf false (dc (pos 4)); must = all (pos 1) }
+    ∷ record { gives = samplesOf false (dc (negsuc 3)); must = all (pos 0) }
+    ∷ record { gives = samplesOf false (dc (negsuc 4)); must = all (negsuc 0) }
+    -- the inverse Walsh transform of a DC alone
+    ∷ record { gives = samplesOf true (dc (pos 5)); must = all (pos 1) }
+    ∷ record { gives = samplesOf true (dc (negsuc 3)); must = all (negsuc 0) }
+    -- coefficient 4 alone is -1: column 0 after the first pass
+    ∷ record {
+      gives = columnOf (verticalOf false (gridOf (pos 0 ∷ pos 0 ∷ pos 0 ∷ pos 0 ∷ negsuc 0 ∷ replicate 11 (pos 0)))) 0;
+      must = negsuc 1 ∷ negsuc 0 ∷ pos 1 ∷ pos 2 ∷ [];
+    }
+    -- products in 16 bits: 2047 * 16, 2048 * 16 of either sign, 2048 * 32, 2114 * 157
+    ∷ record { gives = product false 32752; must = pos 32752 ∷ [] }
+    ∷ record { gives = product false 32768; must = negsuc 32767 ∷ [] }
+    ∷ record { gives = product true 32768; must = negsuc 32767 ∷ [] }
+    ∷ record { gives = product false 65536; must = pos 0 ∷ [] }
+    ∷ record { gives = product false 331898; must = pos 4218 ∷ [] }
+    -- an edge between 100 and 110, inner 0, threshold 0: limit 24 changes nothing
+    ∷ record { gives = edge false true 24; must = signed flat }
+    ∷ record { gives = edge false false 24; must = signed flat }
+    ∷ record { gives = edge true false 24; must = signed flat }
+    -- limit 25: a macroblock edge, an inner edge, the simple kind
+    ∷ record { gives = edge false true 25; must = signed (100 ∷ 101 ∷ 103 ∷ 104 ∷ 106 ∷ 107 ∷ 109 ∷ 110 ∷ []) }
+    ∷ record { gives = edge false false 25; must = signed (100 ∷ 100 ∷ 102 ∷ 104 ∷ 106 ∷ 108 ∷ 110 ∷ 110 ∷ []) }
+    ∷ record { gives = edge true false 25; must = signed (100 ∷ 100 ∷ 100 ∷ 102 ∷ 107 ∷ 110 ∷ 110 ∷ 110 ∷ []) }
+    ∷ []
+
+pub worked : given table ≡ wanted table
+unfolding clampZ upTo build wrapZ gridOf transposeOf scaledOf passOf rowsOf verticalOf horizontalOf resultsOf samplesOf filterOf movedOf stepsOf noSteps commonSteps macroblockSteps innerSteps sides part half eighth tapped across ruleOf highVariance roughAt smooth firstFalse withinLimit
+worked = refl

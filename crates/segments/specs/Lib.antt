@@ -1,0 +1,5 @@
+pub mod Own
+pub mod Quantizers
+pub mod QuantizersLaws
+pub mod Levels
+pub mod LevelsLaws

@@ -1,0 +1,58 @@
+-- The laws of the quantizers: the tables' ranges, and the answer with good arguments.
+use Prim.Native.Nat.{ℕ, _+_, _*_, _/_, _≤_, _<_, min, max}
+use mathlib.Core.Path.{_≡_, refl, sym, _∙_, ap}
+use mathlib.Core.Bool.{Bool, true, false, not, _&&_}
+use mathlib.Core.List.{List}
+use native.Mathlib.Omega.{arith}
+use lib.Dec.{ltb, leb}
+use lib.ListN.{getD}
+use lib.IntN.{ℤ, pos, _+ℤ_}
+use borrow.Author.Tests.{ltb-true, lt-ltb, le-ltb}
+use Rattle.numbers.specs.Tests.{both-left, both-right, both-true, both-false}
+use Rattle.numbers.specs.Tables.{all-of-any}
+use Rattle.reader.specs.Header.{entry, headerOf}
+use Rattle.segments.specs.declared.quantizers.Factors.{Factors}
+use Rattle.segments.specs.declared.quantizers.Quantizers.{Quantizers}
+use Rattle.segments.specs.declared.quantizers.Quantizers.the-variants as Q
+use Rattle.segments.specs.Quantizers.{dcSteps, acSteps, dcAt, acAt, indexOf, indexWith, secondAc, factorsOf, quantizersOf}
+
+-- ---- the tables' ranges: each a test of the whole table
+pub dc-in : (i : ℕ) → dcAt i < 158
+unfolding dcSteps
+dc-in i = ltb-true _ _ (all-of-any (λ x. ltb x 158) dcSteps 0 refl refl i)
+
+pub ac-in : (i : ℕ) → acAt i < 285
+unfolding acSteps
+ac-in i = ltb-true _ _ (all-of-any (λ x. ltb x 285) acSteps 0 refl refl i)
+
+module _ (h : List ℤ) (segment : ℕ) where
+  -- ---- the public call
+  pub segment-good : headerOf h ≡ true → segment < 4 → quantizersOf h segment ≡ Q.Ready (factorsOf h segment)
+  unfolding quantizersOf
+  segment-good e l = rw (both-true e (lt-ltb _ _ l), quantizersOf)
+
+  refused : headerOf h && ltb segment 4 ≡ false → Q.Refused ≡ quantizersOf h segment
+  unfolding quantizersOf
+  refused e = rw (e, quantizersOf)
+
+  pub segment-header : headerOf h ≡ false → Q.Refused ≡ quantizersOf h segment
+  segment-header e = refused (rw e)
+
+  pub segment-none : 4 ≤ segment → Q.Refused ≡ quantizersOf h segment
+  segment-none l = refused (both-false (headerOf h) (le-ltb _ _ l))
+
+-- 155 over 100 of a step, at least 8, as the code tests it
+pub second-low : (step : ℕ) → step * 155 / 100 < 8 → 8 ≡ secondAc step
+second-low step h = omega arith
+
+pub second-high : (step : ℕ) → 8 ≤ step * 155 / 100 → step * 155 / 100 ≡ secondAc step
+second-high step h = omega arith
+
+-- the six together, from what each call answered
+pub six-are : (h : List ℤ) (segment i : ℕ) → i ≡ indexOf h segment → {a b c d e f x y : ℕ}
+    → a ≡ dcAt (indexWith i (entry h 32)) → b ≡ acAt i → c ≡ dcAt (indexWith i (entry h 33))
+    → x ≡ acAt (indexWith i (entry h 34)) → d ≡ secondAc x
+    → y ≡ dcAt (indexWith i (entry h 35)) → e ≡ min y 132 → f ≡ acAt (indexWith i (entry h 36))
+    → _≡_ {A = Factors} (record { ydc = a; yac = b; y2dc = c * 2; y2ac = d; uvdc = e; uvac = f }) (factorsOf h segment)
+unfolding factorsOf
+six-are h segment i e₀ e₁ e₂ e₃ e₄ e₅ e₆ e₇ e₈ = rw (e₁, e₂, e₃, e₅, e₄, e₇, e₆, e₈, e₀)

@@ -1,0 +1,4 @@
+// What a segment has of its own: its quantizers and its filter level (RFC 6386, sections 9.3, 9.6 and 14.1).
+pub mod levels;
+mod own;
+pub mod quantizers;
