@@ -30,6 +30,10 @@ unfoldable pub fineTo : List ℤ → ℕ → Bool
 fineTo h zero = true
 fineTo h (suc i) = fineTo h i && not (outside (entry h i))
 
+-- none is
+unfoldable pub entriesOf : List ℤ → Bool
+entriesOf h = fineTo h (length h)
+
 -- 1096 entries, none outside
 unfoldable pub headerOf : List ℤ → Bool
-headerOf h = eqb (length h) 1096 && fineTo h (length h)
+headerOf h = eqb (length h) 1096 && entriesOf h

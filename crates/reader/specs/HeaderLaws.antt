@@ -14,7 +14,7 @@ use borrow.Author.Tests.{eq-eqb, ne-eqb, eqb-true, not-true, not-false}
 use Rattle.numbers.specs.Tests.{lt-or, never, not-so, both-left, both-right, both-true}
 use Rattle.numbers.specs.In.{In, Each}
 use Rattle.numbers.specs.Parts.{nlt-le, of-le, of-eq, add-parts, up-times, dn-times}
-use Rattle.reader.specs.Header.{entry, probabilityOf, outside, fineTo, headerOf}
+use Rattle.reader.specs.Header.{entry, probabilityOf, outside, fineTo, entriesOf, headerOf}
 
 -- ---- a probability
 pub probability-below : (z : ℤ) → probabilityOf z < 256
@@ -47,26 +47,27 @@ fine-at h (suc n) i e l =
     (lt-or i n)
 
 module _ (h : List ℤ) where
-  pub header-short : (length h ≡ 1096 → ⊥) → false ≡ headerOf h
-  unfolding headerOf
-  header-short f = rw (ne-eqb (length h) 1096 f)
+  pub entries-out : (i : ℕ) → i < length h → outside (entry h i) ≡ true → false ≡ entriesOf h
+  unfolding entriesOf
+  entries-out i l f = not-so (fineTo h (length h)) (λ e. never f (fine-at h (length h) i e l))
+
+  pub entries-all : (i : ℕ) → i ≡ length h → fineTo h i ≡ true → true ≡ entriesOf h
+  unfolding entriesOf
+  entries-all i k e = sym (rw k at e)
 
   pub header-length : headerOf h ≡ true → length h ≡ 1096
   unfolding headerOf
   header-length e = eqb-true _ _ (both-left _ _ e)
 
-  entries : headerOf h ≡ true → fineTo h (length h) ≡ true
+  pub header-entries : headerOf h ≡ true → entriesOf h ≡ true
   unfolding headerOf
-  entries e = both-right (eqb (length h) 1096) _ e
+  header-entries e = both-right (eqb (length h) 1096) _ e
 
-  pub header-out : (i : ℕ) → i < length h → outside (entry h i) ≡ true → false ≡ headerOf h
-  header-out i l f = not-so (headerOf h) (λ e. never f (fine-at h (length h) i (entries e) l))
-
-  pub header-all : length h ≡ 1096 → (i : ℕ) → i ≡ length h → fineTo h i ≡ true → true ≡ headerOf h
+  pub header-fine : length h ≡ 1096 → entriesOf h ≡ true → headerOf h ≡ true
   unfolding headerOf
-  header-all l i k e = sym (both-true (eq-eqb _ _ l) (rw k at e))
+  header-fine l e = both-true (eq-eqb _ _ l) e
 
--- ---- what a fine header is: each entry lies in -255..255
+-- ---- what fine entries are: each lies in -255..255
 either-left : (a b : Bool) → a || b ≡ false → a ≡ false
 either-left true b e = e
 either-left false b e = refl
@@ -78,11 +79,15 @@ either-right false b e = e
 inside : (z : ℤ) → outside z ≡ false → In (negsuc 254) (pos 255) z
 inside z e = record { low = nlt-le z (negsuc 254) (either-left _ _ e); high = nlt-le (pos 255) z (either-right (ltZ z (negsuc 254)) _ e) }
 
-pub header-each : (h : List ℤ) → headerOf h ≡ true → Each (negsuc 254) (pos 255) h
-header-each h e =
+pub entries-each : (h : List ℤ) → entriesOf h ≡ true → Each (negsuc 254) (pos 255) h
+unfolding entriesOf
+entries-each h e =
     record {
       at = λ i. ⊎-elim
-          (λ l. inside (entry h i) (fine-at h (length h) i (entries h e) l))
+          (λ l. inside (entry h i) (fine-at h (length h) i e l))
           (λ g. rw (List·getD-eq-default h (pos 0) {n = i} g) (record { low = of-le (omega arith); high = of-le (omega arith) }))
           (lt-or i (length h));
     }
+
+pub header-each : (h : List ℤ) → headerOf h ≡ true → Each (negsuc 254) (pos 255) h
+header-each h e = entries-each h (header-entries h e)

@@ -1,6 +1,6 @@
 // The header's entries: 1096 numbers, of which each layer reads its own. A probability is an entry modulo 256.
 ghost use mathlib.Core.Path.{_≡_};
-ghost use Rattle.reader.specs.Header.{presentOf, probabilityOf, headerOf};
+ghost use Rattle.reader.specs.Header.{presentOf, probabilityOf, entriesOf, headerOf};
 
 // Whether what an entry announces is there.
 pub fn present(entry: i32) -> bool
@@ -16,15 +16,12 @@ pub fn probability(entry: i32) -> u8
     ((entry as i64 + 4294967296) % 256) as u8
 }
 
-// Whether there are 1096 entries, each in -255..255.
-pub fn header_fine(h: &[i32]) -> bool
-    ensures { λ r. ⌜ r ≡ headerOf (now (h .entry)) ⌝ }
+// Whether each entry lies in -255..255, however many there are.
+pub fn entries_fine(h: &[i32]) -> bool
+    ensures { λ r. ⌜ r ≡ entriesOf (now (h .entry)) ⌝ }
 {
-    if h.len() != 1096 {
-        return false;
-    }
     let mut i = 0;
-    while i < 1096 {
+    while i < h.len() {
         let x = h[i];
         if (x < -255) | (255 < x) {
             return false;
@@ -32,4 +29,11 @@ pub fn header_fine(h: &[i32]) -> bool
         i = i + 1;
     }
     true
+}
+
+// Whether there are 1096 entries, each in -255..255.
+pub fn header_fine(h: &[i32]) -> bool
+    ensures { λ r. ⌜ r ≡ headerOf (now (h .entry)) ⌝ }
+{
+    (h.len() == 1096) & entries_fine(h)
 }

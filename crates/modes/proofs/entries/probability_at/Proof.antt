@@ -1,0 +1,28 @@
+use mathlib.Core.Path.{ap, _∙_}
+use lib.IntN.{pos}
+use lib.ListN.{getD}
+use mir.Syntax.{w32}
+use borrow.Author.Needs.{sfits-of, needs}
+use Rattle.numbers.specs.Hand.{any}
+use Rattle.reader.specs.Header.{probabilityOf}
+use Rattle.modes.proofs.entries.probability_at.Statement.{statement}
+use Rattle.modes.proofs.entries.probability_at.Tie as tie
+
+mul-probability : tie.Need-mul-probability
+mul-probability c = search needs
+
+shared-slice-copy-out-probability : tie.Need-shared-slice-copy-out-probability
+shared-slice-copy-out-probability c = search needs
+
+probability-requires : tie.Need-probability-requires
+probability-requires c κs = search needs
+
+returns : tie.Need-returns
+returns c =
+    let a = c .before .before .args in
+    c .probability .ensures ∙ ap probabilityOf (any w32 {z = getD (a .h .now) (a .i) (pos 0)} (sfits-of (c .before .probability-arg .given)) .eq)
+
+pub probability-at-spec : {M : Type 1} → statement M
+probability-at-spec =
+    tie.close
+    (tie.spec mul-probability shared-slice-copy-out-probability probability-requires returns)

@@ -1,0 +1,52 @@
+use Prim.Native.Nat.{ℕ, _+_}
+use mathlib.Core.Path.{refl, ap, _∙_}
+use mathlib.Core.List.{List}
+use borrow.Author.Needs.{needs}
+use Rattle.reader.specs.Reading.{run}
+use Rattle.modes.specs.Table.{rfcTable}
+use Rattle.modes.specs.TableLaws.{part-is}
+use Rattle.modes.specs.Modes.{tree, bTree}
+use Rattle.modes.specs.Answers.{toMode}
+use Rattle.modes.proofs.small.block.Statement.{statement}
+use Rattle.modes.proofs.small.block.Tie as tie
+
+place-requires : tie.Need-place-requires
+place-requires c κs = search needs
+
+add-end : tie.Need-add-end
+add-end c = search needs
+
+sub-small-mode : tie.Need-sub-small-mode
+sub-small-mode c = search needs
+
+part-small-mode-start : tie.Need-part-small-mode-start
+part-small-mode-start c = search needs
+
+part-small-mode-end : tie.Need-part-small-mode-end
+part-small-mode-end c = search needs
+
+small-mode-requires : tie.Need-small-mode-requires
+small-mode-requires c κs = search needs
+
+-- the first `refl` is the test of the code's whole table: each of the 900 numbers is the RFC's, with both modes renumbered
+returns : tie.Need-returns
+unfolding rfcTable
+returns c =
+    let p = c .before .before .before in
+    let d = p .before .before in
+    let a = d .args in
+    c .small-mode .ensures
+    ∙ ap (λ (ps : List ℕ). toMode (run (tree ps bTree) (a .s .now) (a .r)))
+    (part-is (a .top) (a .left) _ refl refl (d .pre .1 .0) (d .pre .1 .1) (p .place .result) (p .place .result + 9) (p .place .ensures .0) refl)
+
+pub block-spec : {M : Type 1} → statement M
+block-spec =
+    tie.close
+    (tie.spec
+    place-requires
+    add-end
+    sub-small-mode
+    part-small-mode-start
+    part-small-mode-end
+    small-mode-requires
+    returns)

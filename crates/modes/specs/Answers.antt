@@ -1,0 +1,125 @@
+-- What the calls answer: the grammars run over a reader, with the checks of the arguments; and the answers as numbers and values.
+use Prim.Native.Nat.{ℕ}
+use mathlib.Core.List.{List}
+use mathlib.Core.Bool.{Bool, true, false, _&&_}
+use lib.ListN.{length}
+use lib.IntN.{ℤ}
+use lib.Dec.{ltb, eqb}
+use Rattle.numbers.specs.Tables.{allOf}
+use Rattle.reader.specs.declared.boolean.Reader.{Reader}
+use Rattle.reader.specs.Boolean.{Given, given, missing, validOf, noReader}
+use Rattle.reader.specs.Reading.{run}
+use Rattle.modes.specs.declared.answers.Prefix.{Prefix}
+use Rattle.modes.specs.declared.answers.Kinds.{Kinds}
+use Rattle.modes.specs.declared.answers.Mode.{Mode}
+use Rattle.modes.specs.declared.answers.Headed.{Headed}
+use Rattle.modes.specs.declared.answers.Next.{Next}
+use Rattle.modes.specs.declared.answers.Stage.{Stage}
+use Rattle.modes.specs.declared.answers.Sixteen.{Sixteen}
+use Rattle.modes.specs.declared.answers.Staged.{Staged}
+use Rattle.modes.specs.Modes.{prefix, largeMode, blockMode, smallModes, Macroblock, modesOf}
+use Rattle.modes.specs.declared.answers.Mode.the-variants as M
+use Rattle.modes.specs.declared.answers.Headed.the-variants as H
+use Rattle.modes.specs.declared.answers.Next.the-variants as N
+use Rattle.modes.specs.declared.answers.Stage.the-variants as S
+
+-- ---- a run as an answer. Where an array is lent, it holds `old` unless all is read.
+abbrev pub toMode : Given ℕ → Mode
+toMode (given v r) = M.Read v r
+toMode missing = M.Missing
+
+abbrev pub toHeaded : Given Prefix → Headed
+toHeaded (given p r) = H.Read p r
+toHeaded missing = H.Missing
+
+abbrev pub toSixteen : List ℕ → Given (List ℕ) → Sixteen
+toSixteen old (given l r) = record { answer = N.At r; modes = l }
+toSixteen old missing = record { answer = N.Missing; modes = old }
+
+abbrev pub kindsOf : Macroblock → Kinds
+kindsOf m = record { segment = m .segment; skip = m .skip; small = m .small; chroma = m .chroma }
+
+abbrev pub macroblockOf : Kinds → List ℕ → Macroblock
+macroblockOf k modes = record { segment = k .segment; skip = k .skip; small = k .small; modes = modes; chroma = k .chroma }
+
+abbrev pub toStaged : List ℕ → Given Macroblock → Staged
+toStaged old (given m r) = record { answer = S.Read (kindsOf m) r; modes = m .modes }
+toStaged old missing = record { answer = S.Missing; modes = old }
+
+-- ---- the calls: refused where the reader, the header's length or a mode beside the macroblock is out of range
+abbrev pub eachBelow : ℕ → List ℕ → Bool
+eachBelow m l = allOf (λ x. ltb x m) l
+
+abbrev pub contextsOf : List ℕ → List ℕ → Bool
+contextsOf above left = eachBelow 10 above && eachBelow 10 left
+
+unfoldable pub prefixAnswer : List ℕ → Reader → List ℤ → Headed
+prefixAnswer s r h = elim (eqb (length h) 1096 && validOf s r) [ true ↦ toHeaded (run (prefix h) s r) | false ↦ H.Refused ]
+
+unfoldable pub mainAnswer : List ℕ → Reader → Bool → Mode
+mainAnswer s r chroma = elim (validOf s r) [ true ↦ toMode (run (largeMode chroma) s r) | false ↦ M.Refused ]
+
+unfoldable pub blockAnswer : List ℕ → Reader → ℕ → ℕ → Mode
+blockAnswer s r above left =
+    elim (validOf s r && (ltb above 10 && ltb left 10)) [ true ↦ toMode (run (blockMode above left) s r) | false ↦ M.Refused ]
+
+unfoldable pub smallAnswer : List ℕ → Reader → List ℕ → List ℕ → List ℕ → Sixteen
+smallAnswer s r above left old =
+    elim (validOf s r && contextsOf above left) [
+      | true ↦ toSixteen old (run (smallModes above left) s r)
+      | false ↦ record { answer = N.Refused; modes = old }
+    ]
+
+unfoldable pub modesAnswer : List ℕ → List ℤ → Reader → List ℕ → List ℕ → List ℕ → Staged
+modesAnswer s h r above left old =
+    elim (eqb (length h) 1096 && (validOf s r && contextsOf above left)) [
+      | true ↦ toStaged old (run (modesOf h above left) s r)
+      | false ↦ record { answer = S.Refused; modes = old }
+    ]
+
+-- ---- the answers as numbers and values: 6 where a byte is missing, 9 where an argument is out of range; then zeros
+abbrev pub modeNumberOf : Mode → ℕ
+modeNumberOf (M.Read v r) = 0
+modeNumberOf M.Missing = 6
+modeNumberOf M.Refused = 9
+
+abbrev pub modeValuesOf : Mode → ℕ × Reader
+modeValuesOf (M.Read v r) = (v, r)
+modeValuesOf M.Missing = (0, noReader)
+modeValuesOf M.Refused = (0, noReader)
+
+abbrev pub noPrefix : Prefix
+noPrefix = record { segment = 0; skip = false; small = false }
+
+abbrev pub headedNumberOf : Headed → ℕ
+headedNumberOf (H.Read p r) = 0
+headedNumberOf H.Missing = 6
+headedNumberOf H.Refused = 9
+
+abbrev pub headedValuesOf : Headed → Prefix × Reader
+headedValuesOf (H.Read p r) = (p, r)
+headedValuesOf H.Missing = (noPrefix, noReader)
+headedValuesOf H.Refused = (noPrefix, noReader)
+
+abbrev pub nextNumberOf : Next → ℕ
+nextNumberOf (N.At r) = 0
+nextNumberOf N.Missing = 6
+nextNumberOf N.Refused = 9
+
+abbrev pub nextValuesOf : Next → Reader
+nextValuesOf (N.At r) = r
+nextValuesOf N.Missing = noReader
+nextValuesOf N.Refused = noReader
+
+abbrev pub noKinds : Kinds
+noKinds = record { segment = 0; skip = false; small = false; chroma = 0 }
+
+abbrev pub stageNumberOf : Stage → ℕ
+stageNumberOf (S.Read k r) = 0
+stageNumberOf S.Missing = 6
+stageNumberOf S.Refused = 9
+
+abbrev pub stageValuesOf : Stage → Kinds × Reader
+stageValuesOf (S.Read k r) = (k, r)
+stageValuesOf S.Missing = (noKinds, noReader)
+stageValuesOf S.Refused = (noKinds, noReader)

@@ -1,0 +1,206 @@
+-- The laws of the calls' answers: what a refusal is, that good arguments give the grammar's run, and what an answer says of it.
+use Prim.Native.Nat.{ℕ, _≤_, _<_}
+use mathlib.Core.Path.{_≡_, refl, sym, _∙_, ap}
+use mathlib.Core.List.{List}
+use mathlib.Core.Bool.{Bool, true, false, _&&_}
+use lib.ListN.{length}
+use lib.IntN.{ℤ}
+use lib.Dec.{ltb, eqb}
+use borrow.Author.Tests.{lt-ltb, le-ltb, eq-eqb, ne-eqb}
+use Rattle.numbers.specs.Tests.{both-true, both-false}
+use Rattle.reader.specs.declared.boolean.Reader.{Reader}
+use Rattle.reader.specs.declared.boolean.Symbol.{Symbol}
+use Rattle.reader.specs.Boolean.{Given, given, missing, validOf, toSymbol, symbolOf, symbolAnswer}
+use Rattle.reader.specs.BooleanLaws.{Bytes, Valid, valid-test, symbol-good}
+use Rattle.reader.specs.Reading.{symbol, run}
+use Rattle.reader.specs.ReadingLaws.{fromSymbol, answered, Ended, run-valid}
+use Rattle.modes.specs.declared.answers.Prefix.{Prefix}
+use Rattle.modes.specs.declared.answers.Kinds.{Kinds}
+use Rattle.modes.specs.declared.answers.Mode.{Mode}
+use Rattle.modes.specs.declared.answers.Headed.{Headed}
+use Rattle.modes.specs.declared.answers.Next.{Next}
+use Rattle.modes.specs.declared.answers.Stage.{Stage}
+use Rattle.modes.specs.declared.answers.Sixteen.{Sixteen}
+use Rattle.modes.specs.declared.answers.Staged.{Staged}
+use Rattle.modes.specs.Modes.{prefix, largeMode, blockMode, smallModes, Macroblock, modesOf}
+use Rattle.modes.specs.ModesLaws.{InRange, modes-within}
+use Rattle.modes.specs.Answers.{toMode, toHeaded, toSixteen, macroblockOf, toStaged, contextsOf, prefixAnswer, mainAnswer, blockAnswer, smallAnswer, modesAnswer}
+use Rattle.modes.specs.declared.answers.Mode.the-variants as M
+use Rattle.modes.specs.declared.answers.Headed.the-variants as H
+use Rattle.modes.specs.declared.answers.Next.the-variants as N
+use Rattle.modes.specs.declared.answers.Stage.the-variants as S
+
+-- ---- what an answer says of the grammar. A refusal cannot happen from good arguments, so it may be sent anywhere: callers then
+-- treat every answer but the one they take apart alike.
+abbrev pub fromMode : Mode → Given ℕ
+fromMode (M.Read v r) = given v r
+fromMode M.Missing = missing
+fromMode M.Refused = missing
+
+abbrev pub fromHeaded : Headed → Given Prefix
+fromHeaded (H.Read p r) = given p r
+fromHeaded H.Missing = missing
+fromHeaded H.Refused = missing
+
+abbrev pub nextGiven : Next → List ℕ → Given (List ℕ)
+nextGiven (N.At r) l = given l r
+nextGiven N.Missing l = missing
+nextGiven N.Refused l = missing
+
+abbrev pub fromSixteen : Sixteen → Given (List ℕ)
+fromSixteen x = nextGiven (x .answer) (x .modes)
+
+abbrev pub stageGiven : Stage → List ℕ → Given Macroblock
+stageGiven (S.Read k r) l = given (macroblockOf k l) r
+stageGiven S.Missing l = missing
+stageGiven S.Refused l = missing
+
+abbrev pub fromStaged : Staged → Given Macroblock
+fromStaged x = stageGiven (x .answer) (x .modes)
+
+pub moded : (g : Given ℕ) {x : Mode} → x ≡ toMode g → g ≡ fromMode x
+moded (given v r) e = ap fromMode (sym e)
+moded missing e = ap fromMode (sym e)
+
+pub headed : (g : Given Prefix) {x : Headed} → x ≡ toHeaded g → g ≡ fromHeaded x
+headed (given p r) e = ap fromHeaded (sym e)
+headed missing e = ap fromHeaded (sym e)
+
+pub sixteened : (old : List ℕ) (g : Given (List ℕ)) {x : Sixteen} → x ≡ toSixteen old g → g ≡ fromSixteen x
+sixteened old (given l r) e = ap fromSixteen (sym e)
+sixteened old missing e = ap fromSixteen (sym e)
+
+pub staged : (old : List ℕ) (g : Given Macroblock) {x : Staged} → x ≡ toStaged old g → g ≡ fromStaged x
+staged old (given m r) e = ap fromStaged (sym e)
+staged old missing e = ap fromStaged (sym e)
+
+pub signed : (g : Given Bool) {x : Symbol} → x ≡ toSymbol g → g ≡ fromSymbol x
+signed (given b r) e = ap fromSymbol (sym e)
+signed missing e = ap fromSymbol (sym e)
+
+-- `symbol` of a reader in range, as a run
+pub symbol-is : (s : List ℕ) (r : Reader) (p : ℕ) → Valid s r → symbolAnswer s r p ≡ toSymbol (run (symbol p) s r)
+symbol-is s r p v = symbol-good s r p v ∙ go (symbolOf s r p) (answered s r p refl)
+  where
+    go : (x : Given Bool) → run (symbol p) s r ≡ fromSymbol (toSymbol x) → toSymbol x ≡ toSymbol (run (symbol p) s r)
+    go (given b q) e = ap toSymbol (sym e)
+    go missing e = ap toSymbol (sym e)
+
+-- ---- `prefix`
+module _ (s : List ℕ) (r : Reader) (h : List ℤ) where
+  pub prefix-good : Valid s r → length h ≡ 1096 → prefixAnswer s r h ≡ toHeaded (run (prefix h) s r)
+  unfolding prefixAnswer
+  prefix-good v e = rw (both-true (eq-eqb (length h) 1096 e) (valid-test s r v), prefixAnswer)
+
+  refused : eqb (length h) 1096 && validOf s r ≡ false → H.Refused ≡ prefixAnswer s r h
+  unfolding prefixAnswer
+  refused e = rw (e, prefixAnswer)
+
+  pub prefix-length : (length h ≡ 1096 → ⊥) → H.Refused ≡ prefixAnswer s r h
+  prefix-length e = refused (rw (ne-eqb (length h) 1096 e))
+
+  pub prefix-reader : validOf s r ≡ false → H.Refused ≡ prefixAnswer s r h
+  prefix-reader e = refused (both-false (eqb (length h) 1096) e)
+
+  -- THE LAW for callers of `prefix`
+  pub prefixed : Valid s r → length h ≡ 1096 → {x : Headed} → x ≡ prefixAnswer s r h → run (prefix h) s r ≡ fromHeaded x
+  prefixed v e f = headed (run (prefix h) s r) (f ∙ prefix-good v e)
+
+-- ---- `main_mode`
+module _ (s : List ℕ) (r : Reader) (chroma : Bool) where
+  pub main-good : Valid s r → mainAnswer s r chroma ≡ toMode (run (largeMode chroma) s r)
+  unfolding mainAnswer
+  main-good v = rw (valid-test s r v, mainAnswer)
+
+  pub main-reader : validOf s r ≡ false → M.Refused ≡ mainAnswer s r chroma
+  unfolding mainAnswer
+  main-reader e = rw (e, mainAnswer)
+
+  -- THE LAW for callers of `main_mode`
+  pub mained : Valid s r → {x : Mode} → x ≡ mainAnswer s r chroma → run (largeMode chroma) s r ≡ fromMode x
+  mained v f = moded (run (largeMode chroma) s r) (f ∙ main-good v)
+
+-- ---- `block_mode`
+module _ (s : List ℕ) (r : Reader) (above left : ℕ) where
+  pub block-good : Valid s r → above < 10 → left < 10 → blockAnswer s r above left ≡ toMode (run (blockMode above left) s r)
+  unfolding blockAnswer
+  block-good v a l = rw (both-true (valid-test s r v) (both-true (lt-ltb above 10 a) (lt-ltb left 10 l)), blockAnswer)
+
+  refused-block : validOf s r && (ltb above 10 && ltb left 10) ≡ false → M.Refused ≡ blockAnswer s r above left
+  unfolding blockAnswer
+  refused-block e = rw (e, blockAnswer)
+
+  pub block-reader : validOf s r ≡ false → M.Refused ≡ blockAnswer s r above left
+  block-reader e = refused-block (rw e)
+
+  pub block-above : 10 ≤ above → M.Refused ≡ blockAnswer s r above left
+  block-above h = refused-block (both-false (validOf s r) (rw (le-ltb above 10 h)))
+
+  pub block-left : 10 ≤ left → M.Refused ≡ blockAnswer s r above left
+  block-left h = refused-block (both-false (validOf s r) (both-false (ltb above 10) (le-ltb left 10 h)))
+
+  -- THE LAW for callers of `block_mode`
+  pub blocked : Valid s r → above < 10 → left < 10 → {x : Mode} → x ≡ blockAnswer s r above left → run (blockMode above left) s r ≡ fromMode x
+  blocked v a l f = moded (run (blockMode above left) s r) (f ∙ block-good v a l)
+
+-- ---- `small_modes`
+module _ (s : List ℕ) (r : Reader) (above left old : List ℕ) where
+  pub small-good : Valid s r → contextsOf above left ≡ true → smallAnswer s r above left old ≡ toSixteen old (run (smallModes above left) s r)
+  unfolding smallAnswer
+  small-good v e = rw (both-true (valid-test s r v) e, smallAnswer)
+
+  refused-small : validOf s r && contextsOf above left ≡ false → record { answer = N.Refused; modes = old } ≡ smallAnswer s r above left old
+  unfolding smallAnswer
+  refused-small e = rw (e, smallAnswer)
+
+  pub small-reader : validOf s r ≡ false → record { answer = N.Refused; modes = old } ≡ smallAnswer s r above left old
+  small-reader e = refused-small (rw e)
+
+  pub small-contexts : contextsOf above left ≡ false → record { answer = N.Refused; modes = old } ≡ smallAnswer s r above left old
+  small-contexts e = refused-small (both-false (validOf s r) e)
+
+  -- THE LAW for callers of `small_modes`
+  pub smalled : Valid s r → contextsOf above left ≡ true → {x : Sixteen} → x ≡ smallAnswer s r above left old → run (smallModes above left) s r ≡ fromSixteen x
+  smalled v e f = sixteened old (run (smallModes above left) s r) (f ∙ small-good v e)
+
+-- ---- `read_modes`
+module _ (s : List ℕ) (h : List ℤ) (r : Reader) (above left old : List ℕ) where
+  pub modes-good : length h ≡ 1096 → Valid s r → contextsOf above left ≡ true → modesAnswer s h r above left old ≡ toStaged old (run (modesOf h above left) s r)
+  unfolding modesAnswer
+  modes-good n v e = rw (both-true (eq-eqb (length h) 1096 n) (both-true (valid-test s r v) e), modesAnswer)
+
+  refused-modes : eqb (length h) 1096 && (validOf s r && contextsOf above left) ≡ false → record { answer = S.Refused; modes = old } ≡ modesAnswer s h r above left old
+  unfolding modesAnswer
+  refused-modes e = rw (e, modesAnswer)
+
+  pub modes-length : (length h ≡ 1096 → ⊥) → record { answer = S.Refused; modes = old } ≡ modesAnswer s h r above left old
+  modes-length e = refused-modes (rw (ne-eqb (length h) 1096 e))
+
+  pub modes-reader : validOf s r ≡ false → record { answer = S.Refused; modes = old } ≡ modesAnswer s h r above left old
+  modes-reader e = refused-modes (both-false (eqb (length h) 1096) (rw e))
+
+  pub modes-contexts : contextsOf above left ≡ false → record { answer = S.Refused; modes = old } ≡ modesAnswer s h r above left old
+  modes-contexts e = refused-modes (both-false (eqb (length h) 1096) (both-false (validOf s r) e))
+
+  -- THE LAW for callers of `read_modes`
+  pub read : length h ≡ 1096 → Valid s r → contextsOf above left ≡ true → {x : Staged} → x ≡ modesAnswer s h r above left old → run (modesOf h above left) s r ≡ fromStaged x
+  read n v e f = staged old (run (modesOf h above left) s r) (f ∙ modes-good n v e)
+
+  -- and where it has read them: every value is in range, and so is the reader, no earlier in s
+  pub read-ended : length h ≡ 1096 → Valid s r → contextsOf above left ≡ true → Bytes s → {x : Staged} → x ≡ modesAnswer s h r above left old → {k : Kinds} {q : Reader} → x .answer ≡ S.Read k q → Ended InRange s r (macroblockOf k (x .modes)) q
+  read-ended n v e y {x} f g = run-valid (modes-within h above left) y v (read n v e f ∙ ap (λ (a : Stage). stageGiven a (x .modes)) g)
+
+-- ---- from the inner functions' answers, which hold zeros where a byte is missing, to the calls', which keep what was lent
+module _ (g : Given (List ℕ)) (zeros old : List ℕ) {x : Sixteen} (e : x ≡ toSixteen zeros g) where
+  pub sixteen-read : {q : Reader} → x .answer ≡ N.At q → record { answer = N.At q; modes = x .modes } ≡ toSixteen old g
+  sixteen-read {q} f = sym (ap (toSixteen old) (sixteened zeros g e ∙ ap (λ (a : Next). nextGiven a (x .modes)) f))
+
+  pub sixteen-missing : nextGiven (x .answer) (x .modes) ≡ missing → record { answer = N.Missing; modes = old } ≡ toSixteen old g
+  sixteen-missing f = sym (ap (toSixteen old) (sixteened zeros g e ∙ f))
+
+module _ (g : Given Macroblock) (zeros old : List ℕ) {x : Staged} (e : x ≡ toStaged zeros g) where
+  pub staged-read : {k : Kinds} {q : Reader} → x .answer ≡ S.Read k q → record { answer = S.Read k q; modes = x .modes } ≡ toStaged old g
+  staged-read {k} {q} f = sym (ap (toStaged old) (staged zeros g e ∙ ap (λ (a : Stage). stageGiven a (x .modes)) f))
+
+  pub staged-missing : stageGiven (x .answer) (x .modes) ≡ missing → record { answer = S.Missing; modes = old } ≡ toStaged old g
+  staged-missing f = sym (ap (toStaged old) (staged zeros g e ∙ f))

@@ -1,0 +1,8 @@
+pub mod Table
+pub mod TableLaws
+pub mod Modes
+pub mod ModesLaws
+pub mod Answers
+pub mod AnswersLaws
+pub mod Records
+pub mod RecordsLaws

@@ -1,0 +1,124 @@
+-- The modes of a macroblock as grammars, in the order of RFC 6386, section 19.3. Large modes are 0 DC, 1 TM, 2 V, 3 H; small modes
+-- 0 DC, 1 TM, 2 VE, 3 HE, 4 RD, 5 VR, 6 LD, 7 VL, 8 HD, 9 HU. So a large mode is also the small mode that its neighbours see.
+use Prim.Native.Nat.{ℕ, zero, suc, _+_, _-_, _/_, _%_}
+use mathlib.Core.List.{List, [], _∷_}
+use mathlib.Core.Bool.{Bool, true, false, not}
+use lib.ListN.{getD, set, replicate}
+use lib.IntN.{ℤ, pos, negsuc}
+use lib.Dec.{ltb, eqb}
+use Rattle.reader.specs.Reading.{Reading, done, _>>=_, symbol}
+use Rattle.reader.specs.Header.{entry, presentOf, probabilityOf}
+use Rattle.reader.specs.Trees.{walk}
+use Rattle.modes.specs.declared.answers.Prefix.{Prefix}
+use Rattle.modes.specs.Table.{probabilities}
+
+-- ---- the trees: node i is entries 2i and 2i + 1, positive a node, zero or less a mode
+-- mb_segment_tree (section 10)
+abbrev pub segTree : List ℤ
+segTree = pos 1 ∷ pos 2 ∷ pos 0 ∷ negsuc 0 ∷ negsuc 1 ∷ negsuc 2 ∷ []
+
+-- kf_ymode_tree below its root, which asks whether the modes are small (section 11.2): DC or V, H or TM
+abbrev pub yTree : List ℤ
+yTree = pos 1 ∷ pos 2 ∷ pos 0 ∷ negsuc 1 ∷ negsuc 2 ∷ negsuc 0 ∷ []
+
+-- uv_mode_tree (section 11.4): DC, V, H or TM
+abbrev pub uvTree : List ℤ
+uvTree = pos 0 ∷ pos 1 ∷ negsuc 1 ∷ pos 2 ∷ negsuc 2 ∷ negsuc 0 ∷ []
+
+-- bmode_tree (section 11.2): DC, TM, VE; then HE, RD, VR or LD, VL, HD, HU
+abbrev pub bTree : List ℤ
+bTree =
+    pos 0 ∷ pos 1 ∷ negsuc 0 ∷ pos 2 ∷ negsuc 1 ∷ pos 3 ∷ pos 4 ∷ pos 6 ∷ negsuc 2 ∷ pos 5 ∷ negsuc 3 ∷ negsuc 4 ∷ negsuc 5 ∷ pos 7
+    ∷ negsuc 6 ∷ pos 8 ∷ negsuc 7 ∷ negsuc 8 ∷ []
+
+-- a tree read from its root, with a probability for each node
+abbrev pub tree : List ℕ → List ℤ → Reading ℕ
+tree ps t = walk 32 ps t 0
+
+-- ---- entries of the header
+abbrev pub present : List ℤ → ℕ → Bool
+present h i = presentOf (entry h i)
+
+abbrev pub probability : List ℤ → ℕ → ℕ
+probability h i = probabilityOf (entry h i)
+
+-- what is read only where it is present; else a value that stands for it
+abbrev pub optional : {A : Type 0} → Bool → A → Reading A → Reading A
+optional true a m = m
+optional false a m = done a
+
+-- ---- before the modes
+-- segment_id: read where the frame has a map
+unfoldable pub segment : List ℤ → Reading ℕ
+segment h = optional (present h 3) 0 (tree (probability h 14 ∷ probability h 15 ∷ probability h 16 ∷ []) segTree)
+
+-- mb_skip_coeff: read where the frame has the flag
+unfoldable pub skip : List ℤ → Reading Bool
+skip h = optional (present h 1094) false (symbol (probability h 1095))
+
+-- kf_ymode_tree's root: 0 where the modes are small (B_PRED)
+unfoldable pub prefix : List ℤ → Reading Prefix
+prefix h = do
+  segment ← segment h
+  skip ← skip h
+  large ← symbol 145
+  done (record { segment = segment; skip = skip; small = not large })
+
+-- ---- the modes
+-- the luma mode of a macroblock that is not small, kf_ymode_prob; or its chroma mode, kf_uv_mode_prob
+abbrev pub largeMode : Bool → Reading ℕ
+largeMode false = tree (156 ∷ 163 ∷ 128 ∷ []) yTree
+largeMode true = tree (142 ∷ 114 ∷ 183 ∷ []) uvTree
+
+-- a small mode, by the modes above it and left of it (sub_mb_mode)
+abbrev pub blockMode : ℕ → ℕ → Reading ℕ
+blockMode above left = tree (probabilities above left) bTree
+
+-- the mode above small block i, and the mode left of it; `modes` are those read so far, in rows of four
+unfoldable pub aboveOf : List ℕ → List ℕ → ℕ → ℕ
+aboveOf above modes i = elim (ltb i 4) [ true ↦ getD above i 0 | false ↦ getD modes (i - 4) 0 ]
+
+unfoldable pub leftOf : List ℕ → List ℕ → ℕ → ℕ
+leftOf left modes i = elim (eqb (i % 4) 0) [ true ↦ getD left (i / 4) 0 | false ↦ getD modes (i - 1) 0 ]
+
+-- n more small modes, from block i on
+unfoldable pub smallFrom : ℕ → ℕ → List ℕ → List ℕ → List ℕ → Reading (List ℕ)
+smallFrom zero i above left modes = done modes
+smallFrom (suc n) i above left modes = do
+  m ← blockMode (aboveOf above modes i) (leftOf left modes i)
+  smallFrom n (i + 1) above left (set modes i m)
+
+abbrev pub zeros : List ℕ
+zeros = replicate 16 0
+
+unfoldable pub smallModes : List ℕ → List ℕ → Reading (List ℕ)
+smallModes above left = smallFrom 16 0 above left zeros
+
+-- the sixteen luma modes: small ones, or a large one for all
+abbrev pub luma : Bool → List ℕ → List ℕ → Reading (List ℕ)
+luma true above left = smallModes above left
+luma false above left = do
+  m ← largeMode false
+  done (replicate 16 m)
+
+-- all that is read of a macroblock in the first partition
+pub record Macroblock : Type 0 where
+  pub segment : ℕ
+  pub skip : Bool
+  pub small : Bool
+  pub modes : List ℕ
+  pub chroma : ℕ
+
+unfoldable pub modesOf : List ℤ → List ℕ → List ℕ → Reading Macroblock
+modesOf h above left = do
+  p ← prefix h
+  modes ← luma (p .small) above left
+  chroma ← largeMode true
+  done (record { segment = p .segment; skip = p .skip; small = p .small; modes = modes; chroma = chroma })
+
+-- ---- what a macroblock leaves to its neighbours: its last row to the one below, its last column to the one at its right
+abbrev pub bottomOf : List ℕ → List ℕ
+bottomOf modes = getD modes 12 0 ∷ getD modes 13 0 ∷ getD modes 14 0 ∷ getD modes 15 0 ∷ []
+
+abbrev pub rightOf : List ℕ → List ℕ
+rightOf modes = getD modes 3 0 ∷ getD modes 7 0 ∷ getD modes 11 0 ∷ getD modes 15 0 ∷ []

@@ -1,0 +1,302 @@
+-- The laws of the modes' grammars: what code and callers cite.
+use Prim.Native.Nat.{ℕ, zero, suc, _+_, _-_, _*_, _/_, _%_, _≤_, _<_}
+use mathlib.Core.Path.{_≡_, refl, sym, _∙_, ap}
+use mathlib.Core.Logic.{⊎-elim}
+use mathlib.Core.List.{List, [], _∷_}
+use mathlib.Core.Bool.{Bool, true, false, not}
+use native.Mathlib.Omega.{arith}
+use native.Mathlib.Nat.{mod-lt}
+use lib.ListN.{length, getD, set, length-set, replicate}
+use lib.Seq.{ext-getD, getD-set-same, getD-set-other}
+use lib.IntN.{ℤ, pos, negsuc}
+use lib.Dec.{ltb, lit<}
+use borrow.Author.Tests.{ltb-true, lt-ltb, le-ltb, eq-eqb, ne-eqb}
+use Rattle.numbers.specs.Tests.{lt-or, eq-or, never, both-left, both-right, both-true}
+use Rattle.numbers.specs.Lists.{set-keeps}
+use Rattle.numbers.specs.Tables.{allAt, all-of, all-of-any}
+use Rattle.reader.specs.declared.boolean.Reader.{Reader}
+use Rattle.reader.specs.Boolean.{given, missing}
+use Rattle.reader.specs.BooleanLaws.{Bytes}
+use Rattle.reader.specs.Reading.{Reading, done, _>>=_, symbol, run, Within, ends, depth}
+use Rattle.reader.specs.ReadingLaws.{run-done, run-then, run-stops, within-bind, within-more, within-weaken, within-symbol, within-depth}
+use Rattle.reader.specs.Header.{probabilityOf}
+use Rattle.reader.specs.TreesLaws.{reachOf, reach-within}
+use Rattle.modes.specs.declared.answers.Prefix.{Prefix}
+use Rattle.modes.specs.Table.{probabilities}
+use Rattle.modes.specs.TableLaws.{probabilities-bytes}
+use Rattle.modes.specs.Modes.{segTree, yTree, uvTree, bTree, tree, present, probability, optional, segment, skip, prefix, largeMode, blockMode, aboveOf, leftOf, smallFrom, zeros, smallModes, luma, Macroblock, modesOf, bottomOf, rightOf}
+use Rattle.modes.specs.Answers.{eachBelow, contextsOf}
+
+-- every one a mode; past the end `getD` gives 0, so no index has to be within the list
+abbrev pub Modes : List ℕ → Type 0
+Modes l = (j : ℕ) → getD l j 0 < 10
+
+pub each-fact : (m : ℕ) (l : List ℕ) → 0 < m → eachBelow m l ≡ true → (j : ℕ) → getD l j 0 < m
+each-fact m l h e j = ltb-true (getD l j 0) m (all-of-any (λ x. ltb x m) l 0 (lt-ltb 0 m h) e j)
+
+-- the same of places within the list, and back
+pub each-at : (m : ℕ) (l : List ℕ) → eachBelow m l ≡ true → (j : ℕ) → j < length l → getD l j 0 < m
+each-at m l e j h = ltb-true (getD l j 0) m (all-of (λ x. ltb x m) l 0 e j h)
+
+all-from : (m i : ℕ) (l : List ℕ) → ((j : ℕ) → j < length l → getD l j 0 < m) → allAt (λ i x. ltb x m) i l ≡ true
+all-from m i [] h = refl
+all-from m i (x ∷ xs) h = both-true (lt-ltb x m (h 0 (omega arith))) (all-from m (suc i) xs (λ j k. h (suc j) (omega arith)))
+
+pub each-all : (m : ℕ) (l : List ℕ) → ((j : ℕ) → j < length l → getD l j 0 < m) → eachBelow m l ≡ true
+each-all m l h = all-from m 0 l h
+
+-- what a context's test says, and what shows it
+pub modes-fact : (l : List ℕ) → eachBelow 10 l ≡ true → Modes l
+modes-fact l e = each-fact 10 l (lit< tt) e
+
+pub modes-test : (l : List ℕ) → Modes l → eachBelow 10 l ≡ true
+modes-test l m = each-all 10 l (λ j h. m j)
+
+pub above-fact : (above left : List ℕ) → contextsOf above left ≡ true → Modes above
+above-fact above left e = modes-fact above (both-left _ _ e)
+
+pub left-fact : (above left : List ℕ) → contextsOf above left ≡ true → Modes left
+left-fact above left e = modes-fact left (both-right (eachBelow 10 above) _ e)
+
+-- ---- entries of the header
+pub probability-byte : (z : ℤ) → probabilityOf z < 256
+probability-byte (pos n) = mod-lt n (lit< tt)
+probability-byte (negsuc n) = omega arith
+
+-- the entry and its probability differ by a multiple of 256
+pub probability-pos : (n : ℕ) → n ≡ probabilityOf (pos n) + 256 * (n / 256)
+probability-pos n = omega arith
+
+pub probability-neg : (n : ℕ) → probabilityOf (negsuc n) + suc n ≡ 256 * (n / 256 + 1)
+probability-neg n = omega arith
+
+-- ---- trees: all may be walked with enough probabilities, and every path ends in time at a mode
+-- every leaf fits a byte
+unfoldable pub byteLeaves : List ℤ → Bool
+byteLeaves t = reachOf 32 (λ v. ltb v 256) t 0
+
+pub leaves-within : (ps : List ℕ) (t : List ℤ) → Bytes ps → byteLeaves t ≡ true → Within (λ v. v < 256) 32 (tree ps t)
+unfolding byteLeaves
+leaves-within ps t y e = within-weaken (λ v. ltb-true v 256) (reach-within 32 32 (λ v. ltb v 256) ps t 0 (omega arith) y e)
+
+-- every path of a constant tree ends within d symbols at a number below m
+short : (d m : ℕ) (ps : List ℕ) (t : List ℤ) → d ≤ 32 → Bytes ps → reachOf d (λ v. ltb v m) t 0 ≡ true → Within (λ v. v < m) d (tree ps t)
+short d m ps t l y e = within-weaken (λ v. ltb-true v m) (reach-within d 32 (λ v. ltb v m) ps t 0 l y e)
+
+list-bytes : (ps : List ℕ) → eachBelow 256 ps ≡ true → Bytes ps
+list-bytes ps e = each-fact 256 ps (lit< tt) e
+
+probabilities-byte : (a b c : ℤ) → Bytes (probabilityOf a ∷ probabilityOf b ∷ probabilityOf c ∷ [])
+probabilities-byte a b c zero = probability-byte a
+probabilities-byte a b c (suc zero) = probability-byte b
+probabilities-byte a b c (suc (suc zero)) = probability-byte c
+probabilities-byte a b c (suc (suc (suc j))) = lit< tt
+
+-- ---- before the modes
+optional-within : {A : Type 0} {P : A → Type 0} {n : ℕ} (b : Bool) (a : A) {m : Reading A} → P a → Within P n m → Within P n (optional b a m)
+optional-within true a h w = w
+optional-within false a h w = ends h
+
+pub segment-within : (h : List ℤ) → Within (λ v. v < 4) 2 (segment h)
+unfolding segment reachOf
+segment-within h = optional-within (present h 3) 0 (lit< tt) (short 2 4 _ segTree (omega arith) (probabilities-byte (getD h 14 (pos 0)) (getD h 15 (pos 0)) (getD h 16 (pos 0))) refl)
+
+pub skip-within : (h : List ℤ) → Within (λ (b : Bool). Unit {0}) 1 (skip h)
+unfolding skip
+skip-within h = optional-within (present h 1094) false tt (within-symbol (probability-byte (getD h 1095 (pos 0))))
+
+pub prefix-within : (h : List ℤ) → Within (λ (p : Prefix). p .segment < 4) 4 (prefix h)
+unfolding prefix
+prefix-within h =
+    within-bind {k = 2} (segment-within h) (λ v l.
+    within-bind {k = 1} (skip-within h) (λ b t.
+    within-bind {k = 0} (within-symbol (lit< tt)) (λ d t. ends l)))
+
+module _ (s : List ℕ) (r : Reader) (h : List ℤ) where
+  pub segment-none : present h 3 ≡ false → run (segment h) s r ≡ given 0 r
+  unfolding segment
+  segment-none e = rw e (run-done 0 s r)
+
+  pub segment-some : present h 3 ≡ true → run (tree (probability h 14 ∷ probability h 15 ∷ probability h 16 ∷ []) segTree) s r ≡ run (segment h) s r
+  unfolding segment
+  segment-some e = rw e
+
+  pub skip-none : present h 1094 ≡ false → run (skip h) s r ≡ given false r
+  unfolding skip
+  skip-none e = rw e (run-done false s r)
+
+  pub skip-some : present h 1094 ≡ true → run (symbol (probability h 1095)) s r ≡ run (skip h) s r
+  unfolding skip
+  skip-some e = rw e
+
+  pub prefix-1 : run (segment h) s r ≡ missing → run (prefix h) s r ≡ missing
+  unfolding prefix
+  prefix-1 e = run-stops _ s (segment h) r e
+
+  pub prefix-2 : {v : ℕ} {t : Reader} → run (segment h) s r ≡ given v t → run (skip h) s t ≡ missing → run (prefix h) s r ≡ missing
+  unfolding prefix
+  prefix-2 {t} e f = run-then _ s (segment h) r e ∙ run-stops _ s (skip h) t f
+
+  pub prefix-3 : {v : ℕ} {b : Bool} {t u : Reader} → run (segment h) s r ≡ given v t → run (skip h) s t ≡ given b u → run (symbol 145) s u ≡ missing → run (prefix h) s r ≡ missing
+  unfolding prefix
+  prefix-3 {t} {u} e f g = run-then _ s (segment h) r e ∙ run-then _ s (skip h) t f ∙ run-stops _ s (symbol 145) u g
+
+  pub prefix-4 : {v : ℕ} {b d : Bool} {t u q : Reader} → run (segment h) s r ≡ given v t → run (skip h) s t ≡ given b u → run (symbol 145) s u ≡ given d q → run (prefix h) s r ≡ given (record { segment = v; skip = b; small = not d }) q
+  unfolding prefix
+  prefix-4 {t} {u} {q} e f g = run-then _ s (segment h) r e ∙ run-then _ s (skip h) t f ∙ run-then _ s (symbol 145) u g ∙ run-done _ s q
+
+-- ---- large and small modes
+pub large-within : (chroma : Bool) → Within (λ v. v < 4) 3 (largeMode chroma)
+unfolding reachOf
+large-within true = short 3 4 (142 ∷ 114 ∷ 183 ∷ []) uvTree (omega arith) (list-bytes (142 ∷ 114 ∷ 183 ∷ []) refl) refl
+large-within false = within-more {n = 2} (omega arith) (short 2 4 (156 ∷ 163 ∷ 128 ∷ []) yTree (omega arith) (list-bytes (156 ∷ 163 ∷ 128 ∷ []) refl) refl)
+
+pub block-within : (above left : ℕ) → Within (λ v. v < 10) 7 (blockMode above left)
+unfolding reachOf
+block-within above left = short 7 10 (probabilities above left) bTree (omega arith) (probabilities-bytes above left) refl
+
+-- the mode above a small block, and the mode left of it
+module _ (l modes : List ℕ) (i : ℕ) where
+  pub above-first : i < 4 → getD l i 0 ≡ aboveOf l modes i
+  unfolding aboveOf
+  above-first h = rw (lt-ltb i 4 h, aboveOf)
+
+  pub above-later : 4 ≤ i → getD modes (i - 4) 0 ≡ aboveOf l modes i
+  unfolding aboveOf
+  above-later h = rw (le-ltb i 4 h, aboveOf)
+
+  pub left-first : i % 4 ≡ 0 → getD l (i / 4) 0 ≡ leftOf l modes i
+  unfolding leftOf
+  left-first h = rw (eq-eqb (i % 4) 0 h, leftOf)
+
+  pub left-later : (i % 4 ≡ 0 → ⊥) → getD modes (i - 1) 0 ≡ leftOf l modes i
+  unfolding leftOf
+  left-later h = rw (ne-eqb (i % 4) 0 h, leftOf)
+
+  pub above-mode : Modes l → Modes modes → aboveOf l modes i < 10
+  above-mode t m = ⊎-elim (λ h. rw (above-first h) at (t i)) (λ h. rw (above-later h) at (m (i - 4))) (lt-or i 4)
+
+  pub left-mode : Modes l → Modes modes → leftOf l modes i < 10
+  left-mode t m = ⊎-elim (λ h. rw (left-first h) at (t (i / 4))) (λ h. rw (left-later h) at (m (i - 1))) (eq-or (i % 4) 0)
+
+pub set-modes : (l : List ℕ) (i v : ℕ) → v < 10 → Modes l → Modes (set l i v)
+set-modes l i v h m = set-keeps (λ x. x < 10) l i v 0 h m
+
+pub zeros-modes : Modes zeros
+zeros-modes = each-fact 10 zeros (lit< tt) refl
+
+module _ (n i : ℕ) (above left modes s : List ℕ) (r : Reader) where
+  pub small-next : {m : ℕ} {q : Reader} → run (blockMode (aboveOf above modes i) (leftOf left modes i)) s r ≡ given m q → run (smallFrom (suc n) i above left modes) s r ≡ run (smallFrom n (i + 1) above left (set modes i m)) s q
+  unfolding smallFrom
+  small-next e = run-then _ s (blockMode (aboveOf above modes i) (leftOf left modes i)) r e
+
+  pub small-missing : run (blockMode (aboveOf above modes i) (leftOf left modes i)) s r ≡ missing → run (smallFrom (suc n) i above left modes) s r ≡ missing
+  unfolding smallFrom
+  small-missing e = run-stops _ s (blockMode (aboveOf above modes i) (leftOf left modes i)) r e
+
+pub small-none : (i : ℕ) (above left modes s : List ℕ) (r : Reader) → run (smallFrom 0 i above left modes) s r ≡ given modes r
+unfolding smallFrom
+small-none i above left modes s r = run-done modes s r
+
+-- what the list holds from block i on does not matter: each place is set before it is read
+small-same : (n i : ℕ) (above left l l′ : List ℕ) → i + n ≡ 16 → length l ≡ 16 → length l′ ≡ 16 → ((j : ℕ) → j < i → getD l j 0 ≡ getD l′ j 0) → smallFrom n i above left l ≡ smallFrom n i above left l′
+unfolding smallFrom
+small-same zero i above left l l′ e p q h = ap done (ext-getD 0 l l′ (p ∙ sym q) (λ j k. h j (omega arith)))
+small-same (suc n) i above left l l′ e p q h =
+    λ k. blockMode (up k) (by k) >>= (λ m. small-same n (i + 1) above left (set l i m) (set l′ i m) (omega arith) (length-set l i m ∙ p) (length-set l′ i m ∙ q) (set-same m) k)
+  where
+    up : aboveOf above l i ≡ aboveOf above l′ i
+    up = ⊎-elim (λ g. sym (above-first above l i g) ∙ above-first above l′ i g) (λ g. sym (above-later above l i g) ∙ h (i - 4) (omega arith) ∙ above-later above l′ i g) (lt-or i 4)
+
+    by : leftOf left l i ≡ leftOf left l′ i
+    by = ⊎-elim (λ g. sym (left-first left l i g) ∙ left-first left l′ i g) (λ g. sym (left-later left l i g) ∙ h (i - 1) (omega arith) ∙ left-later left l′ i g) (eq-or (i % 4) 0)
+
+    set-same : (m j : ℕ) → j < i + 1 → getD (set l i m) j 0 ≡ getD (set l′ i m) j 0
+    set-same m j g = ⊎-elim
+        (λ (z : j ≡ i). rw z (getD-set-same l i m 0 (omega arith) ∙ sym (getD-set-same l′ i m 0 (omega arith))))
+        (λ z. getD-set-other l i j m 0 z ∙ h j (omega arith) ∙ sym (getD-set-other l′ i j m 0 z))
+        (eq-or j i)
+
+pub small-any : (above left l : List ℕ) → length l ≡ 16 → smallFrom 16 0 above left l ≡ smallModes above left
+unfolding smallModes
+small-any above left l e = small-same 16 0 above left l zeros refl e refl (λ j h. absurd (omega arith))
+
+-- sixteen modes; where they are not small, one large mode for all
+pub record Luma (small : Bool) (l : List ℕ) : Type 0 where
+  pub sixteen : length l ≡ 16
+  pub each : Modes l
+  pub large : small ≡ false → (l ≡ replicate 16 (getD l 0 0)) × (getD l 0 0 < 4)
+
+small-within : (n i : ℕ) (above left modes : List ℕ) → length modes ≡ 16 → Modes modes → Within (Luma true) (n * 7) (smallFrom n i above left modes)
+unfolding smallFrom
+small-within zero i above left modes e m = ends (record { sixteen = e; each = m; large = λ f. absurd (never refl f) })
+small-within (suc n) i above left modes e m =
+    within-more (omega arith) (within-bind {k = n * 7} (block-within (aboveOf above modes i) (leftOf left modes i)) (λ v h. small-within n (i + 1) above left (set modes i v) (length-set modes i v ∙ e) (set-modes modes i v h m)))
+
+pub small-modes-within : (above left : List ℕ) → Within (Luma true) 112 (smallModes above left)
+unfolding smallModes
+small-modes-within above left = small-within 16 0 above left zeros refl zeros-modes
+
+pub luma-within : (small : Bool) (above left : List ℕ) → Within (Luma small) 112 (luma small above left)
+luma-within true above left = small-modes-within above left
+luma-within false above left =
+    within-more {n = 3} (omega arith)
+    (within-bind {k = 0} (large-within false) (λ m h. ends (record { sixteen = refl; each = each-fact 10 (replicate 16 m) (lit< tt) (rw (lt-ltb m 10 (omega arith))); large = λ f. (refl, h) })))
+
+module _ (s : List ℕ) (r : Reader) (small : Bool) (above left : List ℕ) where
+  pub luma-small : small ≡ true → run (smallModes above left) s r ≡ run (luma small above left) s r
+  luma-small e = rw e
+
+  pub luma-missing : small ≡ false → run (largeMode false) s r ≡ missing → run (luma small above left) s r ≡ missing
+  luma-missing e f = rw e (run-stops _ s (largeMode false) r f)
+
+  pub luma-large : small ≡ false → {m : ℕ} {q : Reader} → run (largeMode false) s r ≡ given m q → run (luma small above left) s r ≡ given (replicate 16 m) q
+  luma-large e {m} {q} f = rw e (run-then _ s (largeMode false) r f ∙ run-done (replicate 16 m) s q)
+
+-- ---- a macroblock: every value in range, and at most 119 symbols
+pub record InRange (m : Macroblock) : Type 0 where
+  pub segment : m .segment < 4
+  pub luma : Luma (m .small) (m .modes)
+  pub chroma : m .chroma < 4
+
+pub modes-within : (h : List ℤ) (above left : List ℕ) → Within InRange 119 (modesOf h above left)
+unfolding modesOf
+modes-within h above left =
+    within-bind {k = 115} (prefix-within h) (λ p a.
+    within-bind {k = 3} (luma-within (p .small) above left) (λ l b.
+    within-bind {k = 0} (large-within true) (λ c d. ends (record { segment = a; luma = b; chroma = d }))))
+
+pub modes-depth : (h : List ℤ) (above left : List ℕ) → depth (modesOf h above left) ≤ 119
+modes-depth h above left = within-depth (modes-within h above left)
+
+module _ (s : List ℕ) (r : Reader) (h : List ℤ) (above left : List ℕ) where
+  pub modes-1 : run (prefix h) s r ≡ missing → run (modesOf h above left) s r ≡ missing
+  unfolding modesOf
+  modes-1 e = run-stops _ s (prefix h) r e
+
+  module _ {p : Prefix} {t : Reader} (e : run (prefix h) s r ≡ given p t) where
+    pub modes-2 : run (luma (p .small) above left) s t ≡ missing → run (modesOf h above left) s r ≡ missing
+    unfolding modesOf
+    modes-2 f = run-then _ s (prefix h) r e ∙ run-stops _ s (luma (p .small) above left) t f
+
+    pub modes-3 : {l : List ℕ} {u : Reader} → run (luma (p .small) above left) s t ≡ given l u → run (largeMode true) s u ≡ missing → run (modesOf h above left) s r ≡ missing
+    unfolding modesOf
+    modes-3 {u} f g = run-then _ s (prefix h) r e ∙ run-then _ s (luma (p .small) above left) t f ∙ run-stops _ s (largeMode true) u g
+
+    pub modes-4 : {l : List ℕ} {c : ℕ} {u q : Reader} → run (luma (p .small) above left) s t ≡ given l u → run (largeMode true) s u ≡ given c q → run (modesOf h above left) s r ≡ given (record { segment = p .segment; skip = p .skip; small = p .small; modes = l; chroma = c }) q
+    unfolding modesOf
+    modes-4 {u} {q} f g = run-then _ s (prefix h) r e ∙ run-then _ s (luma (p .small) above left) t f ∙ run-then _ s (largeMode true) u g ∙ run-done _ s q
+
+-- ---- what a macroblock leaves to its neighbours are modes again
+four-modes : (a b c d : ℕ) → a < 10 → b < 10 → c < 10 → d < 10 → Modes (a ∷ b ∷ c ∷ d ∷ [])
+four-modes a b c d p q r t zero = p
+four-modes a b c d p q r t (suc zero) = q
+four-modes a b c d p q r t (suc (suc zero)) = r
+four-modes a b c d p q r t (suc (suc (suc zero))) = t
+four-modes a b c d p q r t (suc (suc (suc (suc j)))) = lit< tt
+
+pub bottom-modes : (l : List ℕ) → Modes l → Modes (bottomOf l)
+bottom-modes l m = four-modes _ _ _ _ (m 12) (m 13) (m 14) (m 15)
+
+pub right-modes : (l : List ℕ) → Modes l → Modes (rightOf l)
+right-modes l m = four-modes _ _ _ _ (m 3) (m 7) (m 11) (m 15)

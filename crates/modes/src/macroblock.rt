@@ -1,0 +1,116 @@
+// All the modes of a macroblock, in the order of RFC 6386, section 19.3.
+use crate::answers::Headed;
+use crate::answers::Kinds;
+use crate::answers::Mode;
+use crate::answers::Next;
+use crate::answers::Sixteen;
+use crate::answers::Stage;
+use crate::answers::Staged;
+use crate::large::large_mode;
+use crate::prefix::head;
+use crate::small::contexts_fine;
+use crate::small::sixteen;
+use reader::boolean::Reader;
+use reader::boolean::valid;
+ghost use mathlib.Core.Path.{_≡_};
+ghost use lib.ListN.{length};
+ghost use Rattle.reader.specs.Boolean.{missing};
+ghost use Rattle.reader.specs.BooleanLaws.{Valid};
+ghost use Rattle.reader.specs.Reading.{run};
+ghost use Rattle.modes.specs.Modes.{zeros, luma, modesOf};
+ghost use Rattle.modes.specs.Answers.{toSixteen, toStaged, modesAnswer};
+ghost use Rattle.modes.specs.ModesLaws.{Modes};
+
+// The sixteen luma modes: small ones, or a large one sixteen times.
+fn luma(s: &[u8], r: Reader, small: bool, top: &[u8; 4], left: &[u8; 4]) -> Sixteen
+    requires { ⌜ Valid (now s) r ⌝ }
+    requires { ⌜ Modes (now top) × Modes (now left) ⌝ }
+    ensures { λ q. ⌜ q ≡ toSixteen zeros (run (luma small (now (top .entry)) (now (left .entry))) (now (s .entry)) r) ⌝ }
+{
+    if small {
+        return sixteen(s, r, top, left);
+    }
+    let Mode::Read(m, next) = large_mode(s, r, false) else {
+        return Sixteen {
+            answer: Next::Missing,
+            modes: [0u8; 16],
+        };
+    };
+    Sixteen {
+        answer: Next::At(next),
+        modes: [m; 16],
+    }
+}
+
+// What a byte missing anywhere leaves.
+fn none() -> Staged
+    ensures { λ q. ⌜ q ≡ toStaged zeros missing ⌝ }
+{
+    Staged {
+        answer: Stage::Missing,
+        modes: [0u8; 16],
+    }
+}
+
+// Prefix, luma, chroma. The modes come back beside the answer, since a later byte may be missing.
+fn stage(s: &[u8], h: &[i32], r: Reader, top: &[u8; 4], left: &[u8; 4]) -> Staged
+    requires { ⌜ Valid (now s) r ⌝ }
+    requires { ⌜ length (now h) ≡ 1096 ⌝ }
+    requires { ⌜ Modes (now top) × Modes (now left) ⌝ }
+    ensures { λ q. ⌜ q ≡ toStaged zeros (run (modesOf (now (h .entry)) (now (top .entry)) (now (left .entry))) (now (s .entry)) r) ⌝ }
+{
+    let Headed::Read(p, t) = head(s, r, h) else {
+        return none();
+    };
+    let q = luma(s, t, p.small, top, left);
+    let answer = q.answer;
+    let modes = q.modes;
+    let Next::At(u) = answer else {
+        return none();
+    };
+    let Mode::Read(chroma, next) = large_mode(s, u, true) else {
+        return none();
+    };
+    Staged {
+        answer: Stage::Read(
+            Kinds {
+                segment: p.segment,
+                skip: p.skip,
+                small: p.small,
+                chroma: chroma,
+            },
+            next,
+        ),
+        modes: modes,
+    }
+}
+
+// The modes of a macroblock, its sixteen luma modes into `modes`, which keeps what it held unless all are read.
+pub fn read_modes(
+    s: &[u8],
+    h: &[i32],
+    r: Reader,
+    top: [u8; 4],
+    left: [u8; 4],
+    modes: &mut [u8; 16],
+) -> Stage
+    ensures { λ q. ⌜ record { answer = q; modes = now (modes .exit) } ≡ modesAnswer (now (s .entry)) (now (h .entry)) r top left (now (modes .entry)) ⌝ }
+{
+    if h.len() != 1096 {
+        return Stage::Refused;
+    }
+    if !valid(s, r) {
+        return Stage::Refused;
+    }
+    if !contexts_fine(&top, &left) {
+        return Stage::Refused;
+    }
+    let q = stage(s, h, r, &top, &left);
+    let answer = q.answer;
+    let Stage::Read(kinds, next) = answer else {
+        return Stage::Missing;
+    };
+    let read = q.modes;
+    *modes = read;
+    Stage::Read(kinds, next)
+}

@@ -1,0 +1,13 @@
+-- `columns` meets its contract, sample by sample.
+use borrow.Author.Needs.{needs}
+use mathlib.Core.Path.{refl}
+use Rattle.numbers.specs.Lists.{build}
+use Rattle.planes.proofs.predict.columns.Statement.{statement}
+use Rattle.planes.proofs.predict.columns.Tie as tie
+
+returns : tie.Need-returns
+unfolding build
+returns c = refl
+
+pub columns-spec : {M : Type 1} → statement M
+columns-spec = tie.close (tie.spec (λ c. search needs) (λ c. search needs) (λ c. search needs) (λ c. search needs) returns)

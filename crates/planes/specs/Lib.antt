@@ -1,0 +1,8 @@
+-- Planes: prediction, painting.
+pub mod Predict
+pub mod PredictLaws
+pub mod Paint
+-- where squares and sub-blocks lie
+pub mod Places
+-- what callers and proofs cite
+pub mod PaintLaws

@@ -1,0 +1,602 @@
+-- What callers and proofs cite of painting. Callers: `length-paint`, `paint-bytes`, `paint-off`, `paint-in`,
+-- `paint-same` and `paint-good`, at the end.
+use Prim.Native.Nat.{ℕ, zero, suc, _+_, _-_, _*_, _/_, _%_, _≤_, _<_}
+use mathlib.Core.Bool.{Bool, true, false, _&&_, _||_}
+use mathlib.Core.List.{List}
+use mathlib.Core.Logic.{_⊎_, inl, inr}
+use mathlib.Core.Path.{_≡_, refl, sym, _∙_, ap, subst}
+use native.Mathlib.Decide.{ℕ-discrete}
+use native.Mathlib.Nat.{zero-add, add-zero, mul-one, add-assoc, mul-le-mul, mul-le-mul-right, div-mul-le-self, mul-mod-left, mul-div-cancel}
+use native.Mathlib.Numerals.{add-one}
+use native.Mathlib.Omega.{arith}
+use borrow.Author.Tests.{eqb-true, ltb-true, leb-true, lt-ltb, le-leb, eq-eqb, ne-eqb}
+use lib.Dec.{eqb, ltb, leb}
+use lib.IntN.{ℤ, pos, negsuc, _+ℤ_}
+use lib.ListN.{length, getD, set, replicate, length-take, length-drop, List·getD-eq-default}
+use lib.Seq.{getD-take, getD-drop}
+use lib.Signed.{leZ}
+use Rattle.numbers.specs.Clamp.{clipZ}
+use Rattle.numbers.specs.ClampLaws.{upTo-le, upTo-same}
+use Rattle.numbers.specs.In.{In, Each}
+use Rattle.numbers.specs.Know.{num, wider, inside}
+use Rattle.numbers.specs.Lists.{build, built, getD-build, getD-build-past, getD-constant, set-keeps, _∷≡_}
+use Rattle.numbers.specs.Parts.{true-le, le-true}
+use Rattle.numbers.specs.Runs.{placed, placed-none, placed-next, placed-same, copied, length-copied, copied-in, copied-off, Off, off-less}
+use Rattle.numbers.specs.Tables.{allBelow, all-below}
+use Rattle.numbers.specs.Tests.{lt-or, eq-or, both-left, both-right, both-true, cond-at}
+use Rattle.coefficients.specs.Transform.{samplesOf, fits16}
+use Rattle.coefficients.specs.TransformLaws.{Coefficients, shortcut}
+use Rattle.planes.specs.declared.Painted.the-variants.{Done, Refused}
+use Rattle.planes.specs.declared.predict.Edge.{Edge}
+use Rattle.planes.specs.Predict.{Size, smallOf, dcOf}
+use Rattle.planes.specs.Paint.{sampleAt, nearOf, aboveOf, firstOf, firstAbove, firstLeft, edgeOf, rightOf, asideOf, aroundOf, rowsPainted, painted, blockOf, residualOf, summedOf, blockPainted, columnOf, rowOf, blocksPainted, largeRule, smallAt, smallRule, ruleOf, squarePainted, eachFits, modesFine, squareFine, coefficientsFine, paintFine, Outcome, paintOf}
+use Rattle.planes.specs.Places.{Square, Outside, run-inside, sub-square, apart, outside-sub, Sides, cell, not-last, Stands, higher, before, stands-first, stands-last, Within, stood, later, by-size, size-some, quarter, size-sides, tiles}
+
+-- every element is a byte
+abbrev pub Bytes : List ℕ → Type 0
+Bytes l = (i : ℕ) → getD l i 0 < 256
+
+-- arguments with which the square at column x, row y can be painted
+pub record Good (len w x y n : ℕ) (small : Bool) (mode : ℕ) (modes : List ℕ) (c : List ℤ) : Type 0 where
+  pub size : Size n
+  pub square : Square len w x y n
+  pub whole : x + n < w → x + n + n ≤ w
+  pub long : length c ≡ n * n
+  pub fit : Each (negsuc 32767) (pos 32767) c
+  pub large : small ≡ false → mode < 4
+  pub luma : small ≡ true → n ≡ 16
+  pub each : small ≡ true → (k : ℕ) → k < 16 → getD modes k 0 < 10
+
+module _ {len w x y n mode : ℕ} {small : Bool} {modes : List ℕ} {c : List ℤ} (g : Good len w x y n small mode modes c) where
+  pub luma-square : small ≡ true → Square len w x y 16
+  luma-square e = subst (λ (k : ℕ). Square len w x y k) (g .luma e) (g .square)
+
+  pub luma-whole : small ≡ true → x + 16 < w → x + 20 ≤ w
+  luma-whole e h = let q = g .luma e in omega (arith, g .whole (omega arith))
+
+  pub luma-long : small ≡ true → length c ≡ 256
+  luma-long e = g .long ∙ ap (λ (k : ℕ). k * k) (g .luma e)
+
+-- ---- around
+pub near-top : (p : List ℕ) (w x y : ℕ) → y ≡ 0 → 127 ≡ nearOf p w x y
+unfolding nearOf
+near-top p w x zero e = refl
+near-top p w x (suc y) e = absurd (omega arith)
+
+pub near-side : (p : List ℕ) (w x y : ℕ) → 0 < y → x ≡ 0 → 129 ≡ nearOf p w x y
+unfolding nearOf
+near-side p w x zero h e = absurd (omega arith)
+near-side p w zero (suc y) h e = refl
+near-side p w (suc x) (suc y) h e = absurd (omega arith)
+
+-- inside: column x of row y
+pub near-at : (p : List ℕ) (w x y : ℕ) {m n i : ℕ} → m ≡ x + 1 → n ≡ y + 1 → i ≡ y * w + x → getD p i 0 ≡ nearOf p w m n
+unfolding nearOf
+near-at p w x y d e f = rw (d, e, f, add-one x, add-one y)
+
+-- the first of an edge, one after the other
+module _ (f : ℕ → ℕ) where
+  pub first-none : firstOf 0 f ≡ replicate 16 0
+  unfolding firstOf
+  first-none = placed-none (replicate 16 0) 0 f
+
+  pub first-next : (n : ℕ) → set (firstOf n f) n (f n) ≡ firstOf (n + 1) f
+  unfolding firstOf
+  first-next n = subst (λ (k : ℕ). set (placed (replicate 16 0) 0 f n) k (f n) ≡ placed (replicate 16 0) 0 f (n + 1)) (zero-add n) (placed-next (replicate 16 0) 0 f n)
+
+-- ---- the rows of a sub-block
+module _ (p : List ℕ) (w x y : ℕ) (b : List ℕ) where
+  pub rows-none : rowsPainted p w x y b 0 ≡ p
+  unfolding rowsPainted
+  rows-none = refl
+
+  pub rows-next : (j : ℕ) → copied (rowsPainted p w x y b j) ((y + j) * w + x) b (4 * j) 4 ≡ rowsPainted p w x y b (j + 1)
+  unfolding rowsPainted
+  rows-next j = rw add-one
+
+  pub length-rows : (j : ℕ) → length (rowsPainted p w x y b j) ≡ length p
+  unfolding rowsPainted
+  length-rows zero = refl
+  length-rows (suc j) = length-copied (rowsPainted p w x y b j) ((y + j) * w + x) b (4 * j) 4 ∙ length-rows j
+
+  -- column c of row r: outside them nothing changes, inside stands the block
+  rows-off : (m c r : ℕ) → x + 4 ≤ w → c < w → Off x 4 c ⊎ Off y m r → sampleAt (rowsPainted p w x y b m) w c r ≡ sampleAt p w c r
+  unfolding rowsPainted
+  rows-off zero c r l h o = refl
+  rows-off (suc m) c r l h o =
+      copied-off (rowsPainted p w x y b m) ((y + m) * w + x) b (4 * m) 4 (r * w + c) (apart (y + m) r w x 4 c h l (last o))
+      ∙ rows-off m c r l h (less o)
+    where
+      last : Off x 4 c ⊎ Off y (suc m) r → Off x 4 c ⊎ Off (y + m) 1 r
+      last (inl a) = inl a
+      last (inr (inl a)) = inr (inl (omega arith))
+      last (inr (inr a)) = inr (inr (omega arith))
+
+      less : Off x 4 c ⊎ Off y (suc m) r → Off x 4 c ⊎ Off y m r
+      less (inl a) = inl a
+      less (inr a) = inr (off-less y m r a)
+
+  rows-in : (m j k : ℕ) → x + 4 ≤ w → (y + m) * w ≤ length p → j < m → k < 4
+      → sampleAt (rowsPainted p w x y b m) w (x + k) (y + j) ≡ getD b (4 * j + k) 0
+  unfolding rowsPainted
+  rows-in zero j k l f h g = absurd (omega arith)
+  rows-in (suc m) j k l f h g =
+      let q = rowsPainted p w x y b m in
+      let n : (y + m) * w + x + 4 ≤ length q = rw (length-rows m) (run-inside {y = y + m} {h = y + suc m} x 4 (omega arith) l f) in
+      elim (ℕ-discrete j m) [
+        | yes e ↦ rw (e, ← add-assoc) (copied-in q ((y + m) * w + x) b (4 * m) 4 k n g)
+        | no e ↦
+            copied-off q ((y + m) * w + x) b (4 * m) 4 ((y + j) * w + (x + k)) (apart (y + m) (y + j) w x 4 (x + k) (omega arith) l (inr (inl (omega arith))))
+            ∙ rows-in m j k l (omega (arith, mul-le-mul-right {m = y + m} {n = y + suc m} w (omega arith))) (omega arith) g
+      ]
+
+-- ---- the coefficients of a sub-block, one by one, and its residual
+module _ (c : List ℤ) (i : ℕ) (h : 16 * i + 16 ≤ length c) where
+  length-block : length (blockOf c i) ≡ 16
+  unfolding blockOf
+  length-block = simp (length-take, length-drop) (omega arith)
+
+  block-at : (k : ℕ) (d : ℤ) → k < 16 → getD (blockOf c i) k d ≡ getD c (16 * i + k) d
+  unfolding blockOf
+  block-at k d l = rw (getD-take, getD-drop)
+
+  pub block-built : blockOf c i ≡ build 16 (λ k. getD c (16 * i + k) (pos 0))
+  block-built = built (blockOf c i) 16 (λ k. getD c (16 * i + k) (pos 0)) (pos 0) length-block (λ k l. block-at k (pos 0) l)
+
+  pub block-fits : Each (negsuc 32767) (pos 32767) c → Coefficients (blockOf c i)
+  block-fits e = record { fit = λ k l. rw (block-at k (pos 0) l) (e .at (16 * i + k)) }
+
+-- the first n are 0
+abbrev pub Blank : ℕ → List ℤ → Type 0
+Blank n b = (k : ℕ) → k < n → getD b k (pos 0) ≡ pos 0
+
+-- coefficients that are all 0 leave what is predicted
+blank-samples : (b : List ℤ) → Blank 16 b → samplesOf false b ≡ replicate 16 (pos 0)
+blank-samples b h = shortcut false (record { zero = λ k l m. h k m }) ∙ rw (h 0 (omega arith))
+
+pub blank-summed : (pred : List ℕ) (b : List ℤ) → length pred ≡ 16 → Bytes pred → Blank 16 b → summedOf pred (samplesOf false b) ≡ pred
+unfolding summedOf
+blank-summed pred b n y h = rw (blank-samples b h) (sym (built pred 16 _ 0 n same))
+  where
+    same : (k : ℕ) → k < 16 → getD pred k 0 ≡ clipZ (pos (getD pred k 0) +ℤ getD (replicate 16 (pos 0)) k (pos 0))
+    same k l = rw (getD-constant 16 k (pos 0), add-zero) (sym (upTo-same (omega (arith, y k))))
+
+-- ---- a sub-block painted: column c of row r, outside it and in it
+module _ (p : List ℕ) (w x y : ℕ) (pred : List ℕ) (cs : List ℤ) (i : ℕ) where
+  pub length-one : length (blockPainted p w x y pred cs i) ≡ length p
+  unfolding blockPainted
+  length-one = length-rows p w x y (summedOf pred (residualOf cs i)) 4
+
+  pub one-off : (c r : ℕ) → x + 4 ≤ w → c < w → Outside x y 4 c r → sampleAt (blockPainted p w x y pred cs i) w c r ≡ sampleAt p w c r
+  unfolding blockPainted
+  one-off c r l h o = rows-off p w x y (summedOf pred (residualOf cs i)) 4 c r l h o
+
+  pub one-in : (c r : ℕ) → Square (length p) w x y 4 → Within x y c r
+      → sampleAt (blockPainted p w x y pred cs i) w c r ≡ getD (summedOf pred (residualOf cs i)) (4 * (r - y) + (c - x)) 0
+  unfolding blockPainted
+  one-in c r s h =
+      let b = summedOf pred (residualOf cs i) in
+      subst (λ (d : ℕ). sampleAt (painted p w x y b) w d r ≡ getD b (4 * (r - y) + (c - x)) 0) (omega arith)
+      (subst (λ (d : ℕ). sampleAt (painted p w x y b) w (x + (c - x)) d ≡ getD b (4 * (r - y) + (c - x)) 0) (omega arith)
+      (rows-in p w x y b 4 (r - y) (c - x) (s .columns) (s .rows) (omega (arith, h .bottom)) (omega (arith, h .right))))
+
+-- ---- sub-blocks painted one after the other
+module _ (rule : List ℕ → ℕ → List ℕ) (p : List ℕ) (w x y m : ℕ) (cs : List ℤ) where
+  pub blocks-none : blocksPainted rule p w x y m cs 0 ≡ p
+  unfolding blocksPainted
+  blocks-none = refl
+
+  pub blocks-next : (i : ℕ) {q : List ℕ} → q ≡ blocksPainted rule p w x y m cs i
+      → blockPainted q w (x + columnOf m i) (y + rowOf m i) (rule q i) cs i ≡ blocksPainted rule p w x y m cs (i + 1)
+  unfolding blocksPainted
+  blocks-next i e = rw (add-one, e)
+
+  pub length-blocks : (i : ℕ) → length (blocksPainted rule p w x y m cs i) ≡ length p
+  unfolding blocksPainted
+  length-blocks zero = refl
+  length-blocks (suc i) = let q = blocksPainted rule p w x y m cs i in length-one q w (x + columnOf m i) (y + rowOf m i) (rule q i) cs i ∙ length-blocks i
+
+  -- the sub-block that is due lies in the plane as those before it left it
+  pub due : (i : ℕ) → Sides m → Square (length p) w x y (4 * m) → i < m * m → Square (length (blocksPainted rule p w x y m cs i)) w (x + columnOf m i) (y + rowOf m i) 4
+  due i s t h = rw (length-blocks i) (sub-square t (columnOf m i) (rowOf m i) 4 (cell s h .inside) (cell s h .above))
+
+  -- outside the square nothing changes
+  blocks-off : (i c r : ℕ) → Sides m → Square (length p) w x y (4 * m) → i ≤ m * m → c < w → Outside x y (4 * m) c r
+      → sampleAt (blocksPainted rule p w x y m cs i) w c r ≡ sampleAt p w c r
+  unfolding blocksPainted
+  blocks-off zero c r s t l h o = refl
+  blocks-off (suc i) c r s t l h o =
+      let q = blocksPainted rule p w x y m cs i in
+      let k : i < m * m = omega arith in
+      one-off q w (x + columnOf m i) (y + rowOf m i) (rule q i) cs i c r (due i s t k .columns) h (outside-sub (columnOf m i) (rowOf m i) 4 (cell s k .inside) (cell s k .above) o)
+      ∙ blocks-off i c r s t (omega arith) h o
+
+  -- a sample of sub-block i is what was painted for it: those after it lie elsewhere
+  abbrev pub paintedIn : (i c r : ℕ) → ℕ
+  paintedIn i c r =
+      getD (summedOf (rule (blocksPainted rule p w x y m cs i) i) (residualOf cs i)) (4 * (r - (y + rowOf m i)) + (c - (x + columnOf m i))) 0
+
+  blocks-in : Sides m → Square (length p) w x y (4 * m) → (i c r : ℕ) → i < m * m → Within (x + columnOf m i) (y + rowOf m i) c r → (j : ℕ) → i < j → j ≤ m * m
+      → sampleAt (blocksPainted rule p w x y m cs j) w c r ≡ paintedIn i c r
+  unfolding blocksPainted
+  blocks-in s t i c r h k zero a b = absurd (omega arith)
+  blocks-in s t i c r h k (suc j) a b =
+      let q = blocksPainted rule p w x y m cs j in
+      elim (eq-or i j) [
+        | inl e ↦
+            subst (λ (z : ℕ). sampleAt (blockPainted (blocksPainted rule p w x y m cs z) w (x + columnOf m z) (y + rowOf m z) (rule (blocksPainted rule p w x y m cs z) z) cs z) w c r ≡ paintedIn i c r) e
+            (one-in (blocksPainted rule p w x y m cs i) w (x + columnOf m i) (y + rowOf m i) (rule (blocksPainted rule p w x y m cs i) i) cs i c r (due i s t h) k)
+        | inr e ↦
+            one-off q w (x + columnOf m j) (y + rowOf m j) (rule q j) cs j c r (due j s t (omega arith) .columns) (omega (arith, k .right, due i s t h .columns)) (later x y i j s (omega arith) k)
+            ∙ blocks-in s t i c r h k j (omega arith) (omega arith)
+      ]
+
+-- ---- bytes stay bytes
+placed-bytes : (p : List ℕ) (at : ℕ) (f : ℕ → ℕ) (n : ℕ) → ((j : ℕ) → f j < 256) → Bytes p → Bytes (placed p at f n)
+unfolding placed
+placed-bytes p at f zero h g = g
+placed-bytes p at f (suc n) h g = set-keeps (λ (v : ℕ). v < 256) (placed p at f n) (at + n) (f n) 0 (h n) (placed-bytes p at f n h g)
+
+summed-bytes : (pred : List ℕ) (res : List ℤ) → Bytes (summedOf pred res)
+unfolding summedOf
+summed-bytes pred res k = elim (lt-or k 16) [
+  | inl h ↦ rw getD-build (omega (arith, upTo-le 255 (pos (getD pred k 0) +ℤ getD res k (pos 0))))
+  | inr h ↦ rw getD-build-past (omega arith)
+]
+
+rows-bytes : (p : List ℕ) (w x y : ℕ) (b : List ℕ) (m : ℕ) → Bytes b → Bytes p → Bytes (rowsPainted p w x y b m)
+unfolding rowsPainted copied
+rows-bytes p w x y b zero h g = g
+rows-bytes p w x y b (suc m) h g =
+    placed-bytes (rowsPainted p w x y b m) ((y + m) * w + x) (λ j. getD b (4 * m + j) 0) 4 (λ j. h (4 * m + j)) (rows-bytes p w x y b m h g)
+
+blocks-bytes : (rule : List ℕ → ℕ → List ℕ) (p : List ℕ) (w x y m : ℕ) (cs : List ℤ) (i : ℕ) → Bytes p → Bytes (blocksPainted rule p w x y m cs i)
+unfolding blocksPainted blockPainted
+blocks-bytes rule p w x y m cs zero g = g
+blocks-bytes rule p w x y m cs (suc i) g =
+    let q = blocksPainted rule p w x y m cs i in
+    rows-bytes q w (x + columnOf m i) (y + rowOf m i) (summedOf (rule q i) (residualOf cs i)) 4 (summed-bytes (rule q i) (residualOf cs i)) (blocks-bytes rule p w x y m cs i g)
+
+-- ---- two planes with the same samples around the square get the same samples in it
+-- they agree at column c of row r wherever P holds of c and r
+abbrev pub Same : (p q : List ℕ) (w : ℕ) (P : ℕ → ℕ → Type 0) → Type 0
+Same p q w P = (c r : ℕ) → c < w → P c r → sampleAt p w c r ≡ sampleAt q w c r
+
+-- above the square's rows, or left of it in them
+abbrev pub Around : (x y n c r : ℕ) → Type 0
+Around x y n c r = (r < y) ⊎ ((r < y + n) × (c < x))
+
+module _ (p q : List ℕ) (w : ℕ) (P : ℕ → ℕ → Type 0) (s : Same p q w P) where
+  near-same : (x y : ℕ) → x ≤ w → ((c r : ℕ) → x ≡ suc c → y ≡ suc r → P c r) → nearOf p w x y ≡ nearOf q w x y
+  unfolding nearOf
+  near-same x zero l h = refl
+  near-same zero (suc y) l h = refl
+  near-same (suc x) (suc y) l h = s x y (omega arith) (h x y refl refl)
+
+  above-same : (x y : ℕ) → x + 4 ≤ w → ((c r : ℕ) → c < x + 4 → y ≡ suc r → P c r) → aboveOf p w x y ≡ aboveOf q w x y
+  unfolding aboveOf
+  above-same x y l h = go 1 (omega arith) ∷≡ go 2 (omega arith) ∷≡ go 3 (omega arith) ∷≡ go 4 (omega arith) ∷≡ refl
+    where
+      go : (k : ℕ) → k ≤ 4 → nearOf p w (x + k) y ≡ nearOf q w (x + k) y
+      go k i = near-same (x + k) y (omega arith) (λ c r e f. h c r (omega arith) f)
+
+  right-same : (x y : ℕ) → x + 16 ≤ w → (x + 16 < w → x + 20 ≤ w) → ((c r : ℕ) → r < y → P c r) → rightOf p w x y ≡ rightOf q w x y
+  unfolding rightOf
+  right-same x y l k h = elim (eq-or (x + 16) w) [
+    | inl e ↦ rw (eq-eqb (x + 16) w e, near-same w y (omega arith) (λ c r u v. h c r (omega arith)))
+    | inr e ↦ rw (ne-eqb (x + 16) w e) (above-same (x + 16) y (omega (arith, k (omega arith))) (λ c r u v. h c r (omega arith)))
+  ]
+
+  edge-same : (x y n : ℕ) → x + n ≤ w → ((c r : ℕ) → Around x y n c r → P c r) → edgeOf p w x y n ≡ edgeOf q w x y n
+  unfolding edgeOf firstOf
+  edge-same x y n l h =
+      let a : firstAbove p w x y n ≡ firstAbove q w x y n = placed-same (replicate 16 0) 0 _ _ n (λ k i. near-same (x + 1 + k) y (omega arith) (λ c r e f. h c r (inl (omega arith)))) in
+      let b : firstLeft p w x y n ≡ firstLeft q w x y n = placed-same (replicate 16 0) 0 _ _ n (λ k i. near-same x (y + 1 + k) (omega arith) (λ c r e f. h c r (inr (omega arith, omega arith)))) in
+      let c : nearOf p w x y ≡ nearOf q w x y = near-same x y (omega arith) (λ c r e f. h c r (inl (omega arith))) in
+      rw (a, b, c)
+
+  -- a sub-block of a macroblock in a small mode
+  around-same : (x y i : ℕ) (right : List ℕ) → x + 16 ≤ w → i < 16 → ((c r : ℕ) → Stands x y 4 i c r → P c r) → (mode : ℕ)
+      → smallAt p w (x + columnOf 4 i) (y + rowOf 4 i) (eqb (i % 4) 3) right mode ≡ smallAt q w (x + columnOf 4 i) (y + rowOf 4 i) (eqb (i % 4) 3) right mode
+  unfolding smallAt aroundOf asideOf
+  around-same x y i right l j h mode =
+      ap (smallOf mode)
+      (left 4 (omega arith) ∷≡ left 3 (omega arith) ∷≡ left 2 (omega arith) ∷≡ left 1 (omega arith) ∷≡ corner
+      ∷≡ top 1 (omega arith) ∷≡ top 2 (omega arith) ∷≡ top 3 (omega arith) ∷≡ top 4 (omega arith)
+      ∷≡ ap (λ (a : List ℕ). getD a 0 0) aside ∷≡ ap (λ (a : List ℕ). getD a 1 0) aside
+      ∷≡ ap (λ (a : List ℕ). getD a 2 0) aside ∷≡ ap (λ (a : List ℕ). getD a 3 0) aside ∷≡ refl)
+    where
+      left : (k : ℕ) → k ≤ 4 → nearOf p w (x + columnOf 4 i) (y + rowOf 4 i + k) ≡ nearOf q w (x + columnOf 4 i) (y + rowOf 4 i + k)
+      left k n = near-same (x + columnOf 4 i) (y + rowOf 4 i + k) (omega arith) (λ c r e f. h c r (before (omega arith) (omega arith) (omega arith)))
+
+      corner : nearOf p w (x + columnOf 4 i) (y + rowOf 4 i) ≡ nearOf q w (x + columnOf 4 i) (y + rowOf 4 i)
+      corner = near-same (x + columnOf 4 i) (y + rowOf 4 i) (omega arith) (λ c r e f. h c r (higher (omega arith) (omega arith) (omega arith)))
+
+      top : (k : ℕ) → k ≤ 4 → nearOf p w (x + columnOf 4 i + k) (y + rowOf 4 i) ≡ nearOf q w (x + columnOf 4 i + k) (y + rowOf 4 i)
+      top k n = near-same (x + columnOf 4 i + k) (y + rowOf 4 i) (omega arith) (λ c r e f. h c r (higher (omega arith) (omega arith) (omega arith)))
+
+      next : (last : Bool) → (last ≡ false → columnOf 4 i + 8 ≤ 16)
+          → asideOf p w (x + columnOf 4 i) (y + rowOf 4 i) last right ≡ asideOf q w (x + columnOf 4 i) (y + rowOf 4 i) last right
+      next true n = refl
+      next false n =
+          let b = n refl in
+          above-same (x + columnOf 4 i + 4) (y + rowOf 4 i) (omega arith) (λ c r e f. h c r (higher (omega arith) (omega arith) (omega arith)))
+
+      aside : asideOf p w (x + columnOf 4 i) (y + rowOf 4 i) (eqb (i % 4) 3) right ≡ asideOf q w (x + columnOf 4 i) (y + rowOf 4 i) (eqb (i % 4) 3) right
+      aside = next (eqb (i % 4) 3) (not-last i)
+
+module _ (p q : List ℕ) (w x y m : ℕ) (cs : List ℤ) (f g : List ℕ → ℕ → List ℕ) (e : length p ≡ length q) (s : Sides m) (t : Square (length p) w x y (4 * m))
+    (same : (i : ℕ) → i < m * m → (P Q : List ℕ) → Same P Q w (Stands x y m i) → f P i ≡ g Q i) where
+  blocks-same : Same p q w (Stands x y m 0) → (i : ℕ) → i ≤ m * m → Same (blocksPainted f p w x y m cs i) (blocksPainted g q w x y m cs i) w (Stands x y m i)
+  unfolding blocksPainted
+  blocks-same h zero l = h
+  blocks-same h (suc i) l = λ c r k d.
+      let n : i < m * m = omega arith in
+      let P = blocksPainted f p w x y m cs i in
+      let Q = blocksPainted g q w x y m cs i in
+      let X = x + columnOf m i in
+      let Y = y + rowOf m i in
+      let a = due f p w x y m cs i s t n in
+      let b = due g q w x y m cs i s (subst (λ (z : ℕ). Square z w x y (4 * m)) e t) n in
+      let u : f P i ≡ g Q i = same i n P Q (blocks-same h i (omega arith)) in
+      elim (stood s n d) [
+        | inl o ↦ one-off P w X Y (f P i) cs i c r (a .columns) k (o .1) ∙ blocks-same h i (omega arith) c r k (o .0) ∙ sym (one-off Q w X Y (g Q i) cs i c r (b .columns) k (o .1))
+        | inr o ↦ one-in P w X Y (f P i) cs i c r a o ∙ rw u (sym (one-in Q w X Y (g Q i) cs i c r b o))
+      ]
+
+-- ---- the square
+module _ (p : List ℕ) (w x y n : ℕ) (small : Bool) (mode : ℕ) (modes : List ℕ) (cs : List ℤ) where
+  -- what the code paints in each kind of mode
+  pub square-small : {r : List ℕ} → small ≡ true → n ≡ 16 → r ≡ rightOf p w x y
+      → blocksPainted (smallRule w x y r modes) p w x y 4 cs 16 ≡ squarePainted p w x y n small mode modes cs
+  unfolding squarePainted ruleOf
+  square-small e z f = rw (e, z, f)
+
+  pub square-large : {dc : ℕ} {e : Edge} → small ≡ false → e ≡ edgeOf p w x y n → dc ≡ dcOf n e
+      → blocksPainted (largeRule (n / 4) mode dc e) p w x y (n / 4) cs (n / 4 * (n / 4)) ≡ squarePainted p w x y n small mode modes cs
+  unfolding squarePainted ruleOf
+  square-large s f d = rw (s, d, f)
+
+  length-square : length (squarePainted p w x y n small mode modes cs) ≡ length p
+  unfolding squarePainted
+  length-square = length-blocks (ruleOf p w x y n small mode modes) p w x y (n / 4) cs (n / 4 * (n / 4))
+
+  square-bytes : Bytes p → Bytes (squarePainted p w x y n small mode modes cs)
+  unfolding squarePainted
+  square-bytes b = blocks-bytes (ruleOf p w x y n small mode modes) p w x y (n / 4) cs (n / 4 * (n / 4)) b
+
+  module _ (s : Size n) (t : Square (length p) w x y n) (c r : ℕ) where
+    pub square-off : c < w → Outside x y n c r → sampleAt (squarePainted p w x y n small mode modes cs) w c r ≡ sampleAt p w c r
+    unfolding squarePainted
+    square-off h o =
+        blocks-off (ruleOf p w x y n small mode modes) p w x y (n / 4) cs (n / 4 * (n / 4)) c r (size-sides s) (rw (quarter s) t) (omega arith) h (rw (quarter s) o)
+
+    -- a sample of sub-block i is what its rule predicts from the plane as those before it left it, and its residual
+    pub square-in : (i : ℕ) → i < n / 4 * (n / 4) → Within (x + columnOf (n / 4) i) (y + rowOf (n / 4) i) c r
+        → sampleAt (squarePainted p w x y n small mode modes cs) w c r
+        ≡ paintedIn (ruleOf p w x y n small mode modes) p w x y (n / 4) cs i c r
+    unfolding squarePainted
+    square-in i h k = blocks-in (ruleOf p w x y n small mode modes) p w x y (n / 4) cs (size-sides s) (rw (quarter s) t) i c r h k (n / 4 * (n / 4)) h (omega arith)
+
+-- in both of two planes of the same length
+module _ (p q : List ℕ) (w x y n : ℕ) (small : Bool) (mode : ℕ) (modes : List ℕ) (cs : List ℤ) (e : length p ≡ length q) (g : Good (length p) w x y n small mode modes cs)
+    (s : Same p q w (Around x y n)) where
+  rule-same : (b : Bool) → small ≡ b → (i : ℕ) → i < n / 4 * (n / 4) → (P Q : List ℕ) → Same P Q w (Stands x y (n / 4) i)
+      → ruleOf p w x y n b mode modes P i ≡ ruleOf q w x y n b mode modes Q i
+  unfolding ruleOf
+  rule-same true t i h P Q u =
+      let z = g .luma t in
+      let v : Same P Q w (Stands x y 4 i) = subst (λ (k : ℕ). Same P Q w (Stands x y (k / 4) i)) z u in
+      let l : i < 16 = subst (λ (k : ℕ). i < k / 4 * (k / 4)) z h in
+      let o = luma-square g t .columns in
+      rw (right-same p q w (Around x y n) s x y o (luma-whole g t) (λ c r h. inl h)) (around-same P Q w (Stands x y 4 i) v x y i (rightOf q w x y) o l (λ c r a. a) (getD modes i 0))
+  rule-same false t i h P Q u = rw (edge-same p q w (Around x y n) s x y n (g .square .columns) (λ c r h. h))
+
+  square-same : (c r : ℕ) → c < x + n → r < y + n → sampleAt (squarePainted p w x y n small mode modes cs) w c r ≡ sampleAt (squarePainted q w x y n small mode modes cs) w c r
+  unfolding squarePainted
+  square-same c r k l =
+      let d = size-sides (g .size) in
+      let z = quarter (g .size) in
+      blocks-same p q w x y (n / 4) cs (ruleOf p w x y n small mode modes) (ruleOf q w x y n small mode modes) e d (rw z (g .square)) (rule-same small refl)
+      (λ c r h v. s c r h (rw (← z) (stands-first d v))) (n / 4 * (n / 4)) (omega arith) c r (omega (arith, g .square .columns)) (stands-last d (rw z l) (rw z k))
+
+-- ---- what the checks say
+either : (a b : Bool) → a || b ≡ true → (a ≡ true) ⊎ (b ≡ true)
+either true b e = inl refl
+either false b e = inr e
+
+module _ (n mode : ℕ) (modes : List ℕ) where
+  small-fine : modesFine n true mode modes ≡ true → (n ≡ 16) × ((k : ℕ) → k < 16 → getD modes k 0 < 10)
+  unfolding modesFine
+  small-fine e =
+      let t : ℕ → Bool = λ k. ltb (getD modes k 0) 10 in (
+        eqb-true n 16 (both-left (eqb n 16) (allBelow 16 t) e),
+        λ k h. ltb-true (getD modes k 0) 10 (all-below t 16 (both-right (eqb n 16) (allBelow 16 t) e) k h),
+      )
+
+  large-fine : modesFine n false mode modes ≡ true → Size n × (mode < 4)
+  unfolding modesFine
+  large-fine e =
+      let t = eqb n 8 || eqb n 16 in
+      (size (either (eqb n 8) (eqb n 16) (both-left t (ltb mode 4) e)), ltb-true mode 4 (both-right t (ltb mode 4) e))
+    where
+      size : (eqb n 8 ≡ true) ⊎ (eqb n 16 ≡ true) → Size n
+      size (inl h) = inl (eqb-true n 8 h)
+      size (inr h) = inr (eqb-true n 16 h)
+
+pub modes-size : (n : ℕ) (small : Bool) (mode : ℕ) (modes : List ℕ) → modesFine n small mode modes ≡ true → Size n
+modes-size n true mode modes e = inr (small-fine n mode modes e .0)
+modes-size n false mode modes e = large-fine n mode modes e .0
+
+-- the square is one of whole squares in the plane
+pub record Tiled (len w column row n : ℕ) : Type 0 where
+  pub square : Square len w (column * n) (row * n) n
+  pub whole : column * n + n < w → column * n + n + n ≤ w
+  pub few : (column ≤ 16384) × (row ≤ 16384)
+
+pub square-tiled : {n : ℕ} (len w column row : ℕ) → Size n → squareFine len w column row n ≡ true → Tiled len w column row n
+unfolding squareFine
+square-tiled {n} len w column row s e =
+    let rows = len / w in
+    let t1 = leb w 16384 in
+    let t2 = leb rows 16384 in
+    let t3 = eqb (w % n) 0 in
+    let t4 = eqb (rows % n) 0 in
+    let t5 = eqb (len % w) 0 in
+    let t6 = ltb column (w / n) in
+    let t7 = ltb row (rows / n) in
+    let e7 = both-right (ltb 0 w) (t1 && t2 && t3 && t4 && t5 && t6 && t7) e in
+    let e6 = both-left (t1 && t2 && t3 && t4 && t5 && t6) t7 e7 in
+    let e5 = both-left (t1 && t2 && t3 && t4 && t5) t6 e6 in
+    let e4 = both-left (t1 && t2 && t3 && t4) t5 e5 in
+    let e3 = both-left (t1 && t2 && t3) t4 e4 in
+    let e2 = both-left (t1 && t2) t3 e3 in
+    let a = tiles w column s (eqb-true (w % n) 0 (both-right (t1 && t2) t3 e3)) (ltb-true column (w / n) (both-right (t1 && t2 && t3 && t4 && t5) t6 e6)) in
+    let b = tiles rows row s (eqb-true (rows % n) 0 (both-right (t1 && t2 && t3) t4 e4)) (ltb-true row (rows / n) (both-right (t1 && t2 && t3 && t4 && t5 && t6) t7 e7)) in
+    let l1 = leb-true w 16384 (both-left t1 t2 e2) in
+    let l2 = leb-true rows 16384 (both-right t1 t2 e2) in
+    record {
+      square = record {
+        columns = a .0;
+        rows = omega (arith, mul-le-mul-right {m = row * n + n} {n = rows} w (b .0), div-mul-le-self len w);
+        wide = l1;
+        high = omega (arith, b .0);
+      };
+      whole = a .1;
+      few = (omega (arith, a .0, times-some column (size-some s .0)), omega (arith, b .0, times-some row (size-some s .0)));
+    }
+  where
+    times-some : (k : ℕ) {n : ℕ} → 0 < n → k ≤ k * n
+    times-some k h = let r : k ≤ k = omega arith in omega (arith, mul-le-mul r h, mul-one k)
+
+fits-in : (z : ℤ) → fits16 z ≡ true → In (negsuc 32767) (pos 32767) z
+fits-in z e =
+    let l = leZ (negsuc 32767) z in
+    let h = leZ z (pos 32767) in
+    record { low = true-le (negsuc 32767) z (both-left l h e); high = true-le z (pos 32767) (both-right l h e) }
+
+each-fit : (c : List ℤ) → eachFits c ≡ true → Each (negsuc 32767) (pos 32767) c
+each-fit c e = record { at = go }
+  where
+    go : (k : ℕ) → In (negsuc 32767) (pos 32767) (getD c k (pos 0))
+    go k = elim (lt-or k (length c)) [
+      | inl h ↦ fits-in (getD c k (pos 0)) (all-below (λ (i : ℕ). fits16 (getD c i (pos 0))) (length c) e k h)
+      | inr h ↦ rw (List·getD-eq-default c (pos 0) h) (inside (wider (num (pos 0)) tt))
+    ]
+
+module _ (len w column row n : ℕ) (small : Bool) (mode : ℕ) (modes : List ℕ) (c : List ℤ) where
+  pub fine-good : paintFine len w column row n small mode modes c ≡ true → Good len w (column * n) (row * n) n small mode modes c
+  unfolding paintFine coefficientsFine
+  fine-good h =
+      let a = modesFine n small mode modes in
+      let b = squareFine len w column row n in
+      let d = coefficientsFine n c in
+      let e = both-left a (b && d) h in
+      let k = both-right a (b && d) h in
+      let g = both-right b d k in
+      let s = modes-size n small mode modes e in
+      let t = square-tiled len w column row s (both-left b d k) in
+      record {
+        size = s;
+        square = t .square;
+        whole = t .whole;
+        long = eqb-true (length c) (n * n) (both-left (eqb (length c) (n * n)) (eachFits c) g);
+        fit = each-fit c (both-right (eqb (length c) (n * n)) (eachFits c) g);
+        large = λ q. large-fine n mode modes (rw q at e) .1;
+        luma = λ q. small-fine n mode modes (rw q at e) .0;
+        each = λ q. small-fine n mode modes (rw q at e) .1;
+      }
+
+-- ---- the public call
+-- arguments in their ranges, in a plane of `columns` by `rows` squares
+pub record Proper (len w columns rows column row n : ℕ) (small : Bool) (mode : ℕ) (modes : List ℕ) (c : List ℤ) : Type 0 where
+  pub size : Size n
+  pub width : w ≡ columns * n
+  pub height : len ≡ rows * n * w
+  pub wide : w ≤ 16384
+  pub high : rows * n ≤ 16384
+  pub across : column < columns
+  pub down : row < rows
+  pub luma : small ≡ true → n ≡ 16
+  pub large : small ≡ false → mode < 4
+  pub each : small ≡ true → (k : ℕ) → k < 16 → getD modes k 0 < 10
+  pub long : length c ≡ n * n
+  pub fit : Each (negsuc 32767) (pos 32767) c
+
+all-true : (f : ℕ → Bool) (n : ℕ) → ((i : ℕ) → i < n → f i ≡ true) → allBelow n f ≡ true
+all-true f zero h = refl
+all-true f (suc n) h = both-true (h n (omega arith)) (all-true f n (λ i l. h i (omega arith)))
+
+proper-modes : (n : ℕ) (small : Bool) (mode : ℕ) (modes : List ℕ) → Size n → (small ≡ true → n ≡ 16) → (small ≡ false → mode < 4) → (small ≡ true → (k : ℕ) → k < 16 → getD modes k 0 < 10)
+    → modesFine n small mode modes ≡ true
+unfolding modesFine
+proper-modes n true mode modes s a b d = both-true (eq-eqb n 16 (a refl)) (all-true _ 16 (λ k h. lt-ltb (getD modes k 0) 10 (d refl k h)))
+proper-modes n false mode modes s a b d = both-true (by-size (λ (n : ℕ). eqb n 8 || eqb n 16 ≡ true) refl refl s) (lt-ltb mode 4 (b refl))
+
+module _ {len w columns rows column row n mode : ℕ} {small : Bool} {modes : List ℕ} {c : List ℤ} (g : Proper len w columns rows column row n small mode modes c) where
+  proper-square : squareFine len w column row n ≡ true
+  unfolding squareFine
+  proper-square =
+      let a : 0 < n = size-some (g .size) .0 in
+      let b : 0 < columns = omega (arith, g .across) in
+      let d : 0 < w = omega (arith, g .width, mul-le-mul b a) in
+      let e1 : len / w ≡ rows * n = ap (λ (k : ℕ). k / w) (g .height) ∙ mul-div-cancel (rows * n) d in
+      let e2 : len % w ≡ 0 = ap (λ (k : ℕ). k % w) (g .height) ∙ mul-mod-left (rows * n) w in
+      let e3 : w / n ≡ columns = ap (λ (k : ℕ). k / n) (g .width) ∙ mul-div-cancel columns a in
+      let e4 : w % n ≡ 0 = ap (λ (k : ℕ). k % n) (g .width) ∙ mul-mod-left columns n in
+      rw (lt-ltb 0 w d, le-leb w 16384 (g .wide), e1, le-leb (rows * n) 16384 (g .high), e4, mul-mod-left rows n, e2, e3, lt-ltb column columns (g .across), mul-div-cancel rows a, lt-ltb row rows (g .down))
+
+  proper-coefficients : coefficientsFine n c ≡ true
+  unfolding coefficientsFine
+  proper-coefficients =
+      both-true (eq-eqb (length c) (n * n) (g .long)) (all-true _ (length c) (λ k h. both-true (le-true (g .fit .at k .low)) (le-true (g .fit .at k .high))))
+
+  pub proper-fine : paintFine len w column row n small mode modes c ≡ true
+  unfolding paintFine
+  proper-fine = both-true (proper-modes n small mode modes (g .size) (g .luma) (g .large) (g .each)) (both-true proper-square proper-coefficients)
+
+module _ (p : List ℕ) (w column row n : ℕ) (small : Bool) (mode : ℕ) (modes : List ℕ) (cs : List ℤ) where
+  answered : (P : Outcome → Type 0)
+      → (paintFine (length p) w column row n small mode modes cs ≡ true → P (record { answer = Done; plane = squarePainted p w (column * n) (row * n) n small mode modes cs }))
+      → P (record { answer = Refused; plane = p }) → P (paintOf p w column row n small mode modes cs)
+  unfolding paintOf
+  answered P f g = cond-at (paintFine (length p) w column row n small mode modes cs) P f (λ e. g)
+
+  pub length-paint : length (paintOf p w column row n small mode modes cs .plane) ≡ length p
+  length-paint = answered (λ (o : Outcome). length (o .plane) ≡ length p) (λ e. length-square p w (column * n) (row * n) n small mode modes cs) refl
+
+  pub paint-bytes : Bytes p → Bytes (paintOf p w column row n small mode modes cs .plane)
+  paint-bytes b = answered (λ (o : Outcome). Bytes (o .plane)) (λ e. square-bytes p w (column * n) (row * n) n small mode modes cs b) b
+
+  -- column c of row r, outside the square, is what it was
+  pub paint-off : (c r : ℕ) → c < w → Outside (column * n) (row * n) n c r → sampleAt (paintOf p w column row n small mode modes cs .plane) w c r ≡ sampleAt p w c r
+  paint-off c r h o =
+      answered (λ (a : Outcome). sampleAt (a .plane) w c r ≡ sampleAt p w c r)
+      (λ e. let g = fine-good (length p) w column row n small mode modes cs e in square-off p w (column * n) (row * n) n small mode modes cs (g .size) (g .square) c r h o) refl
+
+  -- with arguments in their ranges the square is painted
+  pub paint-fine : paintFine (length p) w column row n small mode modes cs ≡ true
+      → paintOf p w column row n small mode modes cs ≡ record { answer = Done; plane = squarePainted p w (column * n) (row * n) n small mode modes cs }
+  unfolding paintOf
+  paint-fine e = rw e
+
+  -- then a sample of sub-block i of the square is what its rule predicts for it from the plane as those before it left it, and its residual
+  pub paint-in : paintFine (length p) w column row n small mode modes cs ≡ true → (i c r : ℕ) → i < n / 4 * (n / 4)
+      → Within (column * n + columnOf (n / 4) i) (row * n + rowOf (n / 4) i) c r
+      → sampleAt (paintOf p w column row n small mode modes cs .plane) w c r
+      ≡ paintedIn (ruleOf p w (column * n) (row * n) n small mode modes) p w (column * n) (row * n) (n / 4) cs i c r
+  paint-in e i c r h k =
+      let g = fine-good (length p) w column row n small mode modes cs e in
+      rw (paint-fine e) (square-in p w (column * n) (row * n) n small mode modes cs (g .size) (g .square) c r i h k)
+
+  pub paint-good : {columns rows : ℕ} → Proper (length p) w columns rows column row n small mode modes cs
+      → paintOf p w column row n small mode modes cs ≡ record { answer = Done; plane = squarePainted p w (column * n) (row * n) n small mode modes cs }
+  paint-good g = paint-fine (proper-fine g)
+
+  -- two planes of the same length that agree above the square's rows, and left of it in them, agree in the square once it is painted
+  pub paint-same : (q : List ℕ) → length p ≡ length q → paintFine (length p) w column row n small mode modes cs ≡ true → Same p q w (Around (column * n) (row * n) n)
+      → (c r : ℕ) → c < column * n + n → r < row * n + n
+      → sampleAt (paintOf p w column row n small mode modes cs .plane) w c r ≡ sampleAt (paintOf q w column row n small mode modes cs .plane) w c r
+  unfolding paintOf
+  paint-same q e t s c r k l =
+      rw (t, ← e, t) (square-same p q w (column * n) (row * n) n small mode modes cs e (fine-good (length p) w column row n small mode modes cs t) s c r k l)

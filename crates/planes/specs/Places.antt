@@ -1,0 +1,237 @@
+-- Where squares and sub-blocks lie in a plane of `len` samples, w to a row.
+use Prim.Native.Nat.{ℕ, suc, _+_, _-_, _*_, _/_, _%_, _≤_, _<_}
+use mathlib.Core.Bool.{false}
+use mathlib.Core.Logic.{_⊎_, inl, inr}
+use mathlib.Core.Path.{_≡_, refl, sym, subst}
+use native.Mathlib.Decide.{decLt, ℕ-discrete}
+use native.Mathlib.Nat.{add-mul, one-mul, mul-le-mul-right}
+use native.Mathlib.Omega.{arith}
+use borrow.Author.Tests.{eqb-false}
+use lib.Dec.{eqb}
+use Rattle.numbers.specs.Runs.{Off}
+use Rattle.numbers.specs.Tests.{lt-or}
+use Rattle.planes.specs.Predict.{Size}
+use Rattle.planes.specs.Paint.{columnOf, rowOf}
+
+-- ---- in the plane
+-- the n by n square at column x, row y
+pub record Square (len w x y n : ℕ) : Type 0 where
+  pub columns : x + n ≤ w
+  pub rows : (y + n) * w ≤ len
+  pub wide : w ≤ 16384
+  pub high : y + n ≤ 16384
+
+-- a column and a row, counted from 1, at most the plane's last
+pub record Reach (len w x y : ℕ) : Type 0 where
+  pub column : x ≤ w
+  pub rows : y * w ≤ len
+  pub wide : w ≤ 16384
+  pub high : y ≤ 16384
+
+-- column c of row r lies outside the square
+abbrev pub Outside : (x y n c r : ℕ) → Type 0
+Outside x y n c r = Off x n c ⊎ Off y n r
+
+-- a row's end is no further than the rows below it begin
+pub next-row : (q r w : ℕ) → q < r → q * w + w ≤ r * w
+next-row q r w h = omega (arith, mul-le-mul-right {m = q + 1} {n = r} w (omega arith), add-mul q 1 w, one-mul w)
+
+-- n samples of a row above row h lie in a plane that has h rows
+pub run-inside : {y h w len : ℕ} (x n : ℕ) → y < h → x + n ≤ w → h * w ≤ len → y * w + x + n ≤ len
+run-inside {y} {h} {w} {len} x n p q r = omega (arith, next-row y h w p)
+
+-- a square reaches the row above it and the column left of it
+module _ {len w x y n : ℕ} (s : Square len w x y n) where
+  pub reach-left : {z : ℕ} → z ≤ y + n → Reach len w x z
+  reach-left {z} h = record { column = omega arith; rows = omega (arith, s .rows, mul-le-mul-right {m = z} {n = y + n} w h); wide = s .wide; high = omega arith }
+
+  pub reach-above : {z : ℕ} → z ≤ w → Reach len w z y
+  reach-above h = let r = reach-left {z = y} (omega arith) in record { column = h; rows = r .rows; wide = r .wide; high = r .high }
+
+  -- a square in it
+  pub sub-square : (a b k : ℕ) → a + k ≤ n → b + k ≤ n → Square len w (x + a) (y + b) k
+  sub-square a b k f g =
+      record { columns = omega arith; rows = omega (arith, s .rows, mul-le-mul-right {m = y + b + k} {n = y + n} w (omega arith)); wide = s .wide; high = omega arith }
+
+-- what is reached lies in the plane
+pub reach-at : {len w x y : ℕ} → Reach len w x y → 0 < x → 0 < y → (y - 1) * w + (x - 1) < len
+reach-at {len} {w} {x} {y} r p q = omega (arith, run-inside {y = y - 1} {h = y} {w = w} {len = len} (x - 1) 1 (omega arith) (omega arith) (r .rows))
+
+pub reach-run : {len w y : ℕ} (x n : ℕ) → Reach len w (x + n) y → 0 < y → (y - 1) * w + x + n ≤ len
+reach-run {len} {w} {y} x n r q = run-inside {y = y - 1} {h = y} x n (omega arith) (r .column) (r .rows)
+
+-- a place of another row, or of the same row and another column, is off n samples of row q from column x on
+pub apart : (q r w x n c : ℕ) → c < w → x + n ≤ w → Off x n c ⊎ Off q 1 r → Off (q * w + x) n (r * w + c)
+apart q r w x n c h l (inr (inl a)) = inl (omega (arith, next-row r q w a))
+apart q r w x n c h l (inr (inr a)) = inr (omega (arith, next-row q r w (omega arith)))
+apart q r w x n c h l (inl o) = elim (ℕ-discrete q r) [ yes e ↦ rw e (same o) | no e ↦ other e ]
+  where
+    same : Off x n c → Off (r * w + x) n (r * w + c)
+    same (inl a) = inl (omega arith)
+    same (inr a) = inr (omega arith)
+
+    other : (q ≡ r → ⊥) → Off (q * w + x) n (r * w + c)
+    other e = elim (decLt q r) [ yes f ↦ inr (omega (arith, next-row q r w f)) | no f ↦ inl (omega (arith, next-row r q w (omega arith))) ]
+
+-- what lies outside a square lies outside each square in it
+pub outside-sub : {x y n c r : ℕ} (a b k : ℕ) → a + k ≤ n → b + k ≤ n → Outside x y n c r → Outside (x + a) (y + b) k c r
+outside-sub a b k f g (inl (inl h)) = inl (inl (omega arith))
+outside-sub a b k f g (inl (inr h)) = inl (inr (omega arith))
+outside-sub a b k f g (inr (inl h)) = inr (inl (omega arith))
+outside-sub a b k f g (inr (inr h)) = inr (inr (omega arith))
+
+-- ---- sub-blocks
+-- how many a side has, and sub-block i among them
+abbrev pub Sides : ℕ → Type 0
+Sides m = (m ≡ 2) ⊎ (m ≡ 4)
+
+pub record Cell (m i column row : ℕ) : Type 0 where
+  pub across : column ≡ columnOf m i
+  pub down : row ≡ rowOf m i
+  pub inside : column + 4 ≤ 4 * m
+  pub above : row + 4 ≤ 4 * m
+
+-- what holds of both holds of each
+pub by-sides : (P : ℕ → Type 0) → P 2 → P 4 → {m : ℕ} → Sides m → P m
+by-sides P a b (inl e) = subst P (sym e) a
+by-sides P a b (inr e) = subst P (sym e) b
+
+pub sides-few : {m : ℕ} → Sides m → (0 < m) × (m ≤ 4)
+sides-few s = by-sides (λ (m : ℕ). (0 < m) × (m ≤ 4)) (omega arith, omega arith) (omega arith, omega arith) s
+
+pub sides-square : {m : ℕ} → Sides m → m * m ≤ 16
+sides-square s = by-sides (λ (m : ℕ). m * m ≤ 16) (omega arith) (omega arith) s
+
+pub cell : {m i : ℕ} → Sides m → i < m * m → Cell m i (columnOf m i) (rowOf m i)
+cell {m} {i} s =
+    by-sides (λ (m : ℕ). i < m * m → Cell m i (columnOf m i) (rowOf m i))
+    (λ h. record { across = refl; down = refl; inside = omega arith; above = omega arith })
+    (λ h. record { across = refl; down = refl; inside = omega arith; above = omega arith }) s
+
+-- a sub-block that is not in the last column has one right of it
+pub not-last : (i : ℕ) → eqb (i % 4) 3 ≡ false → columnOf 4 i + 8 ≤ 16
+not-last i e = let n = eqb-false (i % 4) 3 e in omega arith
+
+-- the next sub-block lies right of it, or begins the next row
+pub record Right (m i : ℕ) : Type 0 where
+  pub down : rowOf m (suc i) ≡ rowOf m i
+  pub across : columnOf m (suc i) ≡ columnOf m i + 4
+
+pub record Below (m i : ℕ) : Type 0 where
+  pub down : rowOf m (suc i) ≡ rowOf m i + 4
+  pub across : columnOf m (suc i) ≡ 0
+  pub last : columnOf m i + 4 ≡ 4 * m
+
+pub next-cell : {m : ℕ} (i : ℕ) → Sides m → Right m i ⊎ Below m i
+next-cell i s = by-sides (λ (m : ℕ). Right m i ⊎ Below m i) two four s
+  where
+    two : Right 2 i ⊎ Below 2 i
+    two = elim (lt-or (i % 2) 1) [
+      | inl h ↦ inl (record { down = omega arith; across = omega arith })
+      | inr h ↦ inr (record { down = omega arith; across = omega arith; last = omega arith })
+    ]
+
+    four : Right 4 i ⊎ Below 4 i
+    four = elim (lt-or (i % 4) 3) [
+      | inl h ↦ inl (record { down = omega arith; across = omega arith })
+      | inr h ↦ inr (record { down = omega arith; across = omega arith; last = omega arith })
+    ]
+
+-- ---- column c of row r stands when sub-block i of the square is due: above the square, left of it, in a row of sub-blocks before, or
+-- before it in its row
+pub data Stands (x y m i c r : ℕ) : Type 0 where
+  over : r < y → Stands x y m i c r
+  beside : r < y + 4 * m → c < x → Stands x y m i c r
+  higher : r < y + 4 * m → r < y + rowOf m i → c < x + 4 * m → Stands x y m i c r
+  before : r < y + 4 * m → r < y + rowOf m i + 4 → c < x + columnOf m i → Stands x y m i c r
+
+-- before the first only what lies above and left
+pub stands-first : {x y m c r : ℕ} → Sides m → Stands x y m 0 c r → (r < y) ⊎ ((r < y + 4 * m) × (c < x))
+stands-first s (over h) = inl h
+stands-first s (beside h k) = inr (h, k)
+stands-first s (higher h k l) = let z = by-sides (λ (m : ℕ). rowOf m 0 ≡ 0) refl refl s in inl (omega arith)
+stands-first s (before h k l) = let z = by-sides (λ (m : ℕ). columnOf m 0 ≡ 0) refl refl s in inr (h, omega arith)
+
+-- after the last the whole square
+pub stands-last : {x y m c r : ℕ} → Sides m → r < y + 4 * m → c < x + 4 * m → Stands x y m (m * m) c r
+stands-last s h k = let z = by-sides (λ (m : ℕ). rowOf m (m * m) ≡ 4 * m) refl refl s in higher h (omega arith) k
+
+-- what stands after sub-block i and lies outside it stood before it; or it lies in it
+pub record Within (x y c r : ℕ) : Type 0 where
+  pub left : x ≤ c
+  pub right : c < x + 4
+  pub top : y ≤ r
+  pub bottom : r < y + 4
+
+pub stood : {x y m i c r : ℕ} → Sides m → i < m * m → Stands x y m (suc i) c r
+    → (Stands x y m i c r × Outside (x + columnOf m i) (y + rowOf m i) 4 c r) ⊎ Within (x + columnOf m i) (y + rowOf m i) c r
+stood {x} {y} {m} {i} {c} {r} s l (over h) = inl (over h, inr (inl (omega arith)))
+stood {x} {y} {m} {i} {c} {r} s l (beside h k) = inl (beside h k, inl (inl (omega arith)))
+stood {x} {y} {m} {i} {c} {r} s l (higher h k q) = elim (next-cell i s) [ inl n ↦ same n | inr n ↦ below n ]
+  where
+    same : Right m i → (Stands x y m i c r × Outside (x + columnOf m i) (y + rowOf m i) 4 c r) ⊎ Within (x + columnOf m i) (y + rowOf m i) c r
+    same n = inl (higher h (omega (arith, n .down)) q, inr (inl (omega (arith, n .down))))
+
+    below : Below m i → (Stands x y m i c r × Outside (x + columnOf m i) (y + rowOf m i) 4 c r) ⊎ Within (x + columnOf m i) (y + rowOf m i) c r
+    below n = elim (lt-or r (y + rowOf m i)) [
+      | inl a ↦ inl (higher h a q, inr (inl a))
+      | inr a ↦ elim (lt-or c (x + columnOf m i)) [
+        | inl b ↦ inl (before h (omega (arith, n .down)) b, inl (inl b))
+        | inr b ↦ inr (record { left = b; right = omega (arith, n .last); top = a; bottom = omega (arith, n .down) })
+      ]
+    ]
+stood {x} {y} {m} {i} {c} {r} s l (before h k q) = elim (next-cell i s) [ inl n ↦ same n | inr n ↦ below n ]
+  where
+    same : Right m i → (Stands x y m i c r × Outside (x + columnOf m i) (y + rowOf m i) 4 c r) ⊎ Within (x + columnOf m i) (y + rowOf m i) c r
+    same n = elim (lt-or r (y + rowOf m i)) [
+      | inl a ↦ inl (higher h a (omega (arith, n .across, cell s l .inside)), inr (inl a))
+      | inr a ↦ elim (lt-or c (x + columnOf m i)) [
+        | inl b ↦ inl (before h (omega (arith, n .down)) b, inl (inl b))
+        | inr b ↦ inr (record { left = b; right = omega (arith, n .across); top = a; bottom = omega (arith, n .down) })
+      ]
+    ]
+
+    below : Below m i → (Stands x y m i c r × Outside (x + columnOf m i) (y + rowOf m i) 4 c r) ⊎ Within (x + columnOf m i) (y + rowOf m i) c r
+    below n = inl (beside h (omega (arith, n .across)), inl (inl (omega (arith, n .across))))
+
+-- a place in sub-block i lies outside those after it
+pub later : {m c r : ℕ} (x y i j : ℕ) → Sides m → i < j → Within (x + columnOf m i) (y + rowOf m i) c r → Outside (x + columnOf m j) (y + rowOf m j) 4 c r
+later {m} {c} {r} x y i j s h k = go (by-sides Apart two four s)
+  where
+    Apart : ℕ → Type 0
+    Apart m = (i % m < j % m) ⊎ ((j % m < i % m) ⊎ (i / m < j / m))
+
+    two : Apart 2
+    two = elim (lt-or (i % 2) (j % 2)) [ inl a ↦ inl a | inr a ↦ elim (lt-or (j % 2) (i % 2)) [ inl b ↦ inr (inl b) | inr b ↦ inr (inr (omega arith)) ] ]
+
+    four : Apart 4
+    four = elim (lt-or (i % 4) (j % 4)) [ inl a ↦ inl a | inr a ↦ elim (lt-or (j % 4) (i % 4)) [ inl b ↦ inr (inl b) | inr b ↦ inr (inr (omega arith)) ] ]
+
+    go : Apart m → Outside (x + columnOf m j) (y + rowOf m j) 4 c r
+    go (inl a) = inl (inl (omega (arith, k .right)))
+    go (inr (inl a)) = inl (inr (omega (arith, k .left)))
+    go (inr (inr a)) = inr (inl (omega (arith, k .bottom)))
+
+-- ---- sizes
+pub by-size : (P : ℕ → Type 0) → P 8 → P 16 → {n : ℕ} → Size n → P n
+by-size P a b (inl e) = subst P (sym e) a
+by-size P a b (inr e) = subst P (sym e) b
+
+pub size-some : {n : ℕ} → Size n → (0 < n) × (n ≤ 16)
+size-some s = by-size (λ (n : ℕ). (0 < n) × (n ≤ 16)) (omega arith, omega arith) (omega arith, omega arith) s
+
+-- a square of n by n as sub-blocks
+pub quarter : {n : ℕ} → Size n → 4 * (n / 4) ≡ n
+quarter s = by-size (λ (n : ℕ). 4 * (n / 4) ≡ n) refl refl s
+
+pub size-sides : {n : ℕ} → Size n → Sides (n / 4)
+size-sides s = by-size (λ (n : ℕ). Sides (n / 4)) (inl refl) (inr refl) s
+
+pub size-blocks : {n : ℕ} → Size n → n * n ≡ 16 * (n / 4 * (n / 4))
+size-blocks s = by-size (λ (n : ℕ). n * n ≡ 16 * (n / 4 * (n / 4))) refl refl s
+
+-- the kth of whole squares of n in m
+pub tiles : {n : ℕ} (m k : ℕ) → Size n → m % n ≡ 0 → k < m / n → (k * n + n ≤ m) × (k * n + n < m → k * n + n + n ≤ m)
+tiles m k s =
+    by-size (λ (n : ℕ). m % n ≡ 0 → k < m / n → (k * n + n ≤ m) × (k * n + n < m → k * n + n + n ≤ m))
+    (λ e h. (omega arith, λ l. omega arith)) (λ e h. (omega arith, λ l. omega arith)) s

@@ -1,0 +1,127 @@
+-- Prediction of a block from the samples around it (RFC 6386, section 12).
+use Prim.Native.Nat.{ℕ, zero, suc, _+_, _-_, _*_, _/_, _%_, _≤_, _<_}
+use mathlib.Core.Path.{_≡_}
+use mathlib.Core.Logic.{_⊎_}
+use mathlib.Core.Bool.{Bool, true, false}
+use mathlib.Core.List.{List, [], _∷_}
+use lib.ListN.{getD, replicate}
+use lib.IntN.{ℤ, pos, _+ℤ_, _-ℤ_}
+use Rattle.numbers.specs.Clamp.{clipZ}
+use Rattle.numbers.specs.Lists.{build}
+use Rattle.planes.specs.declared.predict.Edge.{Edge}
+
+-- a macroblock's square: 16 in luma, 8 in chroma
+abbrev pub Size : ℕ → Type 0
+Size n = (n ≡ 8) ⊎ (n ≡ 16)
+
+-- ---- section 12.3: a sub-block, from the edge E of thirteen samples around it: the left column from its bottom (E 0 .. E 3), the
+-- corner (E 4), the row above and the four samples to its right (E 5 .. E 12)
+abbrev pub at : List ℕ → ℕ → ℕ
+at e i = getD e i 0
+
+-- avg2 and avg3 of the RFC: the mean of E i and E (i + 1); and of E (i - 1), E i twice, E (i + 1)
+abbrev pub mean2 : ℕ → ℕ → ℕ
+mean2 x y = (x + y + 1) / 2
+
+abbrev pub mean3 : ℕ → ℕ → ℕ → ℕ
+mean3 x y z = (x + y + y + z + 2) / 4
+
+abbrev pub two : List ℕ → ℕ → ℕ
+two e i = mean2 (at e i) (at e (i + 1))
+
+abbrev pub three : List ℕ → ℕ → ℕ
+three e i = mean3 (at e (i - 1)) (at e i) (at e (i + 1))
+
+-- the ten modes: rows from the top, each from the left
+unfoldable pub dcBlock : List ℕ → List ℕ
+dcBlock e =
+    replicate 16 ((at e 0 + at e 1 + at e 2 + at e 3 + at e 5 + at e 6 + at e 7 + at e 8 + 4) / 8)
+
+unfoldable pub tmBlock : List ℕ → List ℕ
+tmBlock e = build 16 (λ k. clipZ (pos (at e (3 - k / 4)) +ℤ pos (at e (5 + k % 4)) -ℤ pos (at e 4)))
+
+unfoldable pub veBlock : List ℕ → List ℕ
+veBlock e =
+    let a = three e 5 in let b = three e 6 in let c = three e 7 in let d = three e 8 in
+    a ∷ b ∷ c ∷ d ∷ a ∷ b ∷ c ∷ d ∷ a ∷ b ∷ c ∷ d ∷ a ∷ b ∷ c ∷ d ∷ []
+
+unfoldable pub heBlock : List ℕ → List ℕ
+heBlock e =
+    let a = three e 3 in let b = three e 2 in let c = three e 1 in let d = mean3 (at e 1) (at e 0) (at e 0) in
+    a ∷ a ∷ a ∷ a ∷ b ∷ b ∷ b ∷ b ∷ c ∷ c ∷ c ∷ c ∷ d ∷ d ∷ d ∷ d ∷ []
+
+unfoldable pub rdBlock : List ℕ → List ℕ
+rdBlock e =
+    three e 4 ∷ three e 5 ∷ three e 6 ∷ three e 7
+    ∷ three e 3 ∷ three e 4 ∷ three e 5 ∷ three e 6
+    ∷ three e 2 ∷ three e 3 ∷ three e 4 ∷ three e 5
+    ∷ three e 1 ∷ three e 2 ∷ three e 3 ∷ three e 4 ∷ []
+
+unfoldable pub vrBlock : List ℕ → List ℕ
+vrBlock e =
+    two e 4 ∷ two e 5 ∷ two e 6 ∷ two e 7
+    ∷ three e 4 ∷ three e 5 ∷ three e 6 ∷ three e 7
+    ∷ three e 3 ∷ two e 4 ∷ two e 5 ∷ two e 6
+    ∷ three e 2 ∷ three e 4 ∷ three e 5 ∷ three e 6 ∷ []
+
+unfoldable pub ldBlock : List ℕ → List ℕ
+ldBlock e =
+    three e 6 ∷ three e 7 ∷ three e 8 ∷ three e 9
+    ∷ three e 7 ∷ three e 8 ∷ three e 9 ∷ three e 10
+    ∷ three e 8 ∷ three e 9 ∷ three e 10 ∷ three e 11
+    ∷ three e 9 ∷ three e 10 ∷ three e 11 ∷ mean3 (at e 11) (at e 12) (at e 12) ∷ []
+
+unfoldable pub vlBlock : List ℕ → List ℕ
+vlBlock e =
+    two e 5 ∷ two e 6 ∷ two e 7 ∷ two e 8
+    ∷ three e 6 ∷ three e 7 ∷ three e 8 ∷ three e 9
+    ∷ two e 6 ∷ two e 7 ∷ two e 8 ∷ three e 10
+    ∷ three e 7 ∷ three e 8 ∷ three e 9 ∷ three e 11 ∷ []
+
+unfoldable pub hdBlock : List ℕ → List ℕ
+hdBlock e =
+    two e 3 ∷ three e 4 ∷ three e 5 ∷ three e 6
+    ∷ two e 2 ∷ three e 3 ∷ two e 3 ∷ three e 4
+    ∷ two e 1 ∷ three e 2 ∷ two e 2 ∷ three e 3
+    ∷ two e 0 ∷ three e 1 ∷ two e 1 ∷ three e 2 ∷ []
+
+unfoldable pub huBlock : List ℕ → List ℕ
+huBlock e =
+    two e 2 ∷ three e 2 ∷ two e 1 ∷ three e 1
+    ∷ two e 1 ∷ three e 1 ∷ two e 0 ∷ mean3 (at e 1) (at e 0) (at e 0)
+    ∷ two e 0 ∷ mean3 (at e 1) (at e 0) (at e 0) ∷ at e 0 ∷ at e 0
+    ∷ at e 0 ∷ at e 0 ∷ at e 0 ∷ at e 0 ∷ []
+
+-- by the source's mode numbers
+abbrev pub blocksOf : List ℕ → List (List ℕ)
+blocksOf e = dcBlock e ∷ tmBlock e ∷ veBlock e ∷ heBlock e ∷ rdBlock e ∷ vrBlock e ∷ ldBlock e ∷ vlBlock e ∷ hdBlock e ∷ huBlock e ∷ []
+
+abbrev pub smallOf : ℕ → List ℕ → List ℕ
+smallOf mode e = getD (blocksOf e) mode []
+
+-- ---- section 12.2: a whole square, 16 or 8 wide
+-- the sum of the first n
+unfoldable pub sumOf : List ℕ → ℕ → ℕ
+sumOf l zero = 0
+sumOf l (suc n) = sumOf l n + getD l n 0
+
+-- DC: the mean of the neighbours that are inside, or 128
+abbrev pub meanOf : Bool → Bool → ℕ → ℕ → ℕ → ℕ
+meanOf true true n a l = (a + l + n) / (n + n)
+meanOf true false n a l = (a + n / 2) / n
+meanOf false true n a l = (l + n / 2) / n
+meanOf false false n a l = 128
+
+unfoldable pub dcOf : ℕ → Edge → ℕ
+dcOf n e = meanOf (e .over) (e .beside) n (sumOf (e .above) n) (sumOf (e .left) n)
+
+-- large modes 0 DC, 1 TM, 2 V, 3 H: the sample at row r, column c of the square
+abbrev pub largeAt : ℕ → ℕ → Edge → ℕ → ℕ → ℕ
+largeAt mode dc e r c =
+    let a = getD (e .above) c 0 in
+    let l = getD (e .left) r 0 in
+    getD (dc ∷ clipZ (pos l +ℤ pos a -ℤ pos (e .corner)) ∷ a ∷ l ∷ []) mode 0
+
+-- its sub-block at row r, column c
+unfoldable pub largeOf : ℕ → ℕ → Edge → ℕ → ℕ → List ℕ
+largeOf mode dc e r c = build 16 (λ k. largeAt mode dc e (r + k / 4) (c + k % 4))

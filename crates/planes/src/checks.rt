@@ -1,0 +1,70 @@
+// Whether the arguments of the public call lie in their ranges. Nothing is multiplied before it is known to be small.
+ghost use mathlib.Core.Path.{_≡_};
+ghost use Prim.Native.Nat.{_*_, _≤_};
+ghost use Rattle.planes.specs.Predict.{Size};
+ghost use Rattle.planes.specs.Paint.{eachBelow, eachFits, modesFine, squareFine, coefficientsFine};
+
+fn each_below(modes: &[u8; 16], limit: u8) -> bool
+    ensures { λ r. ⌜ r ≡ eachBelow limit (now (modes .entry)) ⌝ }
+{
+    let mut fine = true;
+    for k in 0..16usize {
+        fine = (modes[k] < limit) & fine;
+    }
+    fine
+}
+
+fn each_fits(c: &[i32]) -> bool
+    ensures { λ r. ⌜ r ≡ eachFits (now (c .entry)) ⌝ }
+{
+    let mut fine = true;
+    for k in 0..c.len() {
+        let x = c[k];
+        fine = (-32768 <= x) & (x <= 32767) & fine;
+    }
+    fine
+}
+
+// The size, and the modes that count.
+pub(crate) fn modes_fine(size: usize, small: bool, mode: u8, modes: &[u8; 16]) -> bool
+    ensures { λ r. ⌜ r ≡ modesFine size small mode (now (modes .entry)) ⌝ }
+{
+    if small {
+        (size == 16) & each_below(modes, 10)
+    } else {
+        ((size == 8) | (size == 16)) & (mode < 4)
+    }
+}
+
+// The plane, and the square in it.
+pub(crate) fn square_fine(len: usize, stride: usize, column: usize, row: usize, size: usize) -> bool
+    requires { ⌜ Size size ⌝ }
+    ensures { λ r. ⌜ r ≡ squareFine len stride column row size ⌝ }
+{
+    if stride == 0 {
+        return false;
+    }
+    let rows = len / stride;
+    (stride <= 16384)
+        & (rows <= 16384)
+        & (stride % size == 0)
+        & (rows % size == 0)
+        & (len % stride == 0)
+        & (column < stride / size)
+        & (row < rows / size)
+}
+
+pub(crate) fn coefficients_fine(size: usize, c: &[i32]) -> bool
+    requires { ⌜ Size size ⌝ }
+    ensures { λ r. ⌜ r ≡ coefficientsFine size (now (c .entry)) ⌝ }
+{
+    (c.len() == size * size) & each_fits(c)
+}
+
+// Where the kth square of a row or a column begins.
+pub(crate) fn scaled(k: usize, size: usize) -> usize
+    requires { ⌜ (k ≤ 16384) × (size ≤ 16384) ⌝ }
+    ensures { λ r. ⌜ r ≡ k * size ⌝ }
+{
+    k * size
+}

@@ -1,0 +1,153 @@
+// What lies around a square or a sub-block of a plane (RFC 6386, sections 12.2 and 12.3). Outside the plane 127 lies above, the corner
+// too, and 129 to the left.
+use crate::predict::Edge;
+ghost use mathlib.Core.Path.{_≡_};
+ghost use mathlib.Core.Bool.{false};
+ghost use Prim.Native.Nat.{_+_, _*_, _<_, _≤_};
+ghost use lib.ListN.{length};
+ghost use Rattle.planes.specs.Paint.{nearOf, aboveOf, leftOf, firstAbove, firstLeft, edgeOf, rightOf, aroundOf, asideOf};
+ghost use Rattle.planes.specs.Places.{Square, Reach};
+
+// Where column x of row y lies, in rows of w samples.
+pub(crate) fn place(y: usize, w: usize, x: usize) -> usize
+    requires { ⌜ (y ≤ 16384) × (w ≤ 16384) × (x ≤ 16384) ⌝ }
+    ensures { λ r. ⌜ r ≡ y * w + x ⌝ }
+{
+    y * w + x
+}
+
+// The sample at column x of row y, both counted from 1: at 0 they lie outside.
+fn near(p: &[u8], w: usize, x: usize, y: usize) -> u8
+    requires { ⌜ Reach (length (now p)) w x y ⌝ }
+    ensures { λ r. ⌜ r ≡ nearOf (now (p .entry)) w x y ⌝ }
+{
+    if y == 0 {
+        return 127;
+    }
+    if x == 0 {
+        return 129;
+    }
+    p[place(y - 1, w, x - 1)]
+}
+
+// The four samples above columns x .. x + 3 of row y.
+fn above(p: &[u8], w: usize, x: usize, y: usize) -> [u8; 4]
+    requires { ⌜ Reach (length (now p)) w (x + 4) y ⌝ }
+    ensures { λ r. ⌜ r ≡ aboveOf (now (p .entry)) w x y ⌝ }
+{
+    if y == 0 {
+        return [127; 4];
+    }
+    let at = place(y - 1, w, x);
+    [p[at], p[at + 1], p[at + 2], p[at + 3]]
+}
+
+// The four samples left of column x in rows y .. y + 3.
+fn left(p: &[u8], w: usize, x: usize, y: usize) -> [u8; 4]
+    requires { ⌜ Reach (length (now p)) w x (y + 4) ⌝ }
+    ensures { λ r. ⌜ r ≡ leftOf (now (p .entry)) w x y ⌝ }
+{
+    if x == 0 {
+        return [129; 4];
+    }
+    [
+        p[place(y, w, x - 1)],
+        p[place(y + 1, w, x - 1)],
+        p[place(y + 2, w, x - 1)],
+        p[place(y + 3, w, x - 1)],
+    ]
+}
+
+// The row above a square, and the column left of it.
+fn first_above(p: &[u8], w: usize, x: usize, y: usize, size: usize) -> [u8; 16]
+    requires { ⌜ Square (length (now p)) w x y size ⌝ }
+    requires { ⌜ size ≤ 16 ⌝ }
+    ensures { λ r. ⌜ r ≡ firstAbove (now (p .entry)) w x y size ⌝ }
+{
+    let mut e = [0u8; 16];
+    for k in 0..size {
+        e[k] = near(p, w, x + 1 + k, y);
+    }
+    e
+}
+
+fn first_left(p: &[u8], w: usize, x: usize, y: usize, size: usize) -> [u8; 16]
+    requires { ⌜ Square (length (now p)) w x y size ⌝ }
+    requires { ⌜ size ≤ 16 ⌝ }
+    ensures { λ r. ⌜ r ≡ firstLeft (now (p .entry)) w x y size ⌝ }
+{
+    let mut e = [0u8; 16];
+    for k in 0..size {
+        e[k] = near(p, w, x, y + 1 + k);
+    }
+    e
+}
+
+// What lies around a square.
+pub(crate) fn edge(p: &[u8], w: usize, x: usize, y: usize, size: usize) -> Edge
+    requires { ⌜ Square (length (now p)) w x y size ⌝ }
+    requires { ⌜ size ≤ 16 ⌝ }
+    ensures { λ r. ⌜ r ≡ edgeOf (now (p .entry)) w x y size ⌝ }
+{
+    let a = first_above(p, w, x, y, size);
+    let l = first_left(p, w, x, y, size);
+    let corner = near(p, w, x, y);
+    Edge {
+        above: a,
+        left: l,
+        corner: corner,
+        over: 0 < y,
+        beside: 0 < x,
+    }
+}
+
+// The four samples above and right of a macroblock; past the last column the last sample above, four times.
+pub(crate) fn right(p: &[u8], w: usize, x: usize, y: usize) -> [u8; 4]
+    requires { ⌜ Square (length (now p)) w x y 16 ⌝ }
+    requires { ⌜ (x + 16 < w → x + 20 ≤ w) ⌝ }
+    ensures { λ r. ⌜ r ≡ rightOf (now (p .entry)) w x y ⌝ }
+{
+    if x + 16 == w {
+        return [near(p, w, w, y); 4];
+    }
+    above(p, w, x + 16, y)
+}
+
+// The four samples above and right of a sub-block: those of the macroblock for its last column.
+fn aside(p: &[u8], w: usize, x: usize, y: usize, last: bool, right: [u8; 4]) -> [u8; 4]
+    requires { ⌜ Square (length (now p)) w x y 4 ⌝ }
+    requires { ⌜ (last ≡ false → x + 8 ≤ w) ⌝ }
+    ensures { λ r. ⌜ r ≡ asideOf (now (p .entry)) w x y last right ⌝ }
+{
+    if last {
+        return right;
+    }
+    above(p, w, x + 4, y)
+}
+
+// The thirteen samples around a sub-block.
+pub(crate) fn around(p: &[u8], w: usize, x: usize, y: usize, last: bool, right: [u8; 4]) -> [u8; 13]
+    requires { ⌜ Square (length (now p)) w x y 4 ⌝ }
+    requires { ⌜ (last ≡ false → x + 8 ≤ w) ⌝ }
+    ensures { λ r. ⌜ r ≡ aroundOf (now (p .entry)) w x y (asideOf (now (p .entry)) w x y last right) ⌝ }
+{
+    let l = left(p, w, x, y);
+    let c = near(p, w, x, y);
+    let a = above(p, w, x, y);
+    let r = aside(p, w, x, y, last, right);
+    [
+        l[3],
+        l[2],
+        l[1],
+        l[0],
+        c,
+        a[0],
+        a[1],
+        a[2],
+        a[3],
+        r[0],
+        r[1],
+        r[2],
+        r[3],
+    ]
+}

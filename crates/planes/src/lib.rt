@@ -1,0 +1,56 @@
+// Planes of samples: the prediction of a macroblock's square, its residual added, and both painted (RFC 6386, sections 12 and 14.5).
+// A plane is lent: the sample at column x of row y is element y * stride + x.
+mod blocks;
+mod checks;
+mod edges;
+mod predict;
+
+ghost use mathlib.Core.Path.{_≡_};
+ghost use Rattle.planes.specs.Paint.{paintOf};
+
+// Whether a square was painted. Refused: an argument lies outside its range, and the plane is as it was.
+pub enum Painted {
+    Done,
+    Refused,
+}
+
+// Paints the square of macroblock (column, row): 16 samples wide in luma, where the modes may be small, and 8 in chroma.
+// `coefficients` has sixteen for each sub-block of 4 by 4, in raster order; `mode` counts where `small` does not hold, `modes` where
+// it does.
+pub fn paint(
+    plane: &mut [u8],
+    stride: usize,
+    column: usize,
+    row: usize,
+    size: usize,
+    small: bool,
+    mode: u8,
+    modes: &[u8; 16],
+    coefficients: &[i32],
+) -> Painted
+    ensures { λ q. ⌜ record { answer = q; plane = now (plane .exit) } ≡ paintOf (now (plane .entry)) stride column row size small mode (now (modes .entry)) (now (coefficients .entry)) ⌝ }
+{
+    if !checks::modes_fine(size, small, mode, modes) {
+        return Painted::Refused;
+    }
+    if !checks::square_fine(plane.len(), stride, column, row, size) {
+        return Painted::Refused;
+    }
+    if !checks::coefficients_fine(size, coefficients) {
+        return Painted::Refused;
+    }
+    let x = checks::scaled(column, size);
+    let y = checks::scaled(row, size);
+    blocks::square(
+        &mut plane[..],
+        stride,
+        x,
+        y,
+        size,
+        small,
+        mode,
+        modes,
+        coefficients,
+    );
+    Painted::Done
+}

@@ -1,0 +1,65 @@
+use Rattle.coefficients.proofs.TokenAnswers.{not-ended}
+use Rattle.residual.proofs.Turns.{second-fine, second-lost, second-read}
+use borrow.Author.Needs.{needs}
+use native.Mathlib.Omega.{arith}
+use Rattle.residual.specs.ResidualLaws.{zeros-sixteen}
+use Rattle.residual.proofs.blocks.read_second.Statement.{statement}
+use Rattle.residual.proofs.blocks.read_second.Tie as tie
+
+second-kind-requires : tie.Need-second-kind-requires
+second-kind-requires c κs = search needs
+
+read-coded-requires : tie.Need-read-coded-requires
+read-coded-requires c κs =
+    let b = c .before .before .before .before in
+    let h = b .pre in
+    ((h .reader, h .size), (((h .whole .top, h .whole .left), (omega arith, omega arith)), (second-fine (b .args .f) (c .before .second-kind .ensures), zeros-sixteen)))
+
+enum-known-end : tie.Need-enum-known-end
+enum-known-end c = search needs
+
+returns : tie.Need-returns
+returns c =
+    let x = c .before in
+    let k = x .before .before in
+    let a = k .before .before .before .args in
+    second-lost (a .s .now) (a .table .now) (a .f) (a .m) (a .flat .now) (k .second-kind .ensures)
+    (x .read-coded .result) (x .read-coded .last .1 .1 .1 .1 .1 .0) (x .read-coded .ensures) (not-ended _ (x .read-coded .result) (c .match .keys2))
+
+transform-requires : tie.Need-transform-requires
+transform-requires c κs = search needs
+
+spread-requires : tie.Need-spread-requires
+spread-requires c κs = search needs
+
+passed-requires : tie.Need-passed-requires
+passed-requires c κs = search needs
+
+same-length : tie.Need-same-length
+same-length c = search needs
+
+returns-2 : tie.Need-returns-2
+returns-2 c =
+    let d = c .before .before .before in
+    let t = d .before .before .before .before in
+    let x = t .before .before .before .before .before in
+    let k = x .before .before in
+    let b = k .before .before .before in
+    let a = b .args in
+    second-read (a .s .now) (a .table .now) (a .f) (a .m) (a .flat .now) (k .second-kind .ensures)
+    (x .read-coded .result) (x .read-coded .last .1 .1 .1 .1 .1 .0) (x .read-coded .ensures) (b .pre .reader) (λ i. k .before .before .shared-slice-known .given i .fits) (λ i. k .before .shared-slice-known2 .given i .fits)
+    (t .before .before .before .end .given .1) (t .transform .ensures) (d .spread .ensures) (c .passed .ensures)
+
+pub read-second-spec : {M : Type 1} → statement M
+read-second-spec =
+    tie.close
+    (tie.spec
+    second-kind-requires
+    read-coded-requires
+    enum-known-end
+    returns
+    transform-requires
+    spread-requires
+    passed-requires
+    same-length
+    returns-2)

@@ -1,0 +1,215 @@
+-- The residual of a macroblock (RFC 6386, section 13), as a grammar: the coefficients of its blocks, and the flags that they leave behind
+-- for the macroblocks below and to the right.
+use Prim.Native.Nat.{ℕ, zero, suc, _+_, _-_, _*_, _/_, _%_, _≤_}
+use mathlib.Core.Bool.{Bool, true, false, _&&_}
+use mathlib.Core.List.{List}
+use mathlib.Core.Path.{_≡_}
+use lib.Dec.{ltb, leb, eqb}
+use lib.IntN.{ℤ, pos, negsuc}
+use lib.ListN.{length, getD, set, replicate}
+use Rattle.numbers.specs.In.{Each}
+use Rattle.numbers.specs.Lists.{build}
+use Rattle.numbers.specs.Runs.{placed}
+use Rattle.numbers.specs.Tables.{allBelow}
+use Rattle.reader.specs.Boolean.{Given, given, missing, validOf, noReader}
+use Rattle.reader.specs.Header.{headerOf}
+use Rattle.reader.specs.Reading.{Reading, done, run, _>>=_}
+use Rattle.reader.specs.declared.boolean.Reader.{Reader}
+use Rattle.segments.specs.Quantizers.{factorsOf}
+use Rattle.segments.specs.declared.quantizers.Factors.{Factors}
+use Rattle.coefficients.specs.Tokens.{Coefficients, block, headerTable}
+use Rattle.coefficients.specs.Transform.{samplesOf}
+use Rattle.residual.specs.declared.Ended.{Ended}
+use Rattle.residual.specs.declared.Ended.the-variants as E
+use Rattle.residual.specs.declared.Residual.{Residual}
+use Rattle.residual.specs.declared.blocks.Kind.{Kind}
+use Rattle.residual.specs.declared.contexts.Place.{Place}
+
+-- What goes from block to block. Nine flags above and nine to the left say which neighbouring blocks had coefficients: 0..3 luma, 4..5 U,
+-- 6..7 V, 8 the second-order block. The 384 coefficients stand block after block: 16 of luma, 4 of U, 4 of V, sixteen numbers each.
+pub record Model : Type 0 where
+  pub top : List ℕ
+  pub left : List ℕ
+  pub coefficients : List ℤ
+  pub empty : Bool
+
+-- its range: nine flags, each 0 or 1, and 384 coefficients of 16 bits
+pub record Flags (l : List ℕ) : Type 0 where
+  pub long : length l ≡ 9
+  pub each : (i : ℕ) → getD l i 0 ≤ 1
+
+pub record Whole (m : Model) : Type 0 where
+  pub top : Flags (m .top)
+  pub left : Flags (m .left)
+  pub long : length (m .coefficients) ≡ 384
+  pub each : Each (negsuc 32767) (pos 32767) (m .coefficients)
+
+-- before the first block
+abbrev pub initial : (top left : List ℕ) → Model
+initial top left = record { top = top; left = left; coefficients = replicate 384 (pos 0); empty = true }
+
+-- ---- where a block's flags are (section 13.3): its column's above, its row's to the left
+unfoldable pub coordinates : (i : ℕ) → Place
+coordinates i =
+    elim (ltb i 16) [
+      | true ↦ record { x = i % 4; y = i / 4 }
+      | false ↦ let base = 4 + (i - 16) / 4 * 2 in record { x = base + i % 2; y = base + i % 4 / 2 }
+    ]
+
+-- ---- what a block's tokens go by (section 13.3): the kind of its probabilities, its first position, its factors
+-- the second-order block, Y2
+abbrev pub secondKind : Factors → Kind
+secondKind f = record { kind = 1; first = 0; q0 = f .y2dc; q1 = f .y2ac }
+
+-- luma with its first coefficient from Y2, and with its own where the modes are small
+abbrev pub lumaKind : Factors → (small : Bool) → Kind
+lumaKind f false = record { kind = 0; first = 1; q0 = f .ydc; q1 = f .yac }
+lumaKind f true = record { kind = 3; first = 0; q0 = f .ydc; q1 = f .yac }
+
+unfoldable pub kindOf : Factors → (small : Bool) → (i : ℕ) → Kind
+kindOf f small i =
+    elim (ltb i 16) [
+      | true ↦ lumaKind f small
+      | false ↦ record { kind = 2; first = 0; q0 = f .uvdc; q1 = f .uvac }
+    ]
+
+-- ---- one block
+abbrev pub flagOf : Bool → ℕ
+flagOf true = 1
+flagOf false = 0
+
+-- its tokens, in the context of its two flags, on the sixteen numbers that stand there
+abbrev pub coded : (table : List ℕ) → Kind → Place → (top left : List ℕ) → (old : List ℤ) → Reading Coefficients
+coded table k p top left old = block table (k .kind) (k .q0) (k .q1) (getD top (p .x) 0 + getD left (p .y) 0) (k .first) old
+
+-- after it both flags are 1 where it ended past its first position
+abbrev pub flagged : Kind → Place → (end : ℕ) → (coefficients : List ℤ) → (empty : Bool) → Model → Model
+flagged k p end coefficients empty m =
+    let flag = flagOf (ltb (k .first) end) in
+    record { top = set (m .top) (p .x) flag; left = set (m .left) (p .y) flag; coefficients = coefficients; empty = empty }
+
+-- ---- the second-order block, from sixteen zeros: its inverse Walsh transform gives the first coefficient of each luma block
+-- the first n numbers of dc, each at the start of its block
+unfoldable pub spread : (l dc : List ℤ) → (n : ℕ) → List ℤ
+spread l dc zero = l
+spread l dc (suc k) = set (spread l dc k) (16 * k) (getD dc k (pos 0))
+
+abbrev pub secondPlace : Place
+secondPlace = record { x = 8; y = 8 }
+
+unfoldable pub second : (table : List ℕ) → Factors → Model → Reading Model
+second table f m = do
+  c ← coded table (secondKind f) secondPlace (m .top) (m .left) (replicate 16 (pos 0))
+  done (flagged (secondKind f) secondPlace (c .end) (spread (m .coefficients) (samplesOf true (c .values)) 16) (m .empty) m)
+
+-- ---- block i of the 24
+-- the sixteen numbers from a place on, and sixteen others put there
+unfoldable pub sixteenAt : List ℤ → (at : ℕ) → List ℤ
+sixteenAt l at = build 16 (λ j. getD l (at + j) (pos 0))
+
+abbrev pub stored : List ℤ → (at : ℕ) → (c : List ℤ) → List ℤ
+stored l at c = placed l at (λ j. getD c j (pos 0)) 16
+
+abbrev pub zeroOf : ℤ → Bool
+zeroOf (pos zero) = true
+zeroOf (pos (suc n)) = false
+zeroOf (negsuc n) = false
+
+-- it leaves the macroblock empty where its end is at most 1 and its first coefficient is 0: coded zeros past it are something
+abbrev pub emptyOf : Coefficients → Bool
+emptyOf c = leb (c .end) 1 && zeroOf (getD (c .values) 0 (pos 0))
+
+module _ (table : List ℕ) (f : Factors) (small : Bool) where
+  unfoldable pub advance : (i : ℕ) → Model → Reading Model
+  advance i m = do
+    c ← coded table (kindOf f small i) (coordinates i) (m .top) (m .left) (sixteenAt (m .coefficients) (16 * i))
+    done (flagged (kindOf f small i) (coordinates i) (c .end) (stored (m .coefficients) (16 * i) (c .values)) (m .empty && emptyOf c) m)
+
+  -- `left` more blocks, from block i on
+  unfoldable pub blocksFrom : (left i : ℕ) → Model → Reading Model
+  blocksFrom zero i m = done m
+  blocksFrom (suc left) i m = do
+    next ← advance i m
+    blocksFrom left (i + 1) next
+
+-- ---- the macroblock
+-- small modes have no second-order block
+abbrev pub dcStage : (table : List ℕ) → Factors → (small : Bool) → Model → Reading Model
+dcStage table f true m = done m
+dcStage table f false m = second table f m
+
+-- a macroblock that is skipped has no coefficients, and clears its flags; that of the second-order block stays where it has none
+abbrev pub cleared : (small : Bool) → (flags : List ℕ) → List ℕ
+cleared true flags = set (replicate 9 0) 8 (getD flags 8 0)
+cleared false flags = replicate 9 0
+
+unfoldable pub residualOf : (table : List ℕ) → Factors → (small skip : Bool) → (top left : List ℕ) → Reading Model
+residualOf table f small true top left = done (initial (cleared small top) (cleared small left))
+residualOf table f small false top left = do
+  m ← dcStage table f small (initial top left)
+  blocksFrom table f small 24 0 m
+
+-- ---- the calls: the answer, and the 384 numbers that were lent, which are written only where the macroblock has ended
+pub record Called : Type 0 where
+  pub answer : Residual
+  pub out : List ℤ
+
+abbrev pub nothing : Ended → Residual
+nothing a = record { answer = a; top = replicate 9 0; left = replicate 9 0 }
+
+abbrev pub toCalled : (old : List ℤ) → Given Model → Called
+toCalled old (given m r) = record { answer = record { answer = E.Done r (m .empty); top = m .top; left = m .left }; out = m .coefficients }
+toCalled old missing = record { answer = nothing E.Missing; out = old }
+
+abbrev pub refused : (old : List ℤ) → Called
+refused old = record { answer = nothing E.Refused; out = old }
+
+-- each flag is 0 or 1
+abbrev pub flagsOf : List ℕ → Bool
+flagsOf l = allBelow 9 (λ i. leb (getD l i 0) 1)
+
+abbrev pub argumentsOf : (table : List ℕ) → (top left : List ℕ) → (size : ℕ) → Bool
+argumentsOf table top left size = eqb (length table) 1056 && (flagsOf top && (flagsOf left && eqb size 384))
+
+module _ (s : List ℕ) (r : Reader) where
+  unfoldable pub callOf : (table : List ℕ) → Factors → (small skip : Bool) → (top left : List ℕ) → (old : List ℤ) → Called
+  callOf table f small skip top left old = toCalled old (run (residualOf table f small skip top left) s r)
+
+  -- `decode`: refused where the reader, the table's length, a flag or the length of the lent numbers is out of range
+  unfoldable pub decodeOf : (table : List ℕ) → Factors → (small skip : Bool) → (top left : List ℕ) → (old : List ℤ) → Called
+  decodeOf table f small skip top left old =
+      elim (validOf s r && argumentsOf table top left (length old)) [
+        | true ↦ callOf table f small skip top left old
+        | false ↦ refused old
+      ]
+
+  -- `decode_header`: refused too where the header is not fine or there is no such segment
+  unfoldable pub decodeHeaderOf : (h : List ℤ) → (segment : ℕ) → (small skip : Bool) → (top left : List ℕ) → (old : List ℤ) → Called
+  decodeHeaderOf h segment small skip top left old =
+      elim (headerOf h && ltb segment 4) [
+        | true ↦ decodeOf (headerTable h) (factorsOf h segment) small skip top left old
+        | false ↦ refused old
+      ]
+
+-- ---- the answers as numbers and values: 7 where the tokens run out, 9 for a refusal, whose values are zero
+abbrev endedNumberOf : Ended → ℕ
+endedNumberOf (E.Done r empty) = 0
+endedNumberOf E.Missing = 7
+endedNumberOf E.Refused = 9
+
+abbrev pub residualNumberOf : Residual → ℕ
+residualNumberOf a = endedNumberOf (a .answer)
+
+pub record Values : Type 0 where
+  pub reader : Reader
+  pub empty : Bool
+  pub top : List ℕ
+  pub left : List ℕ
+
+abbrev endedValuesOf : (top left : List ℕ) → Ended → Values
+endedValuesOf top left (E.Done r empty) = record { reader = r; empty = empty; top = top; left = left }
+endedValuesOf top left E.Missing = record { reader = noReader; empty = false; top = top; left = left }
+endedValuesOf top left E.Refused = record { reader = noReader; empty = false; top = top; left = left }
+
+abbrev pub residualValuesOf : Residual → Values
+residualValuesOf a = endedValuesOf (a .top) (a .left) (a .answer)

@@ -1,0 +1,213 @@
+-- The residual one part at a time: what a part that the code read makes of the state, and what is then left to read.
+use Prim.Native.Nat.{ℕ, zero, suc, _+_, _*_, _≤_, _<_}
+use mathlib.Core.Bool.{Bool, true, false, _&&_}
+use mathlib.Core.Path.{_≡_, refl, sym, _∙_, ap, ap₂}
+use native.Mathlib.Numerals.{add-one}
+use native.Mathlib.Omega.{arith}
+use mathlib.Core.Logic.{inl, inr}
+use lib.Dec.{ltb, leb, eqb}
+use borrow.Author.Tests.{leb-true, eqb-true, le-leb, eq-eqb}
+use mathlib.Core.List.{List}
+use lib.IntN.{ℤ, pos}
+use lib.ListN.{length, getD, set, replicate, List·getD-eq-default}
+use Rattle.numbers.specs.Runs.{placed, placed-next}
+use Rattle.numbers.specs.Tables.{allBelow, all-below}
+use Rattle.numbers.specs.Tests.{lt-or, both-left, both-right, both-true, both-false}
+use Rattle.reader.specs.Boolean.{Given, given, missing, validOf}
+use Rattle.reader.specs.BooleanLaws.{Valid}
+use Rattle.reader.specs.Header.{headerOf}
+use Rattle.reader.specs.HeaderLaws.{header-length}
+use Rattle.reader.specs.Reading.{run}
+use Rattle.reader.specs.ReadingLaws.{run-done, run-then, run-stops}
+use Rattle.reader.specs.declared.boolean.Reader.{Reader}
+use Rattle.segments.specs.Quantizers.{factorsOf, quantizersOf}
+use Rattle.segments.specs.declared.quantizers.Factors.{Factors}
+use Rattle.segments.specs.declared.quantizers.Quantizers.{Quantizers}
+use Rattle.segments.specs.declared.quantizers.Quantizers.the-variants as Q
+use Rattle.coefficients.specs.TokenLaws.{Sixteen, fromBlock, decoded}
+use Rattle.coefficients.specs.TokenSteps.{table-done}
+use Rattle.coefficients.specs.Tokens.{Coefficients, headerTable, tableOf}
+use Rattle.coefficients.specs.Tokens as tokens
+use Rattle.coefficients.specs.declared.tokens.Block.{Block}
+use Rattle.coefficients.specs.declared.tokens.Table.{Table}
+use Rattle.coefficients.specs.Transform.{samplesOf}
+use Rattle.residual.specs.Residual.{Model, Flags, Whole, initial, coordinates, secondKind, kindOf, coded, flagged, spread, secondPlace, second, sixteenAt, stored, emptyOf, advance, blocksFrom, dcStage, cleared, residualOf, nothing, toCalled, flagsOf, argumentsOf, callOf, decodeOf, decodeHeaderOf}
+use Rattle.residual.specs.declared.Ended.the-variants as E
+use Rattle.residual.specs.declared.Residual.{Residual}
+use Rattle.residual.specs.declared.blocks.Kind.{Kind}
+use Rattle.residual.specs.declared.blocks.State.{State}
+use Rattle.residual.specs.declared.contexts.Place.{Place}
+
+-- the code's state with the coefficients beside it
+abbrev pub modelOf : State → List ℤ → Model
+modelOf m l = record { top = m .top; left = m .left; coefficients = l; empty = m .empty }
+
+-- what a part that ended, or not, gives
+abbrev pub turnOf : Bool → State → List ℤ → Given Model
+turnOf true m l = given (modelOf m l) (m .reader)
+turnOf false m l = missing
+
+-- what every part asks, and leaves
+pub record Held (s table : List ℕ) (m : State) (flat : List ℤ) : Type 0 where
+  pub reader : Valid s (m .reader)
+  pub size : length table ≡ 1056
+  pub whole : Whole (modelOf m flat)
+
+-- ---- the flat list, one store at a time
+pub stored-next : (p : List ℤ) (at : ℕ) (f : ℕ → ℤ) (n : ℕ) {l : List ℤ} {v : ℤ} → l ≡ placed p at f n → v ≡ f n → set l (at + n) v ≡ placed p at f (n + 1)
+stored-next p at f n e h = ap₂ (λ (x : List ℤ) (y : ℤ). set x (at + n) y) e h ∙ placed-next p at f n
+
+pub spread-none : (l dc : List ℤ) → l ≡ spread l dc 0
+unfolding spread
+spread-none l dc = refl
+
+pub spread-next : (p dc : List ℤ) (k : ℕ) {l : List ℤ} {v : ℤ} → l ≡ spread p dc k → v ≡ getD dc k (pos 0) → set l (16 * k) v ≡ spread p dc (k + 1)
+unfolding spread
+spread-next p dc k e h = rw add-one (ap₂ (λ (x : List ℤ) (y : ℤ). set x (16 * k) y) e h)
+
+-- ---- a block that the checked call read, in the context that the code worked out
+pub coded-read : (s : List ℕ) (r : Reader) (table : List ℕ) (k : Kind) (p : Place) (top left : List ℕ) (old : List ℤ) → Valid s r → length table ≡ 1056 → (k .kind < 4) × (k .first ≤ 1) → Sixteen old
+    → {ctx : ℕ} → (ctx ≡ getD top (p .x) 0 + getD left (p .y) 0) × (ctx < 3) → {x : Block} {l : List ℤ} → record { answer = x; out = l } ≡ tokens.decodeOf s r table (k .kind) ctx (k .first) (k .q0) (k .q1) old
+    → run (coded table k p top left old) s r ≡ fromBlock l x
+coded-read s r table k p top left old v n g o {ctx} h {x} {l} e =
+    rw (← (h .0)) (decoded s r table (k .kind) ctx (k .first) (k .q0) (k .q1) old v (record { size = n; kinds = g .0; near = h .1; start = g .1; each = o .each }) e)
+
+module _ (table : List ℕ) (f : Factors) (s : List ℕ) (m : Model) (r : Reader) where
+  -- ---- the second-order block
+  pub second-missing : run (coded table (secondKind f) secondPlace (m .top) (m .left) (replicate 16 (pos 0))) s r ≡ missing → run (second table f m) s r ≡ missing
+  unfolding second
+  second-missing e = run-stops _ s (coded table (secondKind f) secondPlace (m .top) (m .left) (replicate 16 (pos 0))) r e
+
+  pub second-ended : {c : Coefficients} {q : Reader} → run (coded table (secondKind f) secondPlace (m .top) (m .left) (replicate 16 (pos 0))) s r ≡ given c q
+      → run (second table f m) s r ≡ given (flagged (secondKind f) secondPlace (c .end) (spread (m .coefficients) (samplesOf true (c .values)) 16) (m .empty) m) q
+  unfolding second
+  second-ended {c} {q} e = run-then _ s (coded table (secondKind f) secondPlace (m .top) (m .left) (replicate 16 (pos 0))) r e ∙ run-done _ s q
+
+  -- ---- block i
+  module _ (small : Bool) (i : ℕ) where
+    pub advance-missing : run (coded table (kindOf f small i) (coordinates i) (m .top) (m .left) (sixteenAt (m .coefficients) (16 * i))) s r ≡ missing → run (advance table f small i m) s r ≡ missing
+    unfolding advance
+    advance-missing e = run-stops _ s (coded table (kindOf f small i) (coordinates i) (m .top) (m .left) (sixteenAt (m .coefficients) (16 * i))) r e
+
+    pub advance-ended : {c : Coefficients} {q : Reader} → run (coded table (kindOf f small i) (coordinates i) (m .top) (m .left) (sixteenAt (m .coefficients) (16 * i))) s r ≡ given c q
+        → run (advance table f small i m) s r ≡ given (flagged (kindOf f small i) (coordinates i) (c .end) (stored (m .coefficients) (16 * i) (c .values)) (m .empty && emptyOf c) m) q
+    unfolding advance
+    advance-ended {c} {q} e = run-then _ s (coded table (kindOf f small i) (coordinates i) (m .top) (m .left) (sixteenAt (m .coefficients) (16 * i))) r e ∙ run-done _ s q
+
+    -- ---- the blocks from i on
+    pub blocks-none : run (blocksFrom table f small 0 i m) s r ≡ given m r
+    unfolding blocksFrom
+    blocks-none = run-done _ s r
+
+    pub blocks-missing : (left : ℕ) → run (advance table f small i m) s r ≡ missing → run (blocksFrom table f small (suc left) i m) s r ≡ missing
+    unfolding blocksFrom
+    blocks-missing left e = run-stops _ s (advance table f small i m) r e
+
+    pub blocks-next : (left : ℕ) {n : Model} {q : Reader} → run (advance table f small i m) s r ≡ given n q → run (blocksFrom table f small (suc left) i m) s r ≡ run (blocksFrom table f small left (i + 1) n) s q
+    unfolding blocksFrom
+    blocks-next left e = run-then _ s (advance table f small i m) r e
+
+-- ---- the macroblock
+module _ (table : List ℕ) (f : Factors) (small : Bool) (s : List ℕ) where
+  module _ (m : Model) (r : Reader) where
+    pub dc-small : small ≡ true → run (dcStage table f small m) s r ≡ given m r
+    dc-small e = rw e (run-done m s r)
+
+    pub dc-second : small ≡ false → {x : Given Model} → run (second table f m) s r ≡ x → run (dcStage table f small m) s r ≡ x
+    dc-second e h = rw e h
+
+  module _ (top left : List ℕ) (r : Reader) where
+    pub residual-skip : run (residualOf table f small true top left) s r ≡ given (initial (cleared small top) (cleared small left)) r
+    unfolding residualOf
+    residual-skip = run-done _ s r
+
+    pub residual-missing : run (dcStage table f small (initial top left)) s r ≡ missing → run (residualOf table f small false top left) s r ≡ missing
+    unfolding residualOf
+    residual-missing e = run-stops _ s (dcStage table f small (initial top left)) r e
+
+    pub residual-next : {m : Model} {q : Reader} → run (dcStage table f small (initial top left)) s r ≡ given m q → run (residualOf table f small false top left) s r ≡ run (blocksFrom table f small 24 0 m) s q
+    unfolding residualOf
+    residual-next e = run-then _ s (dcStage table f small (initial top left)) r e
+
+-- ---- what the public calls check
+below-all : (f : ℕ → Bool) (n : ℕ) → ((i : ℕ) → i < n → f i ≡ true) → allBelow n f ≡ true
+below-all f zero h = refl
+below-all f (suc n) h = both-true (h n (omega arith)) (below-all f n (λ i l. h i (omega arith)))
+
+flags-true : (l : List ℕ) → ((i : ℕ) → getD l i 0 ≤ 1) → flagsOf l ≡ true
+flags-true l h = below-all (λ i. leb (getD l i 0) 1) 9 (λ i k. le-leb _ _ (h i))
+
+flags-fact : {l : List ℕ} → length l ≡ 9 → flagsOf l ≡ true → Flags l
+flags-fact {l} n e = record { long = n; each = go }
+  where
+    go : (i : ℕ) → getD l i 0 ≤ 1
+    go i = elim (lt-or i 9) [
+      | inl k ↦ leb-true _ _ (all-below (λ j. leb (getD l j 0) 1) 9 e i k)
+      | inr k ↦ rw (List·getD-eq-default l 0 {n = i} (rw n k)) (omega arith)
+    ]
+
+module _ (table top left : List ℕ) (size : ℕ) where
+  pub arguments-fact : length top ≡ 9 → length left ≡ 9 → argumentsOf table top left size ≡ true → (length table ≡ 1056) × ((Flags top × Flags left) × (size ≡ 384))
+  arguments-fact t l e =
+      let e1 = both-right (eqb (length table) 1056) _ e in
+      let e2 = both-right (flagsOf top) _ e1 in
+      (eqb-true _ _ (both-left _ _ e), ((flags-fact t (both-left _ _ e1), flags-fact l (both-left _ _ e2)), eqb-true _ _ (both-right (flagsOf left) _ e2)))
+
+  pub arguments-good : length table ≡ 1056 → Flags top → Flags left → size ≡ 384 → argumentsOf table top left size ≡ true
+  arguments-good n t l k = both-true (eq-eqb _ _ n) (both-true (flags-true top (t .each)) (both-true (flags-true left (l .each)) (eq-eqb _ _ k)))
+
+module _ (s : List ℕ) (r : Reader) (table : List ℕ) (f : Factors) (small skip : Bool) (top left : List ℕ) (old : List ℤ) where
+  -- what the code returns with the numbers behind it
+  pub call-missing : run (residualOf table f small skip top left) s r ≡ missing → {q : Residual} → q ≡ nothing E.Missing → record { answer = q; out = old } ≡ callOf s r table f small skip top left old
+  unfolding callOf
+  call-missing e h = rw h (sym (ap (toCalled old) e))
+
+  pub call-handed : {m : Model} {q : Reader} → run (residualOf table f small skip top left) s r ≡ given m q → {to : List ℤ} → to ≡ m .coefficients → record { answer = toCalled old (given m q) .answer; out = to } ≡ callOf s r table f small skip top left old
+  unfolding callOf
+  call-handed e h = rw h (sym (ap (toCalled old) e))
+
+  pub decode-passed : validOf s r ≡ true → argumentsOf table top left (length old) ≡ true → callOf s r table f small skip top left old ≡ decodeOf s r table f small skip top left old
+  unfolding decodeOf
+  decode-passed v a = rw (both-true v a, decodeOf)
+
+  pub decode-refused : validOf s r && argumentsOf table top left (length old) ≡ false → {q : Residual} → q ≡ nothing E.Refused → record { answer = q; out = old } ≡ decodeOf s r table f small skip top left old
+  unfolding decodeOf
+  decode-refused e h = rw (h, e, decodeOf)
+
+  pub decode-reader : validOf s r ≡ false → {q : Residual} → q ≡ nothing E.Refused → record { answer = q; out = old } ≡ decodeOf s r table f small skip top left old
+  decode-reader e = decode-refused (rw e)
+
+  pub decode-arguments : argumentsOf table top left (length old) ≡ false → {q : Residual} → q ≡ nothing E.Refused → record { answer = q; out = old } ≡ decodeOf s r table f small skip top left old
+  decode-arguments e = decode-refused (both-false (validOf s r) e)
+
+-- ---- with a header
+module _ (s : List ℕ) (r : Reader) (h : List ℤ) (segment : ℕ) (small skip : Bool) (top left : List ℕ) (old : List ℤ) where
+  header-refused : headerOf h && ltb segment 4 ≡ false → {q : Residual} → q ≡ nothing E.Refused → record { answer = q; out = old } ≡ decodeHeaderOf s r h segment small skip top left old
+  unfolding decodeHeaderOf
+  header-refused e k = rw (k, e, decodeHeaderOf)
+
+  pub header-passed : headerOf h && ltb segment 4 ≡ true → decodeOf s r (headerTable h) (factorsOf h segment) small skip top left old ≡ decodeHeaderOf s r h segment small skip top left old
+  unfolding decodeHeaderOf
+  header-passed e = rw (e, decodeHeaderOf)
+
+  -- what the answer of the quantizers says
+  module _ {x : Quantizers} (e : x ≡ quantizersOf h segment) where
+    pub header-none : x ≡ Q.Refused → {q : Residual} → q ≡ nothing E.Refused → record { answer = q; out = old } ≡ decodeHeaderOf s r h segment small skip top left old
+    unfolding quantizersOf
+    header-none n {q} k = go (headerOf h && ltb segment 4) refl
+      where
+        go : (b : Bool) → headerOf h && ltb segment 4 ≡ b → record { answer = q; out = old } ≡ decodeHeaderOf s r h segment small skip top left old
+        go true w = let g : x ≡ Q.Ready (factorsOf h segment) = e ∙ rw (w, quantizersOf) in absurd (let z : _≡_ {A = ℕ} 0 1 = cc in omega arith)
+        go false w = header-refused w k
+
+    pub header-some : {f : Factors} → x ≡ Q.Ready f → {t : Table} → t ≡ tableOf h → decodeOf s r (t .bytes) f small skip top left old ≡ decodeHeaderOf s r h segment small skip top left old
+    unfolding quantizersOf
+    header-some {f} k {t} j = go (headerOf h && ltb segment 4) refl
+      where
+        go : (b : Bool) → headerOf h && ltb segment 4 ≡ b → decodeOf s r (t .bytes) f small skip top left old ≡ decodeHeaderOf s r h segment small skip top left old
+        go true w =
+            let g : x ≡ Q.Ready (factorsOf h segment) = e ∙ rw (w, quantizersOf) in
+            let i : f ≡ factorsOf h segment = cc in
+            let d : t .bytes ≡ headerTable h = ap (λ (a : Table). a .bytes) (j ∙ sym (table-done h (header-length h (both-left _ _ w)) refl)) in
+            rw (i, d) (header-passed w)
+        go false w = let g : x ≡ Q.Refused = e ∙ rw (w, quantizersOf) in absurd (let z : _≡_ {A = ℕ} 0 1 = cc in omega arith)

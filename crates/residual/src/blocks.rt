@@ -1,0 +1,254 @@
+// The blocks of a macroblock, one after the other: the second-order luma block unless the modes are small, sixteen of luma, four of U, four
+// of V (RFC 6386, section 13).
+use crate::contexts::Place;
+use crate::contexts::cleared;
+use crate::contexts::flagged;
+use crate::contexts::location;
+use crate::contexts::near;
+use crate::flat::sixteen;
+use crate::flat::spread;
+use crate::flat::store;
+use coefficients::tokens::Block;
+use coefficients::tokens::decode;
+use coefficients::transform::transform;
+use reader::boolean::Reader;
+use segments::quantizers::Factors;
+ghost use mathlib.Core.Path.{_≡_};
+ghost use Prim.Native.Nat.{_<_, _≤_};
+ghost use lib.IntN.{pos};
+ghost use lib.ListN.{length, set, replicate};
+ghost use Rattle.reader.specs.BooleanLaws.{Valid};
+ghost use Rattle.reader.specs.Reading.{run};
+ghost use Rattle.coefficients.specs.TokenLaws.{Sixteen, fromBlock};
+ghost use Rattle.residual.specs.Residual.{Flags, secondKind, kindOf, flagOf, zeroOf, coded, second, advance, blocksFrom, dcStage, residualOf};
+ghost use Rattle.residual.specs.ResidualSteps.{Held, modelOf, turnOf};
+
+// What a block's tokens go by: the kind of its probabilities, its first position, and what its numbers are multiplied by.
+pub(crate) struct Kind {
+    pub kind: usize,
+    pub first: usize,
+    pub q0: u16,
+    pub q1: u16,
+}
+
+// What goes from block to block; the coefficients stand beside it.
+pub(crate) struct State {
+    pub reader: Reader,
+    pub top: [u8; 9],
+    pub left: [u8; 9],
+    pub empty: bool,
+}
+
+// The state after a part, unless a byte was missing.
+pub(crate) struct Turn {
+    pub ended: bool,
+    pub state: State,
+}
+
+fn second_kind(f: Factors) -> Kind
+    ensures { λ k. ⌜ k ≡ secondKind f ⌝ }
+{
+    Kind {
+        kind: 1,
+        first: 0,
+        q0: f.y2dc,
+        q1: f.y2ac,
+    }
+}
+
+fn kind_of(f: Factors, small: bool, i: usize) -> Kind
+    ensures { λ k. ⌜ k ≡ kindOf f small i ⌝ }
+{
+    if 16 <= i {
+        return Kind {
+            kind: 2,
+            first: 0,
+            q0: f.uvdc,
+            q1: f.uvac,
+        };
+    }
+    if small {
+        return Kind {
+            kind: 3,
+            first: 0,
+            q0: f.ydc,
+            q1: f.yac,
+        };
+    }
+    Kind {
+        kind: 0,
+        first: 1,
+        q0: f.ydc,
+        q1: f.yac,
+    }
+}
+
+// One block in the context of its flags.
+fn read_coded(s: &[u8], table: &[u8], m: State, k: Kind, p: Place, c: &mut [i32; 16]) -> Block
+    requires { ⌜ Valid (now s) (m .reader) × (length (now table) ≡ 1056) ⌝ }
+    requires { ⌜ (Flags (m .top) × Flags (m .left)) × ((p .x < 9) × (p .y < 9)) ⌝ }
+    requires { ⌜ ((k .kind < 4) × (k .first ≤ 1)) × Sixteen (now c) ⌝ }
+    ensures { λ a. ⌜ run (coded (now (table .entry)) k p (m .top) (m .left) (now (c .entry))) (now (s .entry)) (m .reader) ≡ fromBlock (now (c .exit)) a ⌝ }
+{
+    let top = m.top;
+    let left = m.left;
+    let r = m.reader;
+    let ctx = near(top, left, p.x, p.y);
+    decode(s, r, table, k.kind, ctx, k.first, k.q0, k.q1, c)
+}
+
+// The state after a block.
+fn passed(m: State, r: Reader, p: Place, on: bool, empty: bool) -> State
+    requires { ⌜ (p .x < 9) × (p .y < 9) ⌝ }
+    ensures { λ n. ⌜ n ≡ record { reader = r; top = set (m .top) (p .x) (flagOf on); left = set (m .left) (p .y) (flagOf on); empty = empty } ⌝ }
+{
+    let top = m.top;
+    let left = m.left;
+    let above = flagged(top, p.x, on);
+    let beside = flagged(left, p.y, on);
+    State {
+        reader: r,
+        top: above,
+        left: beside,
+        empty: empty,
+    }
+}
+
+// The second-order block: its transform gives the first coefficient of each luma block.
+fn read_second(s: &[u8], table: &[u8], f: Factors, m: State, flat: &mut [i32]) -> Turn
+    requires { ⌜ Held (now s) (now table) m (now flat) ⌝ }
+    ensures { λ t. ⌜ run (second (now (table .entry)) f (modelOf m (now (flat .entry)))) (now (s .entry)) (m .reader) ≡ turnOf (t .ended) (t .state) (now (flat .exit)) ⌝ }
+{
+    let k = second_kind(f);
+    let p = Place { x: 8, y: 8 };
+    let mut c = [0; 16];
+    let Block::Ended(end, r) = read_coded(s, table, m, k, p, &mut c) else {
+        return Turn {
+            ended: false,
+            state: m,
+        };
+    };
+    let t = transform(&c, true);
+    let dc = t.samples;
+    spread(flat, &dc);
+    let next = passed(m, r, p, k.first < end, m.empty);
+    Turn {
+        ended: true,
+        state: next,
+    }
+}
+
+fn zero(v: i32) -> bool
+    ensures { λ b. ⌜ b ≡ zeroOf v ⌝ }
+{
+    v == 0
+}
+
+// Block i of the 24. Whether it is empty goes by its end and its first coefficient: zeros that were coded are something.
+fn block(
+    s: &[u8],
+    table: &[u8],
+    f: Factors,
+    small: bool,
+    m: State,
+    i: usize,
+    flat: &mut [i32],
+) -> Turn
+    requires { ⌜ Held (now s) (now table) m (now flat) × (i < 24) ⌝ }
+    ensures { λ t. ⌜ run (advance (now (table .entry)) f small i (modelOf m (now (flat .entry)))) (now (s .entry)) (m .reader) ≡ turnOf (t .ended) (t .state) (now (flat .exit)) ⌝ }
+{
+    let k = kind_of(f, small, i);
+    let p = location(i);
+    let mut c = sixteen(flat, 16 * i);
+    let Block::Ended(end, r) = read_coded(s, table, m, k, p, &mut c) else {
+        return Turn {
+            ended: false,
+            state: m,
+        };
+    };
+    store(flat, 16 * i, &c);
+    let empty = m.empty & ((end <= 1) & zero(c[0]));
+    let next = passed(m, r, p, k.first < end, empty);
+    Turn {
+        ended: true,
+        state: next,
+    }
+}
+
+fn blocks(s: &[u8], table: &[u8], f: Factors, small: bool, start: State, flat: &mut [i32]) -> Turn
+    requires { ⌜ Held (now s) (now table) start (now flat) ⌝ }
+    ensures { λ t. ⌜ run (blocksFrom (now (table .entry)) f small 24 0 (modelOf start (now (flat .entry)))) (now (s .entry)) (start .reader) ≡ turnOf (t .ended) (t .state) (now (flat .exit)) ⌝ }
+{
+    let mut m = start;
+    let mut i = 0;
+    while i < 24 {
+        let t = block(s, table, f, small, m, i, flat);
+        if !t.ended {
+            return t;
+        }
+        m = t.state;
+        i = i + 1;
+    }
+    Turn {
+        ended: true,
+        state: m,
+    }
+}
+
+// Small modes have no second-order block.
+fn dc_stage(s: &[u8], table: &[u8], f: Factors, small: bool, m: State, flat: &mut [i32]) -> Turn
+    requires { ⌜ Held (now s) (now table) m (now flat) ⌝ }
+    ensures { λ t. ⌜ run (dcStage (now (table .entry)) f small (modelOf m (now (flat .entry)))) (now (s .entry)) (m .reader) ≡ turnOf (t .ended) (t .state) (now (flat .exit)) ⌝ }
+{
+    if small {
+        return Turn {
+            ended: true,
+            state: m,
+        };
+    }
+    read_second(s, table, f, m, flat)
+}
+
+// A macroblock, on coefficients that start as zeros.
+pub(crate) fn read(
+    s: &[u8],
+    r: Reader,
+    table: &[u8],
+    f: Factors,
+    small: bool,
+    skip: bool,
+    top: [u8; 9],
+    left: [u8; 9],
+    flat: &mut [i32],
+) -> Turn
+    requires { ⌜ Valid (now s) r × (length (now table) ≡ 1056) ⌝ }
+    requires { ⌜ (Flags top × Flags left) × (now flat ≡ replicate 384 (pos 0)) ⌝ }
+    ensures { λ t. ⌜ run (residualOf (now (table .entry)) f small skip top left) (now (s .entry)) r ≡ turnOf (t .ended) (t .state) (now (flat .exit)) ⌝ }
+{
+    if skip {
+        let above = cleared(top, small);
+        let beside = cleared(left, small);
+        let next = State {
+            reader: r,
+            top: above,
+            left: beside,
+            empty: true,
+        };
+        return Turn {
+            ended: true,
+            state: next,
+        };
+    }
+    let start = State {
+        reader: r,
+        top: top,
+        left: left,
+        empty: true,
+    };
+    let t = dc_stage(s, table, f, small, start, flat);
+    if !t.ended {
+        return t;
+    }
+    let next = t.state;
+    blocks(s, table, f, small, next, flat)
+}

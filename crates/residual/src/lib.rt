@@ -1,0 +1,126 @@
+// The residual of a macroblock: the coefficients of its blocks and what they leave behind for its neighbours (RFC 6386, section 13).
+use crate::blocks::read;
+use crate::contexts::flags_fine;
+use crate::flat::hand_over;
+use coefficients::tokens::probabilities;
+use reader::boolean::Reader;
+use reader::boolean::valid;
+use segments::quantizers::Factors;
+use segments::quantizers::Quantizers;
+use segments::quantizers::for_segment;
+ghost use mathlib.Core.Path.{_≡_};
+ghost use lib.ListN.{length};
+ghost use Rattle.reader.specs.BooleanLaws.{Valid};
+ghost use Rattle.residual.specs.Residual.{Flags, nothing, argumentsOf, callOf, decodeOf, decodeHeaderOf};
+
+mod blocks;
+mod contexts;
+mod flat;
+
+// The reader after the macroblock, and whether it is empty; Missing where a byte was; Refused where an argument is out of range.
+pub enum Ended {
+    Done(Reader, bool),
+    Missing,
+    Refused,
+}
+
+// The answer, and the flags for the macroblocks below and to the right; zeros where there are none.
+pub struct Residual {
+    pub answer: Ended,
+    pub top: [u8; 9],
+    pub left: [u8; 9],
+}
+
+fn no_residual(answer: Ended) -> Residual
+    ensures { λ r. ⌜ r ≡ nothing answer ⌝ }
+{
+    Residual {
+        answer: answer,
+        top: [0; 9],
+        left: [0; 9],
+    }
+}
+
+// Arguments in range. The coefficients reach `out` only where all of them were read.
+fn read_residual(
+    s: &[u8],
+    r: Reader,
+    table: &[u8],
+    f: Factors,
+    small: bool,
+    skip: bool,
+    top: [u8; 9],
+    left: [u8; 9],
+    out: &mut [i32],
+) -> Residual
+    requires { ⌜ Valid (now s) r × (length (now table) ≡ 1056) ⌝ }
+    requires { ⌜ (Flags top × Flags left) × (length (now out) ≡ 384) ⌝ }
+    ensures { λ q. ⌜ record { answer = q; out = now (out .exit) } ≡ callOf (now (s .entry)) r (now (table .entry)) f small skip top left (now (out .entry)) ⌝ }
+{
+    let mut flat = [0; 384];
+    let t = read(s, r, table, f, small, skip, top, left, &mut flat[..]);
+    if !t.ended {
+        return no_residual(Ended::Missing);
+    }
+    hand_over(out, &flat);
+    let m = t.state;
+    let next = m.reader;
+    let above = m.top;
+    let beside = m.left;
+    Residual {
+        answer: Ended::Done(next, m.empty),
+        top: above,
+        left: beside,
+    }
+}
+
+fn arguments(table: &[u8], top: [u8; 9], left: [u8; 9], size: usize) -> bool
+    ensures { λ b. ⌜ b ≡ argumentsOf (now (table .entry)) top left size ⌝ }
+{
+    (table.len() == 1056) & (flags_fine(top) & (flags_fine(left) & (size == 384)))
+}
+
+// The residual of a macroblock: the reader after it, its flags, its 384 coefficients in `out`, which every other answer leaves as it was.
+pub fn decode(
+    s: &[u8],
+    r: Reader,
+    table: &[u8],
+    f: Factors,
+    small: bool,
+    skip: bool,
+    top: [u8; 9],
+    left: [u8; 9],
+    out: &mut [i32],
+) -> Residual
+    ensures { λ q. ⌜ record { answer = q; out = now (out .exit) } ≡ decodeOf (now (s .entry)) r (now (table .entry)) f small skip top left (now (out .entry)) ⌝ }
+{
+    if !valid(s, r) {
+        return no_residual(Ended::Refused);
+    }
+    if !arguments(table, top, left, out.len()) {
+        return no_residual(Ended::Refused);
+    }
+    read_residual(s, r, table, f, small, skip, top, left, out)
+}
+
+// `decode` with a header and a segment in place of the table and the factors.
+pub fn decode_header(
+    s: &[u8],
+    h: &[i32],
+    segment: usize,
+    small: bool,
+    skip: bool,
+    r: Reader,
+    top: [u8; 9],
+    left: [u8; 9],
+    out: &mut [i32],
+) -> Residual
+    ensures { λ q. ⌜ record { answer = q; out = now (out .exit) } ≡ decodeHeaderOf (now (s .entry)) r (now (h .entry)) segment small skip top left (now (out .entry)) ⌝ }
+{
+    let Quantizers::Ready(f) = for_segment(h, segment) else {
+        return no_residual(Ended::Refused);
+    };
+    let t = probabilities(h);
+    let bytes = t.bytes;
+    decode(s, r, &bytes, f, small, skip, top, left, out)
+}
