@@ -130,8 +130,8 @@ module _ (s table : List ℕ) (f : Factors) (small skip : Bool) (r : Reader) (to
   pub first-held : Valid s r → length table ≡ 1056 → Flags top → Flags left → Held s table (first r top left) flat
   first-held v n t l = record { reader = v; size = n; whole = rw z (initial-whole t l) }
 
-  pub read-skipped : skip ≡ true → {a b : List ℕ} → a ≡ cleared small top → b ≡ cleared small left → run (residualOf table f small skip top left) s r ≡ given (modelOf (first r a b) flat) r
-  read-skipped k e h = rw (k, e, h, z) (residual-skip table f small s top left r)
+  pub read-skipped : skip ≡ true → {n : State} → n ≡ first r (cleared small top) (cleared small left) → run (residualOf table f small skip top left) s r ≡ given (modelOf n flat) (n .reader)
+  read-skipped k e = rw (k, e, z) (residual-skip table f small s top left r)
 
   module _ (k : skip ≡ false) (t : Turn) (to : List ℤ) (e : run (dcStage table f small (modelOf (first r top left) flat)) s r ≡ turnOf (t .ended) (t .state) to) where
     begun : run (dcStage table f small (initial top left)) s r ≡ turnOf (t .ended) (t .state) to

@@ -14,13 +14,14 @@ use coefficients::transform::transform;
 use reader::boolean::Reader;
 use segments::quantizers::Factors;
 ghost use mathlib.Core.Path.{_≡_};
+ghost use mathlib.Core.Bool.{true};
 ghost use Prim.Native.Nat.{_<_, _≤_};
 ghost use lib.IntN.{pos};
 ghost use lib.ListN.{length, set, replicate};
 ghost use Rattle.reader.specs.BooleanLaws.{Valid};
 ghost use Rattle.reader.specs.Reading.{run};
 ghost use Rattle.coefficients.specs.TokenLaws.{Sixteen, fromBlock};
-ghost use Rattle.residual.specs.Residual.{Flags, secondKind, kindOf, flagOf, zeroOf, coded, second, advance, blocksFrom, dcStage, residualOf};
+ghost use Rattle.residual.specs.Residual.{Flags, cleared, secondKind, kindOf, flagOf, zeroOf, coded, second, advance, blocksFrom, dcStage, residualOf};
 ghost use Rattle.residual.specs.ResidualSteps.{Held, modelOf, turnOf};
 
 // What a block's tokens go by: the kind of its probabilities, its first position, and what its numbers are multiplied by.
@@ -209,6 +210,20 @@ fn dc_stage(s: &[u8], table: &[u8], f: Factors, small: bool, m: State, flat: &mu
     read_second(s, table, f, m, flat)
 }
 
+// The state after a macroblock of which nothing is read.
+fn skipped(r: Reader, small: bool, top: [u8; 9], left: [u8; 9]) -> State
+    ensures { λ n. ⌜ n ≡ record { reader = r; top = cleared small top; left = cleared small left; empty = true } ⌝ }
+{
+    let above = cleared(top, small);
+    let beside = cleared(left, small);
+    State {
+        reader: r,
+        top: above,
+        left: beside,
+        empty: true,
+    }
+}
+
 // A macroblock, on coefficients that start as zeros.
 pub(crate) fn read(
     s: &[u8],
@@ -226,14 +241,7 @@ pub(crate) fn read(
     ensures { λ t. ⌜ run (residualOf (now (table .entry)) f small skip top left) (now (s .entry)) r ≡ turnOf (t .ended) (t .state) (now (flat .exit)) ⌝ }
 {
     if skip {
-        let above = cleared(top, small);
-        let beside = cleared(left, small);
-        let next = State {
-            reader: r,
-            top: above,
-            left: beside,
-            empty: true,
-        };
+        let next = skipped(r, small, top, left);
         return Turn {
             ended: true,
             state: next,

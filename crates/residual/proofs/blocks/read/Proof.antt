@@ -5,17 +5,14 @@ use borrow.Author.Needs.{needs}
 use Rattle.residual.proofs.blocks.read.Statement.{statement}
 use Rattle.residual.proofs.blocks.read.Tie as tie
 
-cleared-requires : tie.Need-cleared-requires
-cleared-requires c κs = search needs
-
-cleared-requires-2 : tie.Need-cleared-requires-2
-cleared-requires-2 c κs = search needs
+skipped-requires : tie.Need-skipped-requires
+skipped-requires c κs = search needs
 
 returns : tie.Need-returns
 returns c =
-    let b = c .before .before .before .before .before in
+    let b = c .before .before .before .before in
     let a = b .args in
-    read-skipped (a .s .now) (a .table .now) (a .f) (a .small) (a .skip) (a .r) (a .top) (a .left) (b .pre .1 .1) (c .before .before .if1 .taken) (c .before .cleared .ensures) (c .cleared2 .ensures)
+    read-skipped (a .s .now) (a .table .now) (a .f) (a .small) (a .skip) (a .r) (a .top) (a .left) (b .pre .1 .1) (c .before .if1 .taken) (c .skipped .ensures)
 
 -- what the first part is given
 begun : (b : tie.Start) → (let a = b .args in Held (a .s .now) (a .table .now) (first (a .r) (a .top) (a .left)) (a .flat .now))
@@ -58,8 +55,7 @@ pub read-spec : {M : Type 1} → statement M
 read-spec =
     tie.close
     (tie.spec
-    cleared-requires
-    cleared-requires-2
+    skipped-requires
     returns
     dc-stage-requires
     same-length

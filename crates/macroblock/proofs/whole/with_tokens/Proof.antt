@@ -1,0 +1,114 @@
+use lib.IntN.{pos}
+use lib.ListN.{replicate}
+use Prim.Native.Nat.{ℕ}
+use mathlib.Core.Path.{_≡_, refl, sym, _∙_, ap}
+use Rattle.reader.specs.Boolean.{given}
+use Rattle.reader.specs.Reading.{run}
+use Rattle.segments.specs.declared.quantizers.Factors.{Factors}
+use Rattle.modes.specs.Answers.{macroblockOf}
+use Rattle.residual.specs.Residual.{residualOf}
+use Rattle.residual.specs.ResidualLaws.{fromResidual, fromEnded, decoded, decode-ends}
+use Rattle.macroblock.specs.Macroblock.{factorsAt}
+use Rattle.macroblock.specs.MacroblockLaws.{tokens-missing, tokens-done, painting}
+use Rattle.residual.proofs.Answers.{not-done}
+use borrow.Author.Needs.{needs}
+use Rattle.macroblock.proofs.whole.with_tokens.Statement.{statement}
+use Rattle.macroblock.proofs.whole.with_tokens.Tie as tie
+use Rattle.macroblock.proofs.whole.with_tokens.Reads as reads
+use Rattle.macroblock.proofs.whole.with_tokens.Lts as lts
+use Rattle.macroblock.proofs.squares.squares.Reads as squares-reads
+use Rattle.macroblock.proofs.whole.ending.Reads as ending-reads
+use Rattle.macroblock.proofs.whole.factors_of.Reads as factors-of-reads
+use Rattle.macroblock.proofs.whole.index.Reads as index-reads
+use Rattle.macroblock.proofs.whole.stopped.Reads as stopped-reads
+use Rattle.residual.proofs.decode.Reads as decode-reads
+
+index-requires : tie.Need-index-requires
+index-requires c κs = search needs
+
+factors-of-requires : tie.Need-factors-of-requires
+factors-of-requires c κs = search needs
+
+slice-aggregate-decode : tie.Need-slice-aggregate-decode
+slice-aggregate-decode c = search needs
+
+decode-requires : tie.Need-decode-requires
+decode-requires c κs = search needs
+
+enum-known-answer : tie.Need-enum-known-answer
+enum-known-answer c = search needs
+
+stopped-requires : tie.Need-stopped-requires
+stopped-requires c κs = search needs
+
+abbrev start : tie.After-c2 → tie.Start
+start c = c .before .before .before .before .before .before .before .before .before .before
+
+-- what the residual's answer says of the grammar
+is : (c : tie.After-c2) → (let a = start c .args in run (residualOf (a .table .now) (factorsAt (a .frame) (a .kinds .segment)) (a .kinds .small) (a .kinds .skip) (a .top) (a .left)) (a .tokens .now) (a .t) ≡ fromResidual (c .before .decode .last .1 .1 .1 .1 .1 .1 .1 .1 .0) (c .before .decode .result))
+is c =
+    let a = start c .args in
+    let p = start c .pre .0 in
+    ap (λ (f : Factors). run (residualOf (a .table .now) f (a .kinds .small) (a .kinds .skip) (a .top) (a .left)) (a .tokens .now) (a .t)) (sym (c .before .before .before .factors-of .ensures ∙ ap (factorsAt (a .frame)) (c .before .before .before .before .index .ensures)))
+    ∙ decoded _ _ _ _ _ _ _ _ _ (p .token) (record { size = p .size; above = p .above; beside = p .beside; long = refl }) (c .before .decode .ensures)
+
+abbrev at-c2 : tie.After-known-told → tie.After-c2
+at-c2 c = c .before .before .before
+
+-- the coefficients, the flags and the reader that it gave
+gave : (c : tie.After-known-told) → (let d = at-c2 c in let x = d .before .decode .result in let a = start d .args in run (residualOf (a .table .now) (factorsAt (a .frame) (a .kinds .segment)) (a .kinds .small) (a .kinds .skip) (a .top) (a .left)) (a .tokens .now) (a .t) ≡ given (record { top = x .top; left = x .left; coefficients = d .before .decode .last .1 .1 .1 .1 .1 .1 .1 .1 .0; empty = c .before .answer .given .0 .1 .0 }) (c .before .answer .given .0 .0))
+gave c =
+    let d = at-c2 c in
+    is d ∙ ap (fromEnded (d .before .decode .result .top) (d .before .decode .result .left) (d .before .decode .last .1 .1 .1 .1 .1 .1 .1 .1 .0)) (c .before .answer .given .1)
+
+returns : tie.Need-returns
+returns c = let a = start (c .before .before) .args in
+    tokens-missing (a .tokens .now) (a .t) (a .table .now) (a .frame) (a .top) (a .left) (macroblockOf (a .kinds) (a .modes .now)) _ _ _ _ _ (is (c .before .before) ∙ not-done _ _ _ (c .before .before .before .decode .result .answer) (c .before .match .keys2)) (c .stopped .ensures)
+
+slice-aggregate-squares : tie.Need-slice-aggregate-squares
+slice-aggregate-squares c = search needs
+
+squares-requires : tie.Need-squares-requires
+squares-requires c κs =
+    let k = c .before .before .before .before in
+    let d = at-c2 k in
+    let p = start d .pre in
+    let e = decode-ends _ _ _ _ _ _ _ _ (replicate 384 (pos 0)) (p .0 .token) (record { size = p .0 .size; above = p .0 .above; beside = p .0 .beside; long = refl }) (λ i. d .before .before .before .before .before .before .before .before .before .shared-slice-known .given i .fits) (λ i. d .before .before .before .before .before .before .before .before .shared-slice-known2 .given i .fits) (gave k) in
+    (p .1 .1, painting (p .1 .0) (e .value))
+
+ending-requires : tie.Need-ending-requires
+ending-requires c κs = (start (c .before .before .before .before .before .before .before .before .before .before .before .before .before .before .before .before) .pre .1 .0 .segment, start (c .before .before .before .before .before .before .before .before .before .before .before .before .before .before .before .before) .pre .0 .levels)
+
+same-length : tie.Need-same-length
+same-length c = search needs
+
+same-length-2 : tie.Need-same-length-2
+same-length-2 c = search needs
+
+same-length-3 : tie.Need-same-length-3
+same-length-3 c = search needs
+
+returns-2 : tie.Need-returns-2
+returns-2 c =
+    let k = c .before .before .before .before .before .before .before .before .before .before .before .before .before .before in
+    let a = start (at-c2 k) .args in
+    tokens-done (a .tokens .now) (a .t) (a .table .now) (a .frame) (a .top) (a .left) (macroblockOf (a .kinds) (a .modes .now)) _ _ _ _ _ (gave k) (c .ending .ensures) (c .before .before .before .before .before .before .before .before .before .squares .ensures)
+
+pub with-tokens-spec : {M : Type 1} → statement M
+with-tokens-spec =
+    tie.close
+    (tie.spec
+    index-requires
+    factors-of-requires
+    slice-aggregate-decode
+    decode-requires
+    enum-known-answer
+    stopped-requires
+    returns
+    slice-aggregate-squares
+    squares-requires
+    ending-requires
+    same-length
+    same-length-2
+    same-length-3
+    returns-2)

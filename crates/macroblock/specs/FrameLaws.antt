@@ -1,0 +1,57 @@
+-- The laws of a frame: its parts, and the answer with a good header.
+use Prim.Native.Nat.{ℕ, _<_}
+use mathlib.Core.Path.{_≡_, refl, sym, _∙_, ap}
+use mathlib.Core.Bool.{Bool, true, false}
+use mathlib.Core.List.{List, [], _∷_}
+use native.Mathlib.Omega.{arith}
+use lib.IntN.{ℤ}
+use lib.ListN.{replicate}
+use Rattle.numbers.specs.Clamp.{upTo}
+use Rattle.reader.specs.Header.{entry, headerOf}
+use Rattle.segments.specs.declared.quantizers.Factors.{Factors}
+use Rattle.segments.specs.declared.quantizers.Quantizers.{Quantizers}
+use Rattle.segments.specs.declared.quantizers.Quantizers.the-variants as Q
+use Rattle.segments.specs.declared.levels.Level.the-variants as L
+use Rattle.segments.specs.Quantizers.{factorsOf, noFactors, quantizersOf}
+use Rattle.segments.specs.QuantizersLaws.{segment-good}
+use Rattle.segments.specs.Levels.{levelOf, levelAnswer}
+use Rattle.segments.specs.LevelsLaws.{level-good}
+use Rattle.macroblock.specs.declared.frame.Frame.{Frame}
+use Rattle.macroblock.specs.declared.frame.Framed.{Framed}
+use Rattle.macroblock.specs.declared.frame.Taken.the-variants as T
+use Rattle.macroblock.specs.Frame.{levelsOf, frameOf, noFrame, framedOf}
+
+-- ---- what a segment's calls answer, the header being fine
+module _ (h : List ℤ) (segment : ℕ) (e : headerOf h ≡ true) (l : segment < 4) where
+  pub factors-are : {f : Factors} → Q.Ready f ≡ quantizersOf h segment → f ≡ factorsOf h segment
+  factors-are g = let k = segment-good h segment e l in cc
+
+  pub factors-never : Q.Refused ≡ quantizersOf h segment → ⊥
+  factors-never g = let k = segment-good h segment e l in let z : _≡_ {A = ℕ} 0 1 = cc in omega arith
+
+  pub level-are : (small : Bool) {n : ℕ} → L.Of n ≡ levelAnswer h segment small → n ≡ levelOf h segment small
+  level-are small g = let k = level-good h segment small e l in cc
+
+  pub level-never : (small : Bool) → L.Refused ≡ levelAnswer h segment small → ⊥
+  level-never small g = let k = level-good h segment small e l in let z : _≡_ {A = ℕ} 0 1 = cc in omega arith
+
+-- ---- the parts together
+pub no-frame : {a b c d : Factors} → a ≡ noFactors → b ≡ noFactors → c ≡ noFactors → d ≡ noFactors
+    → _≡_ {A = Frame} (record { factors = a ∷ b ∷ c ∷ d ∷ []; large = replicate 4 0; small = replicate 4 0; sharp = 0 }) noFrame
+no-frame e f g h = rw (e, f, g, h)
+
+pub frame-is : (h : List ℤ) {a b c d : Factors} {m n : List ℕ} {s : ℕ}
+    → a ≡ factorsOf h 0 → b ≡ factorsOf h 1 → c ≡ factorsOf h 2 → d ≡ factorsOf h 3
+    → m ≡ levelsOf h false → n ≡ levelsOf h true → s ≡ upTo 255 (entry h 19)
+    → _≡_ {A = Frame} (record { factors = a ∷ b ∷ c ∷ d ∷ []; large = m; small = n; sharp = s }) (frameOf h)
+unfolding frameOf
+frame-is h e₁ e₂ e₃ e₄ e₅ e₆ e₇ = rw (e₁, e₂, e₃, e₄, e₅, e₆, e₇)
+
+-- ---- the public call
+pub frame-good : (h : List ℤ) → headerOf h ≡ true → framedOf h ≡ record { answer = T.Done; frame = frameOf h }
+unfolding framedOf
+frame-good h e = rw (e, framedOf)
+
+pub frame-refused : (h : List ℤ) → headerOf h ≡ false → framedOf h ≡ record { answer = T.Refused; frame = noFrame }
+unfolding framedOf
+frame-refused h e = rw (e, framedOf)

@@ -1,0 +1,5 @@
+pub mod Partitions
+pub mod PartitionsLaws
+pub mod Memory
+pub mod Checks
+pub mod ChecksLaws
