@@ -5,7 +5,7 @@ use mathlib.Core.Bool.{Bool, true, false, _&&_}
 use mathlib.Core.List.{List, []}
 use mathlib.Core.Logic.{inl, inr, ⊎-elim}
 use mathlib.Core.Path.{_≡_, refl, sym, _∙_, ap}
-use lib.Dec.{ltb, leb, lit<}
+use lib.Dec.{ltb, leb, lit<, lit≤}
 use lib.IntN.{ℤ, pos, negsuc, _+ℤ_, _*ℤ_}
 use lib.ListN.{length, getD, take, drop, set, length-take, length-set, List·getD-eq-default}
 use lib.Signed.{shrZ}
@@ -24,8 +24,8 @@ use Rattle.reader.specs.HeaderLaws.{probability-below}
 use Rattle.reader.specs.Extra.{toNumber}
 use Rattle.reader.specs.ExtraLaws.{extra-within, fromNumber}
 use Rattle.reader.specs.Reading.{run, Within, ends}
-use Rattle.reader.specs.ReadingLaws.{never-both, within-symbol, within-bind, within-more, within-weaken}
-use Rattle.reader.specs.TreesLaws.{reachOf, reach-within}
+use Rattle.reader.specs.ReadingLaws.{never-both, within-symbol, within-bind, within-more}
+use Rattle.reader.specs.TreesLaws.{reachOf, walk-below}
 use Rattle.reader.specs.declared.boolean.Reader.{Reader}
 use Rattle.reader.specs.declared.extra.Number.{Number}
 use Rattle.coefficients.specs.TokenSteps.{eleven-at, place-below, decode-passed, decode-refused, table-refused, table-done}
@@ -40,12 +40,11 @@ use Rattle.coefficients.specs.declared.tokens.Taken.the-variants as H
 -- ---- what each grammar gives, and how much it asks
 -- seven symbols at most, and a token 0..11
 token-reach : (z : Bool) → reachOf 7 (λ t. ltb t 12) tokenTree (startOf z) ≡ true
-unfolding reachOf
 token-reach true = refl
 token-reach false = refl
 
 pub token-within : (ps : List ℕ) (z : Bool) → Bytes ps → Within (λ t. t < 12) 7 (token ps z)
-token-within ps z y = within-weaken (λ t. ltb-true t 12) (reach-within 7 32 (λ t. ltb t 12) ps tokenTree (startOf z) (omega arith) y (token-reach z))
+token-within ps z y = walk-below 7 32 12 ps tokenTree (startOf z) (lit≤ tt) y (token-reach z)
 
 -- the categories' tables: bytes, few of them, and every number from 1 to 2114
 abbrev fineOf : ℕ → List ℕ → Bool

@@ -5,7 +5,7 @@ use native.Mathlib.Omega.{arith}
 use mathlib.Core.Bool.{Bool, true, false, _&&_}
 use mathlib.Core.List.{List}
 use mathlib.Core.Path.{_≡_, refl, sym, _∙_, ap}
-use lib.Dec.{ltb, leb, eqb}
+use lib.Dec.{ltb, leb, eqb, lit≤}
 use lib.IntN.{ℤ, pos, negsuc}
 use lib.ListN.{length, getD, drop, set, length-drop, replicate}
 use lib.Seq.{getD-take, getD-drop, length-take-le}
@@ -19,8 +19,8 @@ use Rattle.reader.specs.BooleanLaws.{Bytes, Valid}
 use Rattle.reader.specs.Extra.{extra, toNumber}
 use Rattle.reader.specs.Reading.{done, symbol, run}
 use Rattle.reader.specs.ReadingLaws.{symboled, fromSymbol, run-done, run-then, run-stops, run-valid, within-symbol}
-use Rattle.reader.specs.Trees.{walk, branchAt, treeOf, entriesOf}
-use Rattle.reader.specs.TreesLaws.{chain-missing, chain-leaf, chain-node, walk-limit}
+use Rattle.reader.specs.Trees.{walk, branchAt, treeOf}
+use Rattle.reader.specs.TreesLaws.{chain-missing, chain-leaf, chain-node, tree-fixed, walk-limit}
 use Rattle.reader.specs.declared.boolean.Reader.{Reader}
 use Rattle.reader.specs.declared.boolean.Symbol.{Symbol}
 use Rattle.reader.specs.declared.boolean.Symbol.the-variants as S
@@ -81,8 +81,7 @@ unfolding elevenAt
 length-eleven table at h = length-take-le 11 (drop at table) (rw length-drop (omega arith))
 
 eleven-tree : (table : List ℕ) (at : ℕ) → at + 11 ≤ length table → treeOf (elevenAt table at) tokenTree 1 ≡ true
-unfolding treeOf entriesOf
-eleven-tree table at h = rw (length-eleven table at h)
+eleven-tree table at h = tree-fixed (elevenAt table at) tokenTree 1 (rw (length-eleven table at h) (lit≤ tt)) refl
 
 pub token-after-zero : (s table : List ℕ) (at : ℕ) (r : Reader) → at + 11 ≤ length table → tokenFrom 31 s table at 1 r ≡ tokenOf s (elevenAt table at) true r
 unfolding tokenFrom tokenOf

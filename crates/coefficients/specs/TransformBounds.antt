@@ -17,8 +17,7 @@ use Rattle.numbers.specs.Know.{num, plainly, inside}
 use Rattle.numbers.specs.Eval.{v, shr, know}
 use Rattle.numbers.specs.Hand.{known}
 use Rattle.numbers.specs.Bounds.{each-∷, each2-∷}
-use Rattle.numbers.specs.Wrap.{wrapZ}
-use Rattle.numbers.specs.WrapLaws.{wrap-in}
+use Rattle.numbers.specs.WrapLaws.{wrap-in, wrap-same}
 use Rattle.coefficients.specs.Transform.{Grid, cell, four, columnOf, transposeOf, scaledOf, passOf, lineOf, rowsOf, verticalOf, biasOf, horizontalOf, resultOf}
 
 -- a numeral between two others
@@ -132,8 +131,7 @@ horizontal-in walsh e = rows-in walsh (bias-in walsh) e
 
 -- a division rounds down below 0 too: -1 leaves -1
 pub rounds-down : (walsh : Bool) → resultOf walsh (negsuc 0) ≡ negsuc 0
-unfolding wrapZ
-rounds-down true = refl
+rounds-down true = wrap-same (numeral-in (negsuc 0) tt)
 rounds-down false = refl
 
 -- a result is an eighth of what the passes leave, at most

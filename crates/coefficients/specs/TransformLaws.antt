@@ -12,7 +12,7 @@ use lib.Signed.{leZ}
 use Rattle.numbers.specs.In.{In, Each, Each2}
 use Rattle.numbers.specs.Parts.{le-true, true-le}
 use Rattle.numbers.specs.Bounds.{each-[], each-∷, each2-[], each2-∷}
-use Rattle.numbers.specs.Lists.{build, length-build, getD-build, getD-build-past, getD-constant, _∷≡_}
+use Rattle.numbers.specs.Lists.{build, build-listed, length-build, getD-build, getD-build-past, getD-constant, _∷≡_}
 use Rattle.numbers.specs.Tables.{allBelow, all-below}
 use Rattle.numbers.specs.Tests.{lt-or, both-true, both-left, both-right, cond-at, not-so}
 use Rattle.numbers.specs.WrapLaws.{wrap-in}
@@ -146,5 +146,5 @@ plain-horizontal walsh d = rw pass-plain
 
 -- with every coefficient but the first 0, one number stands in all sixteen places
 pub shortcut : {c : List ℤ} (walsh : Bool) → PlainTo 16 c → samplesOf walsh c ≡ replicate 16 (resultOf walsh (at c 0 +ℤ biasOf walsh))
-unfolding samplesOf resultsOf build
-shortcut {c} walsh p = rw (plain-grid p, plain-vertical walsh (at c 0), plain-horizontal walsh (at c 0))
+unfolding samplesOf resultsOf
+shortcut {c} walsh p = rw (plain-grid p, plain-vertical walsh (at c 0), plain-horizontal walsh (at c 0)) (build-listed 16 _)

@@ -6,16 +6,16 @@ use mathlib.Core.Logic.{inl, inr}
 use Prim.Native.Nat.{ℕ, _+_, _*_, _/_, _<_, _≤_}
 use native.Mathlib.Omega.{arith}
 use borrow.Author.Tests.{le-leb, lt-leb}
-use lib.Dec.{leb, ltb, lit<, lit≤}
+use lib.Dec.{T, leb, ltb, lit<, lit≤}
 use lib.ListN.{getD}
 use lib.IntN.{ℤ, pos, negsuc, negℤ, natAbs, _+ℤ_, _-ℤ_, _*ℤ_, +ℤ-idl, +ℤ-comm}
-use lib.Signed.{_≤ℤ_, shrZ}
+use lib.Signed.{_≤ℤ_, leZ, leZ-yes, shrZ}
 use Rattle.numbers.specs.Tests.{lt-or}
 use Rattle.numbers.specs.Parts.{to-le, of-le, of-eq, lt-parts, nlt-le, ≤ℤ-trans, add-parts, sub-parts-ℤ, up-neg, dn-neg, shr-parts}
 use Rattle.numbers.specs.Order.{shr-mono}
-use Rattle.numbers.specs.Clamp.{clampZ, upTo, clipZ, signedTo, signedByteZ}
-use Rattle.numbers.specs.ClampLaws.{clamp-cases, clamp-same, clamp-low, clamp-high, signed-in}
-use Rattle.numbers.specs.Lists.{build, _∷≡_}
+use Rattle.numbers.specs.Clamp.{clampZ, clipZ, signedTo, signedByteZ}
+use Rattle.numbers.specs.ClampLaws.{clamp-cases, clamp-same, clamp-low, clamp-high, upTo-abs, signed-in}
+use Rattle.numbers.specs.Lists.{build-listed, _∷≡_}
 use Rattle.kernel.specs.Kernel as kernel
 use Rattle.kernel.specs.Kernel.{samplesOf, across, tapped, eighth, part, half, sides, noSteps, commonSteps, macroblockSteps, innerSteps, movedOf, filterOf}
 use Rattle.kernel.specs.KernelLaws.{Bytes, clip-still, first-past, steps-by-tests, part-in, edge-test-same}
@@ -24,7 +24,7 @@ use Rattle.kernel.specs.Rfc15
 -- ---- signed and unsigned
 -- a pixel moved, signed, is the sample moved: on either side of the edge, since a step is taken off by adding its opposite
 pub s2u-plus : (x : ℕ) (d : ℤ) → Rfc15.s2u (Rfc15.u2s x +ℤ d) ≡ clipZ (pos x +ℤ d)
-unfolding Rfc15.s2u Rfc15.u2s upTo
+unfolding Rfc15.s2u Rfc15.u2s
 s2u-plus x d =
     let y = pos x -ℤ pos 128 +ℤ d in
     let z = pos x +ℤ d in
@@ -38,6 +38,7 @@ s2u-plus x d =
     (λ e f.
     of-eq (omega (arith, add-parts y (pos 128)))
     ∙ sym (clamp-same {v = z} (record { low = of-le (omega (arith, to-le (nlt-le y (negsuc 127) e))); high = of-le (omega (arith, to-le (nlt-le (pos 127) y f))) }))))
+    ∙ upTo-abs 255 z
 
 pub u2s-minus : (a b : ℕ) → Rfc15.u2s a -ℤ Rfc15.u2s b ≡ pos a -ℤ pos b
 unfolding Rfc15.u2s
@@ -67,8 +68,13 @@ clamp-twice k a h low high =
     (λ e f. shr-clamp (a +ℤ pos k))
 
 eighth-rfc : (a : ℤ) → (shrZ (signedByteZ (signedByteZ a +ℤ pos 3)) 8 ≡ eighth (a +ℤ pos 3)) × (shrZ (signedByteZ (signedByteZ a +ℤ pos 4)) 8 ≡ eighth (a +ℤ pos 4))
-unfolding clampZ
-eighth-rfc a = (clamp-twice 3 a (lit≤ tt) refl refl, clamp-twice 4 a (lit≤ tt) refl refl)
+eighth-rfc a = (clamp-twice 3 a (lit≤ tt) (low (negsuc 124) tt tt) (high (pos 130) tt), clamp-twice 4 a (lit≤ tt) (low (negsuc 123) tt tt) (high (pos 131) tt))
+  where
+    low : (z : ℤ) → T (leZ (negsuc 127) z) → T (leZ z (pos 127)) → shrZ (signedByteZ z) 8 ≡ shrZ z 8
+    low z t u = ap (λ (x : ℤ). shrZ x 8) (clamp-same (record { low = leZ-yes t; high = leZ-yes u }))
+
+    high : (z : ℤ) → T (leZ (pos 127) z) → shrZ (signedByteZ z) 8 ≡ pos 15
+    high z t = ap (λ (x : ℤ). shrZ x 8) (clamp-high (leZ-yes tt) (leZ-yes t))
 
 -- a part is a signed byte already
 part-rfc : (k : ℕ) (a : ℤ) → k ≤ 127 → signedByteZ (part k (signedByteZ a)) ≡ part k (signedByteZ a)
@@ -134,35 +140,38 @@ module _ (e : List ℕ) (b : Bytes e) where
   still k = clip-still (b k)
 
   none-rfc : movedOf e noSteps ≡ Rfc15.pixelsOf s
-  unfolding movedOf build noSteps sides
-  none-rfc = still 0 ∷≡ still 1 ∷≡ still 2 ∷≡ still 3 ∷≡ still 4 ∷≡ still 5 ∷≡ still 6 ∷≡ still 7 ∷≡ refl
+  unfolding movedOf noSteps sides
+  none-rfc = build-listed 8 _ ∙ (still 0 ∷≡ still 1 ∷≡ still 2 ∷≡ still 3 ∷≡ still 4 ∷≡ still 5 ∷≡ still 6 ∷≡ still 7 ∷≡ refl)
 
   common-rfc : movedOf e (commonSteps (tapped (samplesOf e))) ≡ Rfc15.pixelsOf (Rfc15.adjusted s (Rfc15.commonAdjust true s))
-  unfolding movedOf build commonSteps sides Rfc15.commonAdjust
+  unfolding movedOf commonSteps sides Rfc15.commonAdjust
   common-rfc =
       let t = toward tapped-rfc in
-      still 0 ∷≡ still 1 ∷≡ still 2 ∷≡ step-rfc (getD e 3 0) (t .0) ∷≡ step-rfc (getD e 4 0) (ap negℤ (t .1)) ∷≡ still 5 ∷≡ still 6 ∷≡ still 7 ∷≡ refl
+      build-listed 8 _
+      ∙ (still 0 ∷≡ still 1 ∷≡ still 2 ∷≡ step-rfc (getD e 3 0) (t .0) ∷≡ step-rfc (getD e 4 0) (ap negℤ (t .1)) ∷≡ still 5 ∷≡ still 6 ∷≡ still 7 ∷≡ refl)
 
   inner-rfc : movedOf e (innerSteps (across (samplesOf e))) ≡ Rfc15.pixelsOf (Rfc15.subblockAct false s)
-  unfolding movedOf build innerSteps sides half Rfc15.subblockAct Rfc15.commonAdjust
+  unfolding movedOf innerSteps sides half Rfc15.subblockAct Rfc15.commonAdjust
   inner-rfc =
       let t = toward across-rfc in
       let h = ap (λ (z : ℤ). shrZ (z +ℤ pos 1) 2) (t .1) in
-      still 0 ∷≡ still 1 ∷≡ step-rfc (getD e 2 0) h ∷≡ step-rfc (getD e 3 0) (t .0)
-      ∷≡ step-rfc (getD e 4 0) (ap negℤ (t .1)) ∷≡ step-rfc (getD e 5 0) (ap negℤ h) ∷≡ still 6 ∷≡ still 7 ∷≡ refl
+      build-listed 8 _
+      ∙ (still 0 ∷≡ still 1 ∷≡ step-rfc (getD e 2 0) h ∷≡ step-rfc (getD e 3 0) (t .0)
+      ∷≡ step-rfc (getD e 4 0) (ap negℤ (t .1)) ∷≡ step-rfc (getD e 5 0) (ap negℤ h) ∷≡ still 6 ∷≡ still 7 ∷≡ refl)
 
   -- k parts in 128, clamped
   portion : (k : ℕ) {x a : ℤ} → k ≤ 127 → x ≡ a → signedByteZ (part k (signedByteZ x)) ≡ part k (signedByteZ a)
   portion k {x} {a} h p = rw p (part-rfc k a h)
 
   macroblock-rfc : movedOf e (macroblockSteps (signedByteZ (tapped (samplesOf e)))) ≡ Rfc15.pixelsOf (Rfc15.mbAct false s)
-  unfolding movedOf build macroblockSteps sides part Rfc15.mbAct
+  unfolding movedOf macroblockSteps sides part Rfc15.mbAct
   macroblock-rfc =
       let near = portion 27 (lit≤ tt) tapped-rfc in
       let next = portion 18 (lit≤ tt) tapped-rfc in
       let last = portion 9 (lit≤ tt) tapped-rfc in
-      still 0 ∷≡ step-rfc (getD e 1 0) last ∷≡ step-rfc (getD e 2 0) next ∷≡ step-rfc (getD e 3 0) near
-      ∷≡ step-rfc (getD e 4 0) (ap negℤ near) ∷≡ step-rfc (getD e 5 0) (ap negℤ next) ∷≡ step-rfc (getD e 6 0) (ap negℤ last) ∷≡ still 7 ∷≡ refl
+      build-listed 8 _
+      ∙ (still 0 ∷≡ step-rfc (getD e 1 0) last ∷≡ step-rfc (getD e 2 0) next ∷≡ step-rfc (getD e 3 0) near
+      ∷≡ step-rfc (getD e 4 0) (ap negℤ near) ∷≡ step-rfc (getD e 5 0) (ap negℤ next) ∷≡ step-rfc (getD e 6 0) (ap negℤ last) ∷≡ still 7 ∷≡ refl)
 
   -- ---- and the whole: by the tests w (edge), r (a pair is rough) and h (high variance)
   by-tests : (w simple r h edge : Bool)

@@ -20,7 +20,7 @@ use Rattle.numbers.specs.Eval.{E, v, lit, _⊕_, _⊖_, _⊙_, val, chk, know}
 use Rattle.numbers.specs.Hand.{known, unsigned-below}
 use Rattle.numbers.specs.Floor.{divided2-source, divided8-source, divided128-source}
 use Rattle.numbers.specs.Clamp.{clampZ, clipZ, signedTo, signedByteZ}
-use Rattle.numbers.specs.ClampLaws.{signed-in}
+use Rattle.numbers.specs.ClampLaws.{clamp-tests, signed-in}
 use Rattle.kernel.specs.Kernel as kernel
 use Rattle.kernel.specs.Kernel.{Samples, samplesOf, across, tapped, eighth, part, half, sides, noSteps, commonSteps, macroblockSteps, innerSteps, filterOf}
 use Rattle.kernel.specs.KernelLaws.{Bytes, clip-still, filter-at, first-past, steps-by-tests, eighth-in}
@@ -32,8 +32,8 @@ absolute-source (pos a) = cond-at (ltb a 0) (λ (x : ℤ). x ≡ pos a) (λ e. a
 absolute-source (negsuc a) = ap pos (zero-add (suc a))
 
 pub bounded-source : (z lo hi : ℤ) → bounded z lo hi ≡ clampZ lo hi z
-unfolding bounded clampZ
-bounded-source z lo hi = refl
+unfolding bounded
+bounded-source z lo hi = sym (clamp-tests lo hi z)
 
 -- `divided` by 2, 8 and 128 is the division that rounds down, in the range that the source asks and further
 pub divided-source : (z : ℤ) → negsuc 1048575 ≤ℤ z → (divided z 2 ≡ shrZ z 2) × (divided z 8 ≡ shrZ z 8) × (divided z 128 ≡ shrZ z 128)
@@ -59,13 +59,18 @@ smooth-source e inner = simp absolute-source (first-past _ _ _ _ _ _)
 far : {l h z : ℤ} (i : In l h z) (x : E) → T (chk w32 (known (plainly i) ∷ []) x .good) → T (leZ (negsuc 1048575) (chk w32 (known (plainly i) ∷ []) x .l)) → negsuc 1048575 ≤ℤ val w32 (known (plainly i) ∷ []) x
 far i x g t = ≤ℤ-trans (leZ-yes t) (know w32 (known (plainly i) ∷ []) x g .low)
 
-eighth-source : (a : ℤ) → negsuc 1048575 ≤ℤ a → bounded (divided a 8) (negsuc 15) (pos 15) ≡ eighth a
+eighth-source : (k : ℕ) {x a : ℤ} → x ≡ a → negsuc 1048575 ≤ℤ (a +ℤ pos k) → bounded (divided (x +ℤ pos k) 8) (negsuc 15) (pos 15) ≡ eighth (a +ℤ pos k)
 unfolding eighth
-eighth-source a h = bounded-source (divided a 8) (negsuc 15) (pos 15) ∙ ap (λ (z : ℤ). signedTo 15 z) (divided-source a h .1)
+eighth-source k {x} {a} e h = rw e (bounded-source (divided (a +ℤ pos k) 8) (negsuc 15) (pos 15) ∙ ap (λ (z : ℤ). signedTo 15 z) (divided-source (a +ℤ pos k) h .1))
 
-part-source : (k : ℕ) (w : ℤ) → negsuc 1048575 ≤ℤ (pos k *ℤ w +ℤ pos 63) → divided (pos k *ℤ w +ℤ pos 63) 128 ≡ part k w
+part-source : (k : ℕ) {x w : ℤ} → x ≡ w → negsuc 1048575 ≤ℤ (pos k *ℤ w +ℤ pos 63) → divided (pos k *ℤ x +ℤ pos 63) 128 ≡ part k w
 unfolding part
-part-source k w h = divided-source (pos k *ℤ w +ℤ pos 63) h .2
+part-source k {x} {w} e h = rw e (divided-source (pos k *ℤ w +ℤ pos 63) h .2)
+
+-- `a` with the outer taps
+tapped-source : (s : Samples) → pos 3 *ℤ (s .q0 -ℤ s .p0) +ℤ bounded (s .p1 -ℤ s .q1) (negsuc 127) (pos 127) ≡ tapped s
+unfolding tapped across
+tapped-source s = ap (λ (z : ℤ). pos 3 *ℤ (s .q0 -ℤ s .p0) +ℤ z) (bounded-source (s .p1 -ℤ s .q1) (negsuc 127) (pos 127))
 
 module _ (e : List ℕ) (b : Bytes e) where
   byte : (k : ℕ) → In (pos 0) (pos 255) (pos (getD e k 0))
@@ -97,29 +102,31 @@ module _ (e : List ℕ) (b : Bytes e) where
   none-source = cases8 (Moved (λ i. getD e i 0) noSteps) (stays 0) (stays 1) (stays 2) (stays 3) (stays 4) (stays 5) (stays 6) (stays 7)
 
   simple-source : (k : ℕ) → k < 8 → Moved (simpleSample e) (commonSteps (tapped (samplesOf e))) k
-  unfolding simpleSample bounded clampZ tapped across commonSteps sides
+  unfolding simpleSample commonSteps sides
   simple-source =
+      let t = tapped-source (samplesOf e) in
       cases8 (Moved (simpleSample e) (commonSteps (tapped (samplesOf e)))) (stays 0) (stays 1) (stays 2)
-      (added 3 (eighth-source _ (far tapped-in (v 0 ⊕ lit (pos 3)) tt tt))) (taken 4 (eighth-source _ (far tapped-in (v 0 ⊕ lit (pos 4)) tt tt)))
+      (added 3 (eighth-source 3 t (far tapped-in (v 0 ⊕ lit (pos 3)) tt tt))) (taken 4 (eighth-source 4 t (far tapped-in (v 0 ⊕ lit (pos 4)) tt tt)))
       (stays 5) (stays 6) (stays 7)
 
   edge-source : (k : ℕ) → k < 8 → Moved (edgeSample e) (macroblockSteps (signedByteZ (tapped (samplesOf e)))) k
-  unfolding edgeSample bounded clampZ tapped across macroblockSteps sides
+  unfolding edgeSample macroblockSteps sides
   edge-source =
+      let t = bounded-source _ (negsuc 127) (pos 127) ∙ ap (λ (z : ℤ). signedByteZ z) (tapped-source (samplesOf e)) in
       let w = signed-in 127 (tapped (samplesOf e)) in
-      let near = part-source 27 _ (far w (27 ⊙ v 0 ⊕ lit (pos 63)) tt tt) in
-      let next = part-source 18 _ (far w (18 ⊙ v 0 ⊕ lit (pos 63)) tt tt) in
-      let last = part-source 9 _ (far w (9 ⊙ v 0 ⊕ lit (pos 63)) tt tt) in
+      let near = part-source 27 t (far w (27 ⊙ v 0 ⊕ lit (pos 63)) tt tt) in
+      let next = part-source 18 t (far w (18 ⊙ v 0 ⊕ lit (pos 63)) tt tt) in
+      let last = part-source 9 t (far w (9 ⊙ v 0 ⊕ lit (pos 63)) tt tt) in
       cases8 (Moved (edgeSample e) (macroblockSteps (signedByteZ (tapped (samplesOf e))))) (stays 0)
       (added 1 last) (added 2 next) (added 3 near) (taken 4 near) (taken 5 next) (taken 6 last) (stays 7)
 
   inner-source : (k : ℕ) → k < 8 → Moved (innerSample e) (innerSteps (across (samplesOf e))) k
   unfolding innerSample across innerSteps sides half
   inner-source =
-      let near = eighth-source _ (far across-in (v 0 ⊕ lit (pos 4)) tt tt) in
+      let near = eighth-source 4 {x = across (samplesOf e)} refl (far across-in (v 0 ⊕ lit (pos 4)) tt tt) in
       let next = ap (λ (z : ℤ). divided (z +ℤ pos 1) 2) near ∙ divided-source _ (far (eighth-in _) (v 0 ⊕ lit (pos 1)) tt tt) .0 in
       cases8 (Moved (innerSample e) (innerSteps (across (samplesOf e)))) (stays 0) (stays 1)
-      (added 2 next) (added 3 (eighth-source _ (far across-in (v 0 ⊕ lit (pos 3)) tt tt))) (taken 4 near) (taken 5 next) (stays 6) (stays 7)
+      (added 2 next) (added 3 (eighth-source 3 {x = across (samplesOf e)} refl (far across-in (v 0 ⊕ lit (pos 3)) tt tt))) (taken 4 near) (taken 5 next) (stays 6) (stays 7)
 
 -- ---- and the whole
 branches : {A : Type 0} (t u m : Bool) {a b c d : ℕ} {w x y z : A} (f : A → ℕ) → a ≡ f w → b ≡ f x → c ≡ f y → d ≡ f z → cond t a (cond u b (cond m c d)) ≡ f (cond t w (cond u x (cond m y z)))

@@ -1,11 +1,11 @@
--- The laws of a frame: its parts, and the answer with a good header.
-use Prim.Native.Nat.{ℕ, _<_}
+-- The laws of a frame: its parts, the answer with a good header, and what a macroblock reads of it.
+use Prim.Native.Nat.{ℕ, zero, suc, _≤_, _<_}
 use mathlib.Core.Path.{_≡_, refl, sym, _∙_, ap}
 use mathlib.Core.Bool.{Bool, true, false}
 use mathlib.Core.List.{List, [], _∷_}
 use native.Mathlib.Omega.{arith}
 use lib.IntN.{ℤ}
-use lib.ListN.{replicate}
+use lib.ListN.{getD, replicate}
 use Rattle.numbers.specs.Clamp.{upTo}
 use Rattle.reader.specs.Header.{entry, headerOf}
 use Rattle.segments.specs.declared.quantizers.Factors.{Factors}
@@ -15,10 +15,11 @@ use Rattle.segments.specs.declared.levels.Level.the-variants as L
 use Rattle.segments.specs.Quantizers.{factorsOf, noFactors, quantizersOf}
 use Rattle.segments.specs.QuantizersLaws.{segment-good}
 use Rattle.segments.specs.Levels.{levelOf, levelAnswer}
-use Rattle.segments.specs.LevelsLaws.{level-good}
+use Rattle.segments.specs.LevelsLaws.{level-in, level-good}
 use Rattle.macroblock.specs.declared.frame.Frame.{Frame}
 use Rattle.macroblock.specs.declared.frame.Framed.{Framed}
 use Rattle.macroblock.specs.declared.frame.Taken.the-variants as T
+use Rattle.macroblock.specs.Macroblock.{factorsAt, levelAt}
 use Rattle.macroblock.specs.Frame.{levelsOf, frameOf, noFrame, framedOf}
 
 -- ---- what a segment's calls answer, the header being fine
@@ -55,3 +56,39 @@ frame-good h e = rw (e, framedOf)
 pub frame-refused : (h : List ℤ) → headerOf h ≡ false → framedOf h ≡ record { answer = T.Refused; frame = noFrame }
 unfolding framedOf
 frame-refused h e = rw (e, framedOf)
+
+-- ---- what a macroblock reads of it
+module _ (h : List ℤ) where
+  four-levels : (small : Bool) (i : ℕ) → getD (levelsOf h small) i 0 ≤ 63
+  four-levels small zero = level-in h 0 small
+  four-levels small (suc zero) = level-in h 1 small
+  four-levels small (suc (suc zero)) = level-in h 2 small
+  four-levels small (suc (suc (suc zero))) = level-in h 3 small
+  four-levels small (suc (suc (suc (suc i)))) = omega arith
+
+  -- its levels are at most 63
+  pub frame-levels : (small : Bool) (i : ℕ) → levelAt (frameOf h) small i ≤ 63
+  unfolding frameOf
+  frame-levels true i = four-levels true i
+  frame-levels false i = four-levels false i
+
+  -- they are those of the segment, and so are its factors
+  level-at : (small : Bool) (i : ℕ) → i < 4 → getD (levelsOf h small) i 0 ≡ levelOf h i small
+  level-at small zero l = refl
+  level-at small (suc zero) l = refl
+  level-at small (suc (suc zero)) l = refl
+  level-at small (suc (suc (suc zero))) l = refl
+  level-at small (suc (suc (suc (suc i)))) l = absurd (omega arith)
+
+  pub frame-level : (small : Bool) (segment : ℕ) → segment < 4 → levelAt (frameOf h) small segment ≡ levelOf h segment small
+  unfolding frameOf
+  frame-level true segment l = level-at true segment l
+  frame-level false segment l = level-at false segment l
+
+  pub frame-factors : (segment : ℕ) → segment < 4 → factorsAt (frameOf h) segment ≡ factorsOf h segment
+  unfolding frameOf
+  frame-factors zero l = refl
+  frame-factors (suc zero) l = refl
+  frame-factors (suc (suc zero)) l = refl
+  frame-factors (suc (suc (suc zero))) l = refl
+  frame-factors (suc (suc (suc (suc i)))) l = absurd (omega arith)

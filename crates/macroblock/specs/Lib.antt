@@ -1,6 +1,11 @@
 pub mod Strengths
 pub mod StrengthsLaws
+pub mod StrengthRecords
+pub mod StrengthRecordsLaws
 pub mod Frame
 pub mod FrameLaws
 pub mod Macroblock
 pub mod MacroblockLaws
+pub mod DecodeLaws
+pub mod StepLaws
+pub mod StepRecords

@@ -1,13 +1,14 @@
 -- One macroblock (the source's vp8_macroblock): its modes, then its residual, then its three squares, its strengths and the contexts
 -- that it leaves. Where a byte is missing nothing is painted.
-use Prim.Native.Nat.{ℕ, _+_, _*_, _/_, _≤_, _<_}
+use Prim.Native.Nat.{ℕ, _+_, _*_, _/_, _%_, _≤_, _<_}
 use mathlib.Core.Path.{_≡_}
 use mathlib.Core.Bool.{Bool, true, false, not, _&&_, _||_}
 use mathlib.Core.List.{List, [], _∷_}
+use lib.Dec.{ltb, leb, eqb}
 use lib.IntN.{ℤ, pos, negsuc}
 use lib.ListN.{length, getD, take, drop, replicate}
 use Rattle.numbers.specs.In.{Each}
-use Rattle.reader.specs.Boolean.{Given, given, missing}
+use Rattle.reader.specs.Boolean.{Given, given, missing, validOf}
 use Rattle.reader.specs.BooleanLaws.{Valid}
 use Rattle.reader.specs.Reading.{run}
 use Rattle.reader.specs.declared.boolean.Reader.{Reader}
@@ -16,7 +17,7 @@ use Rattle.segments.specs.Quantizers.{noFactors}
 use Rattle.modes.specs.declared.columns.Context.{Context}
 use Rattle.modes.specs.Modes.{Macroblock, modesOf, bottomOf, rightOf}
 use Rattle.modes.specs.Answers.{kindsOf, contextsOf}
-use Rattle.modes.specs.Records.{emptyContext}
+use Rattle.modes.specs.Records.{emptyContext, contextFine}
 use Rattle.residual.specs.Residual.{Model, Flags, residualOf}
 use Rattle.planes.specs.Paint.{squarePainted}
 use Rattle.macroblock.specs.declared.frame.Frame.{Frame}
@@ -184,6 +185,37 @@ tokensOf tokens t table f top left m r w column row p =
 unfoldable pub wholeOf : List ℕ → Reader → List ℕ → Reader → List ℤ → List ℕ → Frame → (top left : Context) → (w column row : ℕ) → Planes → Called
 wholeOf s r tokens t h table f top left w column row p = toCalled p (stepOf s r tokens t h table f top left w column row p)
 
+-- ---- the call
+-- what is read: readers in range, a header of 1096 entries, a table of 1056 probabilities, contexts in range, levels of at most 63
+abbrev pub levelsFine : List ℕ → Bool
+levelsFine l = (leb (getD l 0 0) 63 && leb (getD l 1 0) 63) && (leb (getD l 2 0) 63 && leb (getD l 3 0) 63)
+
+unfoldable pub readyOf : List ℕ → Reader → List ℕ → Reader → (entries size : ℕ) → Frame → (top left : Context) → Bool
+readyOf s r tokens t entries size f top left =
+    (validOf s r && validOf tokens t)
+    && ((eqb entries 1096 && eqb size 1056)
+    && ((contextFine top && contextFine left)
+    && (levelsFine (f .large) && levelsFine (f .small))))
+
+-- where it is painted: planes of whole macroblocks, by their lengths, at most 16384 samples wide and high, and this one among them
+unfoldable pub laidOf : (y u v : ℕ) → (w column row : ℕ) → Bool
+laidOf y u v w column row =
+    let rows = y / w / 16 in
+    let chroma = rows * 8 * (w / 2) in
+    ltb column (w / 16)
+    && ((leb w 16384 && leb rows 1024)
+    && ((eqb (w % 16) 0 && ltb row rows)
+    && (eqb y (rows * 16 * w) && (eqb u chroma && eqb v chroma))))
+
+-- `decode`: refused where one of these is out of range, and then the planes stay
+unfoldable pub decodeOf : List ℕ → Reader → List ℕ → Reader → List ℤ → List ℕ → Frame → (top left : Context) → (w column row : ℕ) → Planes → Called
+decodeOf s r tokens t h table f top left w column row p =
+    elim (readyOf s r tokens t (length h) (length table) f top left && laidOf (length (p .y)) (length (p .u)) (length (p .v)) w column row) [
+      | true ↦ wholeOf s r tokens t h table f top left w column row p
+      | false ↦ record { answer = nothing F.Refused; planes = p }
+    ]
+
+-- ---- the answer as a number
 abbrev pub finishNumberOf : Finish → ℕ
 finishNumberOf (F.Done r t) = 0
 finishNumberOf F.NoModes = 6

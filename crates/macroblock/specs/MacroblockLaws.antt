@@ -46,7 +46,7 @@ each-part c n k e =
     short i g = rw (length-take n (drop k c)) (omega arith)
 
 module _ {w column row : ℕ} {p : Planes} {m : Macroblock} {c : List ℤ} (g : Laid w column row p) (h : Painting m c) where
-  luma-proper : Proper (length (p .y)) w (g .columns) (g .rows) column row 16 (m .small) (getD (m .modes) 0 0) (m .modes) (take 256 c)
+  pub luma-proper : Proper (length (p .y)) w (g .columns) (g .rows) column row 16 (m .small) (getD (m .modes) 0 0) (m .modes) (take 256 c)
   luma-proper =
       record {
         size = inr refl;
@@ -63,7 +63,7 @@ module _ {w column row : ℕ} {p : Planes} {m : Macroblock} {c : List ℤ} (g : 
         fit = each-part c 256 0 (h .each);
       }
 
-  chroma-proper : (q : List ℕ) → length q ≡ g .rows * 8 * (w / 2) → (k : ℕ) → k + 64 ≤ 384 → Proper (length q) (w / 2) (g .columns) (g .rows) column row 8 false (m .chroma) (m .modes) (take 64 (drop k c))
+  pub chroma-proper : (q : List ℕ) → length q ≡ g .rows * 8 * (w / 2) → (k : ℕ) → k + 64 ≤ 384 → Proper (length q) (w / 2) (g .columns) (g .rows) column row 8 false (m .chroma) (m .modes) (take 64 (drop k c))
   chroma-proper q e k l =
       record {
         size = inl refl;

@@ -1,5 +1,7 @@
 // One macroblock whole: its modes, its residual, its samples, its strengths and the contexts it leaves.
+mod checks;
 pub mod frame;
+pub mod records;
 mod squares;
 pub mod strengths;
 pub mod whole;

@@ -1,5 +1,7 @@
 // One macroblock (the source's vp8_macroblock): its modes, then its residual, then its three squares, its strengths and the
 // contexts that it leaves. Where a byte is missing nothing is written.
+use crate::checks::laid;
+use crate::checks::ready;
 use crate::frame::Frame;
 use crate::squares::squares;
 use crate::strengths::Strength;
@@ -10,7 +12,7 @@ use modes::answers::Stage;
 use modes::columns::Context;
 use modes::columns::bottom;
 use modes::columns::right;
-use modes::macroblock::read_modes;
+use modes::whole::read_modes;
 use reader::boolean::Reader;
 use residual::Ended;
 use segments::quantizers::Factors;
@@ -23,7 +25,7 @@ ghost use Rattle.modes.specs.ModesLaws.{InRange};
 ghost use Rattle.modes.specs.Answers.{macroblockOf};
 ghost use Rattle.residual.specs.Residual.{residualOf};
 ghost use Rattle.macroblock.specs.Strengths.{noStrength, strengthOf};
-ghost use Rattle.macroblock.specs.Macroblock.{Ready, Tokens, Laid, levelAt, endedOf, tokensOf, factorsAt, wholeOf, nothing};
+ghost use Rattle.macroblock.specs.Macroblock.{Ready, Tokens, Laid, levelAt, endedOf, tokensOf, factorsAt, wholeOf, decodeOf, nothing};
 
 // Finished, with the readers after it; or where it stopped: its modes (6) or its tokens (7) ran out; or an argument (9).
 pub enum Finish {
@@ -245,6 +247,51 @@ fn step(
         kinds,
         next,
         &modes,
+        width,
+        column,
+        row,
+        y,
+        u,
+        v,
+    )
+}
+
+// A macroblock: its modes from `s`, its tokens from `tokens`. Whatever is not finished leaves the planes as they were.
+pub fn decode(
+    s: &[u8],
+    r: Reader,
+    tokens: &[u8],
+    t: Reader,
+    h: &[i32],
+    table: &[u8],
+    frame: Frame,
+    top: Context,
+    left: Context,
+    width: usize,
+    column: usize,
+    row: usize,
+    y: &mut [u8],
+    u: &mut [u8],
+    v: &mut [u8],
+) -> Whole
+    ensures { λ q. ⌜ record { answer = q; planes = record { y = now (y .exit); u = now (u .exit); v = now (v .exit) } } ≡ decodeOf (now (s .entry)) r (now (tokens .entry)) t (now (h .entry)) (now (table .entry)) frame top left width column row (record { y = now (y .entry); u = now (u .entry); v = now (v .entry) }) ⌝ }
+{
+    if !ready(s, r, tokens, t, h.len(), table.len(), frame, top, left) {
+        return stopped(Finish::Refused);
+    }
+    if !laid(y.len(), u.len(), v.len(), width, column, row) {
+        return stopped(Finish::Refused);
+    }
+    step(
+        s,
+        r,
+        tokens,
+        t,
+        h,
+        table,
+        frame,
+        top,
+        left,
         width,
         column,
         row,

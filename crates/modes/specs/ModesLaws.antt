@@ -9,7 +9,7 @@ use native.Mathlib.Nat.{mod-lt}
 use lib.ListN.{length, getD, set, length-set, replicate}
 use lib.Seq.{ext-getD, getD-set-same, getD-set-other}
 use lib.IntN.{ℤ, pos, negsuc}
-use lib.Dec.{ltb, lit<}
+use lib.Dec.{ltb, lit<, lit≤}
 use borrow.Author.Tests.{ltb-true, lt-ltb, le-ltb, eq-eqb, ne-eqb}
 use Rattle.numbers.specs.Tests.{lt-or, eq-or, never, both-left, both-right, both-true}
 use Rattle.numbers.specs.Lists.{set-keeps}
@@ -18,9 +18,9 @@ use Rattle.reader.specs.declared.boolean.Reader.{Reader}
 use Rattle.reader.specs.Boolean.{given, missing}
 use Rattle.reader.specs.BooleanLaws.{Bytes}
 use Rattle.reader.specs.Reading.{Reading, done, _>>=_, symbol, run, Within, ends, depth}
-use Rattle.reader.specs.ReadingLaws.{run-done, run-then, run-stops, within-bind, within-more, within-weaken, within-symbol, within-depth}
+use Rattle.reader.specs.ReadingLaws.{run-done, run-then, run-stops, within-bind, within-more, within-symbol, within-depth}
 use Rattle.reader.specs.Header.{probabilityOf}
-use Rattle.reader.specs.TreesLaws.{reachOf, reach-within}
+use Rattle.reader.specs.TreesLaws.{reachOf, walk-below}
 use Rattle.modes.specs.declared.answers.Prefix.{Prefix}
 use Rattle.modes.specs.Table.{probabilities}
 use Rattle.modes.specs.TableLaws.{probabilities-bytes}
@@ -75,13 +75,14 @@ probability-neg n = omega arith
 unfoldable pub byteLeaves : List ℤ → Bool
 byteLeaves t = reachOf 32 (λ v. ltb v 256) t 0
 
+-- of a constant tree `refl` answers the test
+pub byte-leaves : (t : List ℤ) → reachOf 32 (λ v. ltb v 256) t 0 ≡ true → byteLeaves t ≡ true
+unfolding byteLeaves
+byte-leaves t e = e
+
 pub leaves-within : (ps : List ℕ) (t : List ℤ) → Bytes ps → byteLeaves t ≡ true → Within (λ v. v < 256) 32 (tree ps t)
 unfolding byteLeaves
-leaves-within ps t y e = within-weaken (λ v. ltb-true v 256) (reach-within 32 32 (λ v. ltb v 256) ps t 0 (omega arith) y e)
-
--- every path of a constant tree ends within d symbols at a number below m
-short : (d m : ℕ) (ps : List ℕ) (t : List ℤ) → d ≤ 32 → Bytes ps → reachOf d (λ v. ltb v m) t 0 ≡ true → Within (λ v. v < m) d (tree ps t)
-short d m ps t l y e = within-weaken (λ v. ltb-true v m) (reach-within d 32 (λ v. ltb v m) ps t 0 l y e)
+leaves-within ps t y e = walk-below 32 32 256 ps t 0 (lit≤ tt) y e
 
 list-bytes : (ps : List ℕ) → eachBelow 256 ps ≡ true → Bytes ps
 list-bytes ps e = each-fact 256 ps (lit< tt) e
@@ -98,8 +99,8 @@ optional-within true a h w = w
 optional-within false a h w = ends h
 
 pub segment-within : (h : List ℤ) → Within (λ v. v < 4) 2 (segment h)
-unfolding segment reachOf
-segment-within h = optional-within (present h 3) 0 (lit< tt) (short 2 4 _ segTree (omega arith) (probabilities-byte (getD h 14 (pos 0)) (getD h 15 (pos 0)) (getD h 16 (pos 0))) refl)
+unfolding segment
+segment-within h = optional-within (present h 3) 0 (lit< tt) (walk-below 2 32 4 _ segTree 0 (lit≤ tt) (probabilities-byte (getD h 14 (pos 0)) (getD h 15 (pos 0)) (getD h 16 (pos 0))) refl)
 
 pub skip-within : (h : List ℤ) → Within (λ (b : Bool). Unit {0}) 1 (skip h)
 unfolding skip
@@ -147,13 +148,11 @@ module _ (s : List ℕ) (r : Reader) (h : List ℤ) where
 
 -- ---- large and small modes
 pub large-within : (chroma : Bool) → Within (λ v. v < 4) 3 (largeMode chroma)
-unfolding reachOf
-large-within true = short 3 4 (142 ∷ 114 ∷ 183 ∷ []) uvTree (omega arith) (list-bytes (142 ∷ 114 ∷ 183 ∷ []) refl) refl
-large-within false = within-more {n = 2} (omega arith) (short 2 4 (156 ∷ 163 ∷ 128 ∷ []) yTree (omega arith) (list-bytes (156 ∷ 163 ∷ 128 ∷ []) refl) refl)
+large-within true = walk-below 3 32 4 (142 ∷ 114 ∷ 183 ∷ []) uvTree 0 (lit≤ tt) (list-bytes (142 ∷ 114 ∷ 183 ∷ []) refl) refl
+large-within false = within-more {n = 2} (omega arith) (walk-below 2 32 4 (156 ∷ 163 ∷ 128 ∷ []) yTree 0 (lit≤ tt) (list-bytes (156 ∷ 163 ∷ 128 ∷ []) refl) refl)
 
 pub block-within : (above left : ℕ) → Within (λ v. v < 10) 7 (blockMode above left)
-unfolding reachOf
-block-within above left = short 7 10 (probabilities above left) bTree (omega arith) (probabilities-bytes above left) refl
+block-within above left = walk-below 7 32 10 (probabilities above left) bTree 0 (lit≤ tt) (probabilities-bytes above left) refl
 
 -- the mode above a small block, and the mode left of it
 module _ (l modes : List ℕ) (i : ℕ) where

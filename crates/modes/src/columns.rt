@@ -66,7 +66,8 @@ fn record_of(c: Context) -> [u8; 13]
     bytes
 }
 
-fn context_fine(c: Context) -> bool
+// Whether it is in range: each mode below 10, each flag 0 or 1.
+pub fn context_fine(c: Context) -> bool
     ensures { λ r. ⌜ r ≡ contextFine c ⌝ }
 {
     let modes = c.modes;

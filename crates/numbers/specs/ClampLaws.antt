@@ -1,16 +1,21 @@
 -- Laws of clamping: the result lies in the range, a number of the range stays, the ends, and the order.
 use mathlib.Core.Path.{_≡_, refl, sym, ap, subst, _∙_}
-use mathlib.Core.Bool.{true, false}
+use mathlib.Core.Bool.{true, false, cond}
 use Prim.Native.Nat.{ℕ, zero, suc, _≤_}
 use native.Mathlib.Omega.{arith}
 use native.Mathlib.Nat.{zero-add}
-use lib.IntN.{ℤ, pos, negsuc, _-ℤ_}
+use lib.IntN.{ℤ, pos, negsuc, natAbs, _-ℤ_}
 use lib.Signed.{_≤ℤ_, ltZ, ≤ℤ-refl, yes-nonNeg, pos-natAbs}
 use Rattle.numbers.specs.Tests.{cond-at}
 use Rattle.numbers.specs.In.{In}
 use Rattle.numbers.specs.Parts.{up, to-le, of-le, of-eq, lt-parts, nlt-le, ≤ℤ-trans}
 use Rattle.numbers.specs.Hand.{unsigned-below}
 use Rattle.numbers.specs.Clamp.{clampZ, upTo, signedTo}
+
+-- the two tests, in this order
+pub clamp-tests : (lo hi v : ℤ) → clampZ lo hi v ≡ cond (ltZ v lo) lo (cond (ltZ hi v) hi v)
+unfolding clampZ
+clamp-tests lo hi v = refl
 
 -- what holds of each answer, as the two tests say, holds of the clamped number
 pub clamp-cases : (lo hi v : ℤ) (P : ℤ → Type 0)
@@ -56,6 +61,10 @@ natural top = of-le (omega arith)
 pub upTo-is : (top : ℕ) (v : ℤ) → pos (upTo top v) ≡ clampZ (pos 0) (pos top) v
 unfolding upTo
 upTo-is top v = pos-natAbs (clampZ (pos 0) (pos top) v) (yes-nonNeg (clamp-in (natural top) v .low))
+
+pub upTo-abs : (top : ℕ) (v : ℤ) → natAbs (clampZ (pos 0) (pos top) v) ≡ upTo top v
+unfolding upTo
+upTo-abs top v = refl
 
 pub upTo-in : (top : ℕ) (v : ℤ) → In (pos 0) (pos top) (pos (upTo top v))
 upTo-in top v = rw upTo-is (clamp-in (natural top) v)

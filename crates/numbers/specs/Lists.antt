@@ -13,6 +13,11 @@ unfoldable pub build {ℓ} : {A : Type ℓ} → ℕ → (ℕ → A) → List A
 build zero f = []
 build (suc n) f = f 0 ∷ build n (λ i. f (suc i))
 
+-- the same written out, which computes where n is known: `build-listed` turns one into the other
+abbrev pub listed {ℓ} : {A : Type ℓ} → ℕ → (ℕ → A) → List A
+listed zero f = []
+listed (suc n) f = f 0 ∷ listed n (λ i. f (suc i))
+
 -- l, of n elements, holds f below i: what a loop that stores f i at i keeps
 pub record Filled {ℓ} {A : Type ℓ} (l : List A) (n : ℕ) (f : ℕ → A) (i : ℕ) : Type ℓ where
   pub long : length l ≡ n
@@ -42,6 +47,11 @@ module _ {ℓ} {A : Type ℓ} where
   unfolding build
   length-build zero f = refl
   length-build (suc n) f = ap suc (length-build n (λ i. f (suc i)))
+
+  pub build-listed : (n : ℕ) (f : ℕ → A) → build n f ≡ listed n f
+  unfolding build
+  build-listed zero f = refl
+  build-listed (suc n) f = refl ∷≡ build-listed n (λ i. f (suc i))
 
   pub getD-build : (n : ℕ) (f : ℕ → A) (i : ℕ) (d : A) → i < n → getD (build n f) i d ≡ f i
   unfolding build

@@ -8,6 +8,7 @@ use native.Mathlib.Numerals.{add-one}
 use native.Mathlib.Omega.{arith}
 use lib.ListN.{length, getD, set, length-set}
 use lib.Seq.{getD-set-same, getD-set-other}
+use Rattle.numbers.specs.Lists.{set-keeps}
 
 -- p with f 0, f 1, .. f (n - 1) at the place `at` and after
 unfoldable pub placed {ℓ} : {A : Type ℓ} → List A → ℕ → (ℕ → A) → ℕ → List A
@@ -59,6 +60,12 @@ module _ {ℓ} {A : Type ℓ} where
   placed-off p at f (suc n) i d h =
       getD-set-other (placed p at f n) (at + n) i (f n) d (off-last at n i h) ∙ placed-off p at f n i d (off-less at n i h)
 
+  -- what holds of every element of p and of what is placed holds of every element after
+  pub placed-keeps : (P : A → Type 0) (p : List A) (at : ℕ) (f : ℕ → A) (n : ℕ) (d : A) → ((j : ℕ) → P (getD p j d)) → ((j : ℕ) → P (f j)) → (j : ℕ) → P (getD (placed p at f n) j d)
+  unfolding placed
+  placed-keeps P p at f zero d h k = h
+  placed-keeps P p at f (suc n) d h k = set-keeps P (placed p at f n) (at + n) (f n) d (k n) (placed-keeps P p at f n d h k)
+
   -- two rules that agree below n place the same
   pub placed-same : (p : List A) (at : ℕ) (f g : ℕ → A) (n : ℕ) → ((i : ℕ) → i < n → f i ≡ g i) → placed p at f n ≡ placed p at g n
   unfolding placed
@@ -79,6 +86,10 @@ module _ (p : List ℕ) (at : ℕ) (b : List ℕ) (from n : ℕ) where
   pub length-copied : length (copied p at b from n) ≡ length p
   unfolding copied
   length-copied = length-placed p at (λ j. getD b (from + j) 0) n
+
+  pub copied-keeps : (P : ℕ → Type 0) → ((j : ℕ) → P (getD p j 0)) → ((j : ℕ) → P (getD b j 0)) → (j : ℕ) → P (getD (copied p at b from n) j 0)
+  unfolding copied
+  copied-keeps P h k = placed-keeps P p at (λ j. getD b (from + j) 0) n 0 h (λ j. k (from + j))
 
   pub copied-in : (j : ℕ) → at + n ≤ length p → j < n → getD (copied p at b from n) (at + j) 0 ≡ getD b (from + j) 0
   unfolding copied

@@ -18,8 +18,8 @@ use Rattle.numbers.specs.Tables.{all-below}
 use Rattle.reader.specs.declared.boolean.Reader.{Reader}
 use Rattle.reader.specs.Boolean.{validOf}
 use Rattle.reader.specs.BooleanLaws.{Bytes, Valid, valid-test, valid-fact}
-use Rattle.reader.specs.Header.{entry, outside, fineTo, entriesOf}
-use Rattle.reader.specs.HeaderLaws.{entries-each, fine-none, fine-next, entries-all}
+use Rattle.reader.specs.Header.{entry, outside, fineTo, entriesOf, headerOf}
+use Rattle.reader.specs.HeaderLaws.{entries-each, fine-none, fine-next, entries-all, header-fine}
 use Rattle.picture.specs.Memory.{Memory, Sizes, sizesOf, blankOf, blank-sizes}
 use Rattle.picture.specs.Partitions.{Inside, partOf, tokenOf, readersOf}
 use Rattle.picture.specs.PartitionsLaws.{readers-valid}
@@ -316,6 +316,9 @@ module _ (t : Tile) (z : Sizes) where
 
     pub fine-lengths : Sized t z
     fine-lengths = lengths-fact _ _ (passes e 3)
+
+    pub fine-header : headerOf (t .header) ≡ true
+    fine-header = header-fine (t .header) (fine-lengths .header) (passes e 2)
 
     pub fine-partitions : Cut t
     fine-partitions = partitions-fact _ (passes e 4)

@@ -11,6 +11,7 @@ use lib.ListN.{length, getD}
 use lib.IntN.{ℤ, pos}
 use lib.Dec.{ltb, leb, eqb}
 use borrow.Author.Tests.{ltb-true, leb-true, eqb-true, lt-ltb, le-leb, eq-eqb}
+use Rattle.numbers.specs.Tables.{allAt, all-at}
 use Rattle.numbers.specs.Tests.{lt-or, never, not-so, both-left, both-right, both-true, both-false}
 use Rattle.reader.specs.declared.boolean.Reader.{Reader}
 use Rattle.reader.specs.declared.trees.Walked.{Walked}
@@ -22,7 +23,7 @@ use Rattle.reader.specs.declared.trees.Step.the-variants as S
 use Rattle.reader.specs.Boolean.{Given, given, missing, validOf}
 use Rattle.reader.specs.BooleanLaws.{Bytes, Valid, valid-test}
 use Rattle.reader.specs.Reading.{Reading, done, ask, _>>=_, symbol, run, Within, ends, asks}
-use Rattle.reader.specs.ReadingLaws.{run-done, run-then, run-stops}
+use Rattle.reader.specs.ReadingLaws.{run-done, run-then, run-stops, within-weaken}
 use Rattle.reader.specs.Trees.{branchOf, atOf, branchAt, nodesOf, step, follow, walk, leadsOf, entriesOf, treeOf, toStep, toWalked, stepOf, walkOf, walkAnswer, Leads, Tree}
 
 -- ---- a walk of a known tree, one node at a time: an `if` chain over `symbol` equals the walk by these three. In a constant
@@ -85,6 +86,23 @@ at-inside n i false h = omega arith
 
 -- ---- a walk of the code
 module _ (s ps : List ℕ) (t : List ℤ) where
+  -- it is the grammar's run
+  pub walk-is : (n i : ℕ) (r : Reader) {x : Given ℕ} → run (walk n ps t i) s r ≡ x → toWalked x ≡ walkOf n s ps t i r
+  unfolding walkOf
+  walk-is n i r e = ap toWalked (sym e)
+
+  pub walk-on : (n i j : ℕ) (r q : Reader) → run (walk (suc n) ps t i) s r ≡ run (walk n ps t j) s q → walkOf n s ps t j q ≡ walkOf (suc n) s ps t i r
+  unfolding walkOf
+  walk-on n i j r q e = ap toWalked (sym e)
+
+  pub walk-gave : (n i : ℕ) (r : Reader) {v : ℕ} {q : Reader} → W.Leaf v q ≡ walkOf n s ps t i r → run (walk n ps t i) s r ≡ given v q
+  unfolding walkOf
+  walk-gave n i r {v} {q} e = from (run (walk n ps t i) s r) e
+    where
+      from : (x : Given ℕ) → W.Leaf v q ≡ toWalked x → x ≡ given v q
+      from (given w p) f = cc
+      from missing f = absurd (let z : _≡_ {A = ℕ} 0 1 = cc in omega arith)
+
   pub walk-leaf : (n i : ℕ) (r : Reader) {v : ℕ} {q : Reader} → 1 ≤ n → S.Leaf v q ≡ stepOf s ps t i r → W.Leaf v q ≡ walkOf n s ps t i r
   unfolding walkOf walk
   walk-leaf zero i r h e = absurd (omega arith)
@@ -205,17 +223,40 @@ module _ (s ps : List ℕ) (t : List ℤ) (i : ℕ) (r : Reader) where
   unfolding walkOf
   walked v e f = from-walked (run (walk 32 ps t i) s r) ∙ ap fromWalked (sym (f ∙ walk-good v e))
 
--- ---- constant trees: every path from node i ends within d symbols, at a leaf that passes the test q
-abbrev passes : (ℕ → Bool) → (ℕ → Bool) → Branch → Bool
+-- ---- constant trees: two tests that compute, so that `refl` answers them, and the laws that turn them into facts
+-- what `treeOf` asks of the tree itself
+abbrev pub fixedOf : List ℤ → ℕ → Bool
+fixedOf t start =
+    ltb (nodesOf t) 32
+    && (eqb (length t) (nodesOf t + nodesOf t) && (ltb start (nodesOf t) && allAt (λ k e. leadsOf (nodesOf t) k (branchOf e)) 0 t))
+
+entries-all : (n : ℕ) (t : List ℤ) (m : ℕ) → ((k : ℕ) → k < m → leadsOf n k (branchOf (getD t k (pos 0))) ≡ true) → entriesOf n t m ≡ true
+unfolding entriesOf
+entries-all n t zero h = refl
+entries-all n t (suc m) h = both-true (entries-all n t m (λ k l. h k (omega arith))) (h m (omega arith))
+
+-- with a probability for each node it may be walked
+pub tree-fixed : (ps : List ℕ) (t : List ℤ) (start : ℕ) → nodesOf t ≤ length ps → fixedOf t start ≡ true → treeOf ps t start ≡ true
+tree-fixed ps t start h e =
+    let e1 = both-right (ltb (nodesOf t) 32) _ e in
+    let e2 = both-right (eqb (length t) (nodesOf t + nodesOf t)) _ e1 in
+    let size : length t ≡ nodesOf t + nodesOf t = eqb-true _ _ (both-left _ _ e1) in
+    let each = all-at (λ k x. leadsOf (nodesOf t) k (branchOf x)) t (pos 0) (both-right (ltb start (nodesOf t)) _ e2) in
+    sym
+    (tree-all ps t start (nodesOf t + nodesOf t) (ltb-true _ _ (both-left _ _ e)) size h (ltb-true _ _ (both-left _ _ e2)) refl
+    (entries-all (nodesOf t) t (nodesOf t + nodesOf t) (λ k l. each k (omega arith))))
+
+-- every path from node i ends within d symbols, at a leaf that passes the test q
+abbrev pub passes : (ℕ → Bool) → (ℕ → Bool) → Branch → Bool
 passes q on (B.Leaf v) = q v
 passes q on (B.Node j) = on j
 
-unfoldable pub reachOf : ℕ → (ℕ → Bool) → List ℤ → ℕ → Bool
+abbrev pub reachOf : ℕ → (ℕ → Bool) → List ℤ → ℕ → Bool
 reachOf zero q t i = false
 reachOf (suc d) q t i = passes q (reachOf d q t) (branchAt t i true) && passes q (reachOf d q t) (branchAt t i false)
 
 pub reach-within : (d n : ℕ) (q : ℕ → Bool) (ps : List ℕ) (t : List ℤ) (i : ℕ) → d ≤ n → Bytes ps → reachOf d q t i ≡ true → Within (λ v. q v ≡ true) d (walk n ps t i)
-unfolding walk step reachOf
+unfolding walk step
 reach-within zero n q ps t i l y e = absurd (never e refl)
 reach-within (suc d) zero q ps t i l y e = absurd (omega arith)
 reach-within (suc d) (suc n) q ps t i l y e =
@@ -228,6 +269,10 @@ reach-within (suc d) (suc n) q ps t i l y e =
     go : ((j : ℕ) → reachOf d q t j ≡ true → Within (λ v. q v ≡ true) d (walk n ps t j)) → (x : Branch) → passes q (reachOf d q t) x ≡ true → Within (λ v. q v ≡ true) d (follow (walk n ps t) x)
     go ih (B.Leaf v) f = ends f
     go ih (B.Node j) f = ih j f
+
+-- where the test is a comparison
+pub walk-below : (d n m : ℕ) (ps : List ℕ) (t : List ℤ) (i : ℕ) → d ≤ n → Bytes ps → reachOf d (λ v. ltb v m) t i ≡ true → Within (λ v. v < m) d (walk n ps t i)
+walk-below d n m ps t i l y e = within-weaken (λ v. ltb-true v m) (reach-within d n (λ v. ltb v m) ps t i l y e)
 
 -- ---- the limit is never reached: one step more changes nothing
 walk-more : (ps : List ℕ) (t : List ℤ) → Tree ps t → (n i : ℕ) → i < nodesOf t → nodesOf t ≤ i + n → walk (suc n) ps t i ≡ walk n ps t i

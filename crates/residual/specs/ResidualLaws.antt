@@ -14,7 +14,7 @@ use Rattle.numbers.specs.In.{Each}
 use Rattle.numbers.specs.Know.{num, inside}
 use Rattle.numbers.specs.Lists.{set-keeps, length-build, getD-build, getD-build-past, getD-constant}
 use Rattle.numbers.specs.Order.{In-wider}
-use Rattle.numbers.specs.Runs.{placed, length-placed}
+use Rattle.numbers.specs.Runs.{placed, length-placed, placed-keeps}
 use Rattle.numbers.specs.Tests.{lt-or, both-true}
 use Rattle.reader.specs.Boolean.{Given, given, missing, validOf}
 use Rattle.reader.specs.BooleanLaws.{Bytes, Valid, valid-test}
@@ -104,9 +104,7 @@ sixteen-in {l} at h = record { long = length-build 16 _; each = record { at = go
     ]
 
 placed-each : {l : List ℤ} (at : ℕ) (f : ℕ → ℤ) (n : ℕ) → Each (negsuc 32767) (pos 32767) l → ((j : ℕ) → Small (f j)) → Each (negsuc 32767) (pos 32767) (placed l at f n)
-unfolding placed
-placed-each at f zero h k = h
-placed-each at f (suc n) h k = each-set _ (at + n) (placed-each at f n h k) (k n)
+placed-each {l} at f n h k = record { at = placed-keeps Small l at f n (pos 0) (h .at) k }
 
 pub length-spread : (l dc : List ℤ) (n : ℕ) → length (spread l dc n) ≡ length l
 unfolding spread

@@ -11,7 +11,7 @@ use lib.IntN.{ℤ, pos}
 use lib.ListN.{length, getD, set, replicate, length-set, length-replicate}
 use lib.Seq.{getD-set-same, getD-set-other}
 use borrow.Author.Tests.{lt-ltb, le-ltb, ne-eqb}
-use Rattle.numbers.specs.Lists.{build, length-build, getD-build, build-same, built, getD-constant}
+use Rattle.numbers.specs.Lists.{build, build-listed, length-build, getD-build, build-same, built, getD-constant}
 use Rattle.numbers.specs.Runs.{Off, length-placed, placed-in, placed-off}
 use Rattle.numbers.specs.Tests.{lt-or, eq-or}
 use Rattle.reader.specs.Boolean.{Given, given, missing}
@@ -213,8 +213,7 @@ unfolding spread
 zeros-start blocks = spread-start (replicate 16 (pos 0)) blocks
 
 zeros-laid : (top left : List ℕ) → initial top left ≡ laidOut (sourceInitial top left)
-unfolding build
-zeros-laid top left = refl
+zeros-laid top left = ap (λ (l : List ℤ). record { top = top; left = left; coefficients = l; empty = true }) (sym (build-listed 384 _))
 
 all-read : (dc : List ℤ) (blocks : List (List ℤ)) → flatTo 24 dc blocks ≡ build 384 (λ j. getD (getD blocks (j / 16) []) (j % 16) (pos 0))
 unfolding flatTo

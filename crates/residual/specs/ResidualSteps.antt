@@ -21,6 +21,7 @@ use Rattle.reader.specs.Reading.{run}
 use Rattle.reader.specs.ReadingLaws.{run-done, run-then, run-stops}
 use Rattle.reader.specs.declared.boolean.Reader.{Reader}
 use Rattle.segments.specs.Quantizers.{factorsOf, quantizersOf}
+use Rattle.segments.specs.QuantizersLaws.{segment-ready, segment-refused}
 use Rattle.segments.specs.declared.quantizers.Factors.{Factors}
 use Rattle.segments.specs.declared.quantizers.Quantizers.{Quantizers}
 use Rattle.segments.specs.declared.quantizers.Quantizers.the-variants as Q
@@ -193,21 +194,19 @@ module _ (s : List ℕ) (r : Reader) (h : List ℤ) (segment : ℕ) (small skip 
   -- what the answer of the quantizers says
   module _ {x : Quantizers} (e : x ≡ quantizersOf h segment) where
     pub header-none : x ≡ Q.Refused → {q : Residual} → q ≡ nothing E.Refused → record { answer = q; out = old } ≡ decodeHeaderOf s r h segment small skip top left old
-    unfolding quantizersOf
     header-none n {q} k = go (headerOf h && ltb segment 4) refl
       where
         go : (b : Bool) → headerOf h && ltb segment 4 ≡ b → record { answer = q; out = old } ≡ decodeHeaderOf s r h segment small skip top left old
-        go true w = let g : x ≡ Q.Ready (factorsOf h segment) = e ∙ rw (w, quantizersOf) in absurd (let z : _≡_ {A = ℕ} 0 1 = cc in omega arith)
+        go true w = let g : x ≡ Q.Ready (factorsOf h segment) = e ∙ segment-ready h segment w in absurd (let z : _≡_ {A = ℕ} 0 1 = cc in omega arith)
         go false w = header-refused w k
 
     pub header-some : {f : Factors} → x ≡ Q.Ready f → {t : Table} → t ≡ tableOf h → decodeOf s r (t .bytes) f small skip top left old ≡ decodeHeaderOf s r h segment small skip top left old
-    unfolding quantizersOf
     header-some {f} k {t} j = go (headerOf h && ltb segment 4) refl
       where
         go : (b : Bool) → headerOf h && ltb segment 4 ≡ b → decodeOf s r (t .bytes) f small skip top left old ≡ decodeHeaderOf s r h segment small skip top left old
         go true w =
-            let g : x ≡ Q.Ready (factorsOf h segment) = e ∙ rw (w, quantizersOf) in
+            let g : x ≡ Q.Ready (factorsOf h segment) = e ∙ segment-ready h segment w in
             let i : f ≡ factorsOf h segment = cc in
             let d : t .bytes ≡ headerTable h = ap (λ (a : Table). a .bytes) (j ∙ sym (table-done h (header-length h (both-left _ _ w)) refl)) in
             rw (i, d) (header-passed w)
-        go false w = let g : x ≡ Q.Refused = e ∙ rw (w, quantizersOf) in absurd (let z : _≡_ {A = ℕ} 0 1 = cc in omega arith)
+        go false w = let g : x ≡ Q.Refused = e ∙ sym (segment-refused h segment w) in absurd (let z : _≡_ {A = ℕ} 0 1 = cc in omega arith)

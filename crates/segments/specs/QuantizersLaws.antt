@@ -26,20 +26,23 @@ unfolding acSteps
 ac-in i = ltb-true _ _ (all-of-any (λ x. ltb x 285) acSteps 0 refl refl i)
 
 module _ (h : List ℤ) (segment : ℕ) where
-  -- ---- the public call
-  pub segment-good : headerOf h ≡ true → segment < 4 → quantizersOf h segment ≡ Q.Ready (factorsOf h segment)
+  -- ---- the public call: its two answers
+  pub segment-ready : headerOf h && ltb segment 4 ≡ true → quantizersOf h segment ≡ Q.Ready (factorsOf h segment)
   unfolding quantizersOf
-  segment-good e l = rw (both-true e (lt-ltb _ _ l), quantizersOf)
+  segment-ready e = rw (e, quantizersOf)
 
-  refused : headerOf h && ltb segment 4 ≡ false → Q.Refused ≡ quantizersOf h segment
+  pub segment-refused : headerOf h && ltb segment 4 ≡ false → Q.Refused ≡ quantizersOf h segment
   unfolding quantizersOf
-  refused e = rw (e, quantizersOf)
+  segment-refused e = rw (e, quantizersOf)
+
+  pub segment-good : headerOf h ≡ true → segment < 4 → quantizersOf h segment ≡ Q.Ready (factorsOf h segment)
+  segment-good e l = segment-ready (both-true e (lt-ltb _ _ l))
 
   pub segment-header : headerOf h ≡ false → Q.Refused ≡ quantizersOf h segment
-  segment-header e = refused (rw e)
+  segment-header e = segment-refused (rw e)
 
   pub segment-none : 4 ≤ segment → Q.Refused ≡ quantizersOf h segment
-  segment-none l = refused (both-false (headerOf h) (le-ltb _ _ l))
+  segment-none l = segment-refused (both-false (headerOf h) (le-ltb _ _ l))
 
 -- 155 over 100 of a step, at least 8, as the code tests it
 pub second-low : (step : ℕ) → step * 155 / 100 < 8 → 8 ≡ secondAc step

@@ -14,7 +14,7 @@ use Rattle.macroblock.proofs.whole.step.Reads as reads
 use Rattle.macroblock.proofs.whole.step.Lts as lts
 use Rattle.macroblock.proofs.whole.stopped.Reads as stopped-reads
 use Rattle.macroblock.proofs.whole.with_tokens.Reads as with-tokens-reads
-use Rattle.modes.proofs.macroblock.read_modes.Reads as read-modes-reads
+use Rattle.modes.proofs.whole.read_modes.Reads as read-modes-reads
 
 read-modes-requires : tie.Need-read-modes-requires
 read-modes-requires c κs = search needs

@@ -1,8 +1,8 @@
 use mathlib.Core.Path.{refl}
+use lib.Dec.{lit≤}
 use borrow.Author.Needs.{needs}
-use Rattle.reader.specs.Trees.{treeOf, entriesOf}
-use Rattle.reader.specs.TreesLaws.{reachOf}
-use Rattle.modes.specs.ModesLaws.{byteLeaves}
+use Rattle.reader.specs.TreesLaws.{tree-fixed}
+use Rattle.modes.specs.ModesLaws.{byte-leaves}
 use Rattle.modes.proofs.large.large_mode.Statement.{statement}
 use Rattle.modes.proofs.large.large_mode.Tie as tie
 
@@ -13,8 +13,7 @@ slice-aggregate-coded-2 : tie.Need-slice-aggregate-coded-2
 slice-aggregate-coded-2 c = search needs
 
 coded-requires : tie.Need-coded-requires
-unfolding treeOf entriesOf byteLeaves reachOf
-coded-requires c κs = (c .before .before .before .before .pre, (refl, refl))
+coded-requires c κs = (c .before .before .before .before .pre, (tree-fixed _ _ 0 (lit≤ tt) refl, byte-leaves _ refl))
 
 returns : tie.Need-returns
 returns c = rw (c .before .before .before .if1 .taken) (c .coded .ensures)
@@ -26,8 +25,7 @@ slice-aggregate-coded-4 : tie.Need-slice-aggregate-coded-4
 slice-aggregate-coded-4 c = search needs
 
 coded-requires-2 : tie.Need-coded-requires-2
-unfolding treeOf entriesOf byteLeaves reachOf
-coded-requires-2 c κs = (c .before .before .before .before .pre, (refl, refl))
+coded-requires-2 c κs = (c .before .before .before .before .pre, (tree-fixed _ _ 0 (lit≤ tt) refl, byte-leaves _ refl))
 
 returns-2 : tie.Need-returns-2
 returns-2 c = rw (c .before .before .before .if1 .left) (c .coded2 .ensures)

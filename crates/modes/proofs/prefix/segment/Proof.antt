@@ -1,14 +1,14 @@
 use Prim.Native.Nat.{ℕ}
 use mathlib.Core.Path.{_≡_, refl, sym, ap, _∙_}
 use mathlib.Core.List.{List}
+use lib.Dec.{lit≤}
 use borrow.Author.Tests.{not-true, not-false}
 use borrow.Author.Needs.{needs}
 use Rattle.numbers.specs.Lists.{_∷≡_}
 use Rattle.reader.specs.Reading.{run}
-use Rattle.reader.specs.Trees.{treeOf, entriesOf}
-use Rattle.reader.specs.TreesLaws.{reachOf}
+use Rattle.reader.specs.TreesLaws.{tree-fixed}
 use Rattle.modes.specs.Modes.{tree, segTree}
-use Rattle.modes.specs.ModesLaws.{byteLeaves, segment-none, segment-some}
+use Rattle.modes.specs.ModesLaws.{byte-leaves, segment-none, segment-some}
 use Rattle.modes.specs.Answers.{toMode}
 use Rattle.modes.proofs.prefix.segment.Statement.{statement}
 use Rattle.modes.proofs.prefix.segment.Tie as tie
@@ -35,8 +35,7 @@ slice-aggregate-coded-2 : tie.Need-slice-aggregate-coded-2
 slice-aggregate-coded-2 c = search needs
 
 coded-requires : tie.Need-coded-requires
-unfolding treeOf entriesOf byteLeaves reachOf
-coded-requires c κs = (c .before .before .before .before .before .before .before .before .pre .0, (refl, refl))
+coded-requires c κs = (c .before .before .before .before .before .before .before .before .pre .0, (tree-fixed _ _ 0 (lit≤ tt) refl, byte-leaves _ refl))
 
 returns-2 : tie.Need-returns-2
 returns-2 c = let d = c .before .before .before in

@@ -5,8 +5,8 @@ use Rattle.modes.specs.ModesLaws.{luma-small, luma-missing, luma-large}
 use Rattle.modes.specs.Answers.{toSixteen}
 use Rattle.modes.specs.AnswersLaws.{fromMode, moded}
 use Rattle.modes.proofs.Others.{not-mode}
-use Rattle.modes.proofs.macroblock.luma.Statement.{statement}
-use Rattle.modes.proofs.macroblock.luma.Tie as tie
+use Rattle.modes.proofs.whole.luma.Statement.{statement}
+use Rattle.modes.proofs.whole.luma.Tie as tie
 
 sixteen-requires : tie.Need-sixteen-requires
 sixteen-requires c κs = search needs

@@ -11,8 +11,8 @@ use Rattle.modes.specs.ModesLaws.{above-fact, left-fact}
 use Rattle.modes.specs.Answers.{contextsOf}
 use Rattle.modes.specs.AnswersLaws.{modes-length, modes-reader, modes-contexts, modes-good, staged-missing, staged-read}
 use Rattle.modes.proofs.Others.{not-stage}
-use Rattle.modes.proofs.macroblock.read_modes.Statement.{statement}
-use Rattle.modes.proofs.macroblock.read_modes.Tie as tie
+use Rattle.modes.proofs.whole.read_modes.Statement.{statement}
+use Rattle.modes.proofs.whole.read_modes.Tie as tie
 
 returns : tie.Need-returns
 returns c = modes-length _ _ _ _ _ _ (c .if1 .taken)

@@ -10,8 +10,8 @@ use Rattle.modes.specs.ModesLaws.{prefix-within, luma-within, modes-1, m
 use Rattle.modes.specs.Answers.{toStaged}
 use Rattle.modes.specs.AnswersLaws.{fromMode, fromHeaded, nextGiven, fromSixteen, moded, headed, sixteened}
 use Rattle.modes.proofs.Others.{not-mode, not-headed, not-next}
-use Rattle.modes.proofs.macroblock.stage.Statement.{statement}
-use Rattle.modes.proofs.macroblock.stage.Tie as tie
+use Rattle.modes.proofs.whole.stage.Statement.{statement}
+use Rattle.modes.proofs.whole.stage.Tie as tie
 
 abbrev start : tie.After-head → tie.Start
 start c = c .before .before

@@ -1,0 +1,186 @@
+-- The laws of the picture: one turn of its recursion; what every macroblock finds and leaves; what a macroblock's call asks.
+use Prim.Native.Nat.{ℕ, zero, suc, _+_, _*_, _/_, _%_, _≤_, _<_}
+use mathlib.Core.Path.{_≡_, refl, sym, _∙_, ap}
+use mathlib.Core.Bool.{Bool, true, false}
+use mathlib.Core.List.{List}
+use mathlib.Core.Logic.{⊎-elim}
+use native.Mathlib.Omega.{arith}
+use native.Mathlib.Nat.{mod-lt, div-lt-iff-lt-mul, mul-comm, mul-le-mul-right}
+use lib.IntN.{ℤ}
+use lib.ListN.{length, getD, set, length-set}
+use lib.Seq.{getD-set-same, getD-set-other}
+use Rattle.numbers.specs.Tests.{eq-or, both-left, both-right}
+use Rattle.reader.specs.declared.boolean.Reader.{Reader}
+use Rattle.reader.specs.Boolean.{noReader}
+use Rattle.reader.specs.BooleanLaws.{Bytes, Valid}
+use Rattle.coefficients.specs.Tokens.{headerTable}
+use Rattle.coefficients.specs.TokenLaws.{length-header, header-bytes}
+use Rattle.modes.specs.declared.columns.Context.{Context}
+use Rattle.modes.specs.Records.{columnAt, columnSet, modeSet, contextFine, emptyContext}
+use Rattle.modes.specs.RecordsLaws.{Sized, Columns, columns-set, column-set-length, mode-set-length, column-sized, contexts-fine}
+use Rattle.macroblock.specs.declared.frame.Frame.{Frame}
+use Rattle.macroblock.specs.Frame.{frameOf}
+use Rattle.macroblock.specs.Macroblock.{Planes, Finished, Step, finished, no-modes, no-tokens, stepOf, Ready, Laid}
+use Rattle.macroblock.specs.DecodeLaws.{flags-of}
+use Rattle.macroblock.specs.FrameLaws.{frame-levels}
+use Rattle.macroblock.specs.StrengthRecordsLaws.{strength-set-length}
+use Rattle.picture.specs.declared.rows.Decoded.the-variants as D
+use Rattle.picture.specs.Memory.{Memory}
+use Rattle.picture.specs.Turn.{Turned, turned, Room}
+use Rattle.picture.specs.TurnLaws.{Ends, ends-of, beside-none, beside-left}
+use Rattle.picture.specs.Picture.{Picture, State, Ended, columnOf, rowOf, partitionOf, besideOf, planesOf, stepAt, written, nextOf, runOf}
+
+-- ---- one turn
+pub run-none : (P : Picture) (k : ℕ) (S : State) → runOf 0 P k S ≡ record { answer = D.Whole k; mem = S .mem }
+unfolding runOf
+run-none P k S = refl
+
+module _ (n : ℕ) (P : Picture) (k : ℕ) (S : State) where
+  pub run-finished : (x : Finished) → stepAt P k S ≡ finished x → runOf (suc n) P k S ≡ runOf n P (k + 1) (nextOf P k S x)
+  unfolding runOf
+  run-finished x e = rw (e, runOf)
+
+  pub run-no-modes : stepAt P k S ≡ no-modes → runOf (suc n) P k S ≡ record { answer = D.NoModes k; mem = S .mem }
+  unfolding runOf
+  run-no-modes e = rw (e, runOf)
+
+  pub run-no-tokens : stepAt P k S ≡ no-tokens → runOf (suc n) P k S ≡ record { answer = D.NoTokens k; mem = S .mem }
+  unfolding runOf
+  run-no-tokens e = rw (e, runOf)
+
+-- ---- what the macroblocks share is in range
+pub record Shared (P : Picture) : Type 0 where
+  pub least : 1 ≤ P .count
+  pub most : P .count ≤ 8
+  pub entries : length (P .header) ≡ 1096
+  pub wide : P .wide ≤ 1024
+  pub high : P .high ≤ 1024
+
+-- ---- what every macroblock finds, and leaves: readers in range, contexts in range, memory of the right lengths
+pub record Live (P : Picture) (S : State) : Type 0 where
+  pub reader : Valid (P .first) (S .reader)
+  pub eight : length (S .readers) ≡ 8
+  pub tokens : (q : ℕ) → q < P .count → Valid (P .token q) (getD (S .readers) q noReader)
+  pub left : contextFine (S .left) ≡ true
+  pub beside : Sized (S .left)
+  pub contexts : Columns (S .mem .columns)
+  pub y : length (S .mem .y) ≡ P .high * 16 * (P .wide * 16)
+  pub u : length (S .mem .u) ≡ P .high * 8 * (P .wide * 16 / 2)
+  pub v : length (S .mem .v) ≡ P .high * 8 * (P .wide * 16 / 2)
+  pub columns : length (S .mem .columns) ≡ 13 * P .wide
+  pub modes : length (S .mem .modes) ≡ 20 * (P .wide * P .high)
+  pub strengths : length (S .mem .strengths) ≡ 4 * (P .wide * P .high)
+
+-- ---- the place of macroblock k
+module _ (P : Picture) (k : ℕ) (h : k < P .wide * P .high) where
+  some : 0 < P .wide
+  some = go (P .wide) h
+    where
+      go : (w : ℕ) → k < w * P .high → 0 < w
+      go zero h = absurd (omega arith)
+      go (suc w) h = omega arith
+
+  pub column-below : columnOf P k < P .wide
+  column-below = mod-lt k {m = P .wide} some
+
+  pub row-below : rowOf P k < P .high
+  row-below = div-lt-iff-lt-mul some .1 (rw (mul-comm (P .high) (P .wide)) h)
+
+  pub partition-below : 1 ≤ P .count → partitionOf P k < P .count
+  partition-below l = mod-lt (rowOf P k) {m = P .count} l
+
+beside-fine : (column : ℕ) (left : Context) → contextFine left ≡ true → Sized left → (contextFine (besideOf column left) ≡ true) × Sized (besideOf column left)
+beside-fine column left e z = ⊎-elim
+    (λ (c : column ≡ 0). rw (beside-none column left c) (refl, record { modes = refl; flags = refl }))
+    (λ c. rw (← beside-left column left c) (e, z))
+    (eq-or column 0)
+
+-- the turn that the code takes, with what it worked out, is macroblock k's
+pub turn-at : (P : Picture) (k : ℕ) (S : State) {T : Turned} (column row q : ℕ) (tokens table : List ℕ) (f : Frame)
+    → T ≡ turned (S .left) k column (S .mem) (stepOf (P .first) (S .reader) tokens (getD (S .readers) q noReader) (P .header) table f (columnAt (S .mem .columns) column) (besideOf column (S .left)) (P .wide * 16) column row (planesOf (S .mem)))
+    → column ≡ columnOf P k → row ≡ rowOf P k → q ≡ partitionOf P k → tokens ≡ P .token q → table ≡ headerTable (P .header) → f ≡ frameOf (P .header)
+    → T ≡ turned (S .left) k (columnOf P k) (S .mem) (stepAt P k S)
+unfolding stepAt
+turn-at P k S column row q tokens table f e a b c d g i =
+    let d′ : tokens ≡ P .token (partitionOf P k) = d ∙ ap (P .token) c in
+    e
+    ∙ (λ o. turned (S .left) k (a o) (S .mem)
+    (stepOf (P .first) (S .reader) (d′ o) (getD (S .readers) (c o) noReader) (P .header) (g o) (i o) (columnAt (S .mem .columns) (a o)) (besideOf (a o) (S .left)) (P .wide * 16) (a o) (b o) (planesOf (S .mem))))
+
+module _ (P : Picture) (S : State) (k : ℕ) (s : Shared P) (l : Live P S) (h : k < P .wide * P .high) where
+  -- what its call asks
+  pub laid-at : Laid (P .wide * 16) (columnOf P k) (rowOf P k) (planesOf (S .mem))
+  laid-at = record {
+    columns = P .wide;
+    rows = P .high;
+    width = refl;
+    wide = omega (arith, s .wide);
+    high = omega (arith, s .high);
+    across = column-below P k h;
+    down = row-below P k h;
+    luma = l .y;
+    blue = l .u;
+    red = l .v;
+  }
+
+  pub room-at : Room (columnOf P k) k (S .mem .columns) (S .mem .modes) (S .mem .strengths)
+  room-at = record {
+    columns = rw (l .columns) (omega (arith, column-below P k h));
+    modes = rw (l .modes) (omega arith);
+    strengths = rw (l .strengths) (omega arith);
+  }
+
+  -- the same for a column and a row that the code works out
+  pub laid-in : {column row : ℕ} → column ≡ columnOf P k → row ≡ rowOf P k → Laid (P .wide * 16) column row (planesOf (S .mem))
+  laid-in e f = rw (e, f) laid-at
+
+  pub room-in : {column : ℕ} → column ≡ columnOf P k → Room column k (S .mem .columns) (S .mem .modes) (S .mem .strengths)
+  room-in e = rw e room-at
+
+  -- its readers and contexts, for a column and a partition that the code works out
+  pub ready-at : (column q : ℕ) → column < P .wide → q < P .count → {tokens : List ℕ} → tokens ≡ P .token q → {table : List ℕ} → table ≡ headerTable (P .header) → {f : Frame} → f ≡ frameOf (P .header)
+      → Ready (P .first) (S .reader) tokens (getD (S .readers) q noReader) (P .header) table f (columnAt (S .mem .columns) column) (besideOf column (S .left))
+  ready-at column q c d {tokens} e {table} g {f} i =
+      let room : column < length (S .mem .columns) / 13 = rw (l .columns) (omega arith) in
+      let b = beside-fine column (S .left) (l .left) (l .beside) in
+      let a = l .contexts column room in
+      record {
+        reader = l .reader;
+        token = rw e (l .tokens q d);
+        entries = s .entries;
+        size = ap length g ∙ length-header (P .header);
+        contexts = contexts-fine (columnAt (S .mem .columns) column) (besideOf column (S .left)) a (b .0);
+        above = flags-of (columnAt (S .mem .columns) column) (column-sized (S .mem .columns) column room .flags) a;
+        beside = flags-of (besideOf column (S .left)) (b .1 .flags) (b .0);
+        levels = λ small j. rw i (frame-levels (P .header) small j);
+      }
+
+  pub ends-at : Bytes (P .first) → Bytes (P .token (partitionOf P k)) → (x : Finished) → stepAt P k S ≡ finished x → Ends (P .first) (P .token (partitionOf P k)) (planesOf (S .mem)) x
+  unfolding stepAt
+  ends-at a b =
+      ends-of (P .first) (S .reader) (P .token (partitionOf P k)) (getD (S .readers) (partitionOf P k) noReader) (P .header) (headerTable (P .header)) (frameOf (P .header))
+      (columnAt (S .mem .columns) (columnOf P k)) (besideOf (columnOf P k) (S .left)) (P .wide * 16) (columnOf P k) (rowOf P k) (planesOf (S .mem))
+      (ready-at (columnOf P k) (partitionOf P k) (column-below P k h) (partition-below P k h (s .least)) refl refl refl) laid-at a b (header-bytes (P .header))
+
+  -- and what it leaves
+  pub live-next : (x : Finished) → Ends (P .first) (P .token (partitionOf P k)) (planesOf (S .mem)) x → Live P (nextOf P k S x)
+  live-next x z = record {
+    reader = z .reader;
+    eight = length-set (S .readers) (partitionOf P k) (x .tokens) ∙ l .eight;
+    tokens = valid;
+    left = z .left;
+    beside = z .left-sized;
+    contexts = columns-set (S .mem .columns) (columnOf P k) (x .top) (l .contexts) (room-at .columns) (z .top-sized) (z .top);
+    y = z .y ∙ l .y;
+    u = z .u ∙ l .u;
+    v = z .v ∙ l .v;
+    columns = column-set-length (S .mem .columns) (columnOf P k) (x .top) ∙ l .columns;
+    modes = mode-set-length (S .mem .modes) k _ _ ∙ l .modes;
+    strengths = strength-set-length (S .mem .strengths) k (x .strength) ∙ l .strengths;
+  }
+    where
+      valid : (q : ℕ) → q < P .count → Valid (P .token q) (getD (set (S .readers) (partitionOf P k) (x .tokens)) q noReader)
+      valid q g = ⊎-elim
+          (λ (e : q ≡ partitionOf P k). rw (e, getD-set-same (S .readers) (partitionOf P k) (x .tokens) noReader (rw (l .eight) (omega (arith, partition-below P k h (s .least), s .most)))) (z .token))
+          (λ e. rw (getD-set-other (S .readers) (partitionOf P k) q (x .tokens) noReader e) (l .tokens q g))
+          (eq-or q (partitionOf P k))
