@@ -19,9 +19,9 @@ use Rattle.numbers.specs.Clamp.{clipZ}
 use Rattle.numbers.specs.ClampLaws.{upTo-le, upTo-same}
 use Rattle.numbers.specs.In.{In, Each}
 use Rattle.numbers.specs.Know.{num, wider, inside}
-use Rattle.numbers.specs.Lists.{build, built, getD-build, getD-build-past, getD-constant, set-keeps, _∷≡_}
+use Rattle.numbers.specs.Lists.{build, built, getD-build, getD-build-past, getD-constant, _∷≡_}
 use Rattle.numbers.specs.Parts.{true-le, le-true}
-use Rattle.numbers.specs.Runs.{placed, placed-none, placed-next, placed-same, copied, length-copied, copied-in, copied-off, Off, off-less}
+use Rattle.numbers.specs.Runs.{placed, placed-none, placed-next, placed-same, copied, copied-none, copied-next, length-copied, copied-keeps, copied-in, copied-off, Off, off-less}
 use Rattle.numbers.specs.Tables.{allBelow, all-below}
 use Rattle.numbers.specs.Tests.{lt-or, eq-or, both-left, both-right, both-true, cond-at}
 use Rattle.coefficients.specs.Transform.{samplesOf, fits16}
@@ -231,12 +231,20 @@ module _ (rule : List ℕ → ℕ → List ℕ) (p : List ℕ) (w x y m : ℕ) (
             ∙ blocks-in s t i c r h k j (omega arith) (omega arith)
       ]
 
--- ---- bytes stay bytes
-placed-bytes : (p : List ℕ) (at : ℕ) (f : ℕ → ℕ) (n : ℕ) → ((j : ℕ) → f j < 256) → Bytes p → Bytes (placed p at f n)
-unfolding placed
-placed-bytes p at f zero h g = g
-placed-bytes p at f (suc n) h g = set-keeps (λ (v : ℕ). v < 256) (placed p at f n) (at + n) (f n) 0 (h n) (placed-bytes p at f n h g)
+-- ---- a row of four, store by store
+module _ (p : List ℕ) (at : ℕ) (b : List ℕ) (from : ℕ) where
+  abbrev one : List ℕ → ℕ → List ℕ
+  one q n = set q (at + n) (getD b (from + n) 0)
 
+  copied-one : set p at (getD b from 0) ≡ copied p at b from 1
+  copied-one = rw (copied-none p at b from, add-zero, add-zero) at (copied-next p at b from 0)
+
+  pub copied-four : one (one (one (set p at (getD b from 0)) 1) 2) 3 ≡ copied p at b from 4
+  copied-four =
+      ap (λ (q : List ℕ). one (one (one q 1) 2) 3) copied-one ∙ ap (λ (q : List ℕ). one (one q 2) 3) (copied-next p at b from 1)
+      ∙ ap (λ (q : List ℕ). one q 3) (copied-next p at b from 2) ∙ copied-next p at b from 3
+
+-- ---- bytes stay bytes
 summed-bytes : (pred : List ℕ) (res : List ℤ) → Bytes (summedOf pred res)
 unfolding summedOf
 summed-bytes pred res k = elim (lt-or k 16) [
@@ -245,10 +253,10 @@ summed-bytes pred res k = elim (lt-or k 16) [
 ]
 
 rows-bytes : (p : List ℕ) (w x y : ℕ) (b : List ℕ) (m : ℕ) → Bytes b → Bytes p → Bytes (rowsPainted p w x y b m)
-unfolding rowsPainted copied
+unfolding rowsPainted
 rows-bytes p w x y b zero h g = g
 rows-bytes p w x y b (suc m) h g =
-    placed-bytes (rowsPainted p w x y b m) ((y + m) * w + x) (λ j. getD b (4 * m + j) 0) 4 (λ j. h (4 * m + j)) (rows-bytes p w x y b m h g)
+    copied-keeps (rowsPainted p w x y b m) ((y + m) * w + x) b (4 * m) 4 (λ (v : ℕ). v < 256) (rows-bytes p w x y b m h g) h
 
 blocks-bytes : (rule : List ℕ → ℕ → List ℕ) (p : List ℕ) (w x y m : ℕ) (cs : List ℤ) (i : ℕ) → Bytes p → Bytes (blocksPainted rule p w x y m cs i)
 unfolding blocksPainted blockPainted

@@ -1,6 +1,7 @@
--- What callers and proofs cite of the prediction: facts of the width, the mean of DC, and that each answer is sixteen bytes.
+-- What callers and proofs cite of the prediction: facts of the width, the mean of DC, TM row by row, a sub-block of a square from four samples
+-- of each side, and that each answer is sixteen bytes.
 use Prim.Native.Nat.{ℕ, zero, suc, _+_, _*_, _/_, _%_, _≤_, _<_}
-use mathlib.Core.Path.{_≡_, refl, ap}
+use mathlib.Core.Path.{_≡_, refl, sym, ap, ap₂, subst, _∙_}
 use mathlib.Core.Logic.{_⊎_, inl, inr, ⊎-elim}
 use mathlib.Core.Bool.{Bool, true, false}
 use mathlib.Core.List.{List, [], _∷_}
@@ -11,9 +12,9 @@ use lib.IntN.{ℤ, pos, _+ℤ_, _-ℤ_}
 use lib.ListN.{length, getD, replicate}
 use Rattle.numbers.specs.Clamp.{clipZ}
 use Rattle.numbers.specs.ClampLaws.{upTo-le}
-use Rattle.numbers.specs.Lists.{build, length-build}
+use Rattle.numbers.specs.Lists.{build, listed, build-listed, length-build, getD-build, build-same, build-constant}
 use Rattle.planes.specs.declared.predict.Edge.{Edge}
-use Rattle.planes.specs.Predict.{Size, mean2, mean3, dcBlock, tmBlock, veBlock, heBlock, rdBlock, vrBlock, ldBlock, vlBlock, hdBlock, huBlock, blocksOf, smallOf, sumOf, meanOf, dcOf, largeAt, largeOf}
+use Rattle.planes.specs.Predict.{Size, at, mean2, mean3, dcBlock, tmBlock, veBlock, heBlock, rdBlock, vrBlock, ldBlock, vlBlock, hdBlock, huBlock, blocksOf, smallOf, sumOf, meanOf, dcOf, largeAt, largeOf}
 
 -- ---- the width
 pub size-le : {n : ℕ} → Size n → n ≤ 16
@@ -55,12 +56,63 @@ module _ (n : ℕ) (e : Edge) where
   dc-none o b = rw (o, b)
 
 -- ---- TM
+-- with x on its left, y above it, and the corner p
+abbrev pub tmOne : (x y p : ℕ) → ℕ
+tmOne x y p = clipZ (pos x +ℤ pos y -ℤ pos p)
+
 -- the sample at place k of a block with l on its left, a above it, and the corner p
 abbrev pub tmAt : List ℕ → List ℕ → ℕ → ℕ → ℕ
-tmAt l a p k = clipZ (pos (getD l (k / 4) 0) +ℤ pos (getD a (k % 4) 0) -ℤ pos p)
+tmAt l a p k = tmOne (getD l (k / 4) 0) (getD a (k % 4) 0) p
 
 unfoldable pub tmOf : List ℕ → List ℕ → ℕ → List ℕ
 tmOf l a p = build 16 (tmAt l a p)
+
+-- row by row: a row with x on its left, and four rows one after the other
+abbrev pub tmRow : ℕ → List ℕ → ℕ → List ℕ
+tmRow x a p = tmOne x (getD a 0 0) p ∷ tmOne x (getD a 1 0) p ∷ tmOne x (getD a 2 0) p ∷ tmOne x (getD a 3 0) p ∷ []
+
+abbrev pub joinedOf : (w x y z : List ℕ) → List ℕ
+joinedOf w x y z =
+    getD w 0 0 ∷ getD w 1 0 ∷ getD w 2 0 ∷ getD w 3 0 ∷ getD x 0 0 ∷ getD x 1 0 ∷ getD x 2 0 ∷ getD x 3 0
+    ∷ getD y 0 0 ∷ getD y 1 0 ∷ getD y 2 0 ∷ getD y 3 0 ∷ getD z 0 0 ∷ getD z 1 0 ∷ getD z 2 0 ∷ getD z 3 0 ∷ []
+
+pub tm-rows : (l a : List ℕ) (p : ℕ) {w x y z : List ℕ}
+    → w ≡ tmRow (getD l 0 0) a p → x ≡ tmRow (getD l 1 0) a p → y ≡ tmRow (getD l 2 0) a p → z ≡ tmRow (getD l 3 0) a p
+    → joinedOf w x y z ≡ tmOf l a p
+unfolding tmOf
+tm-rows l a p e f g h = rw (e, f, g, h) (sym (build-listed 16 (tmAt l a p)))
+
+-- of a sub-block, from its edge
+pub tm-edge : (e : List ℕ)
+    → tmOf (at e 3 ∷ at e 2 ∷ at e 1 ∷ at e 0 ∷ []) (at e 5 ∷ at e 6 ∷ at e 7 ∷ at e 8 ∷ []) (at e 4) ≡ tmBlock e
+unfolding tmOf tmBlock
+tm-edge e = build-listed 16 _ ∙ sym (build-listed 16 _)
+
+-- ---- a sub-block of a square, from four samples of each side
+module _ (dc : ℕ) (e : Edge) (r c : ℕ) where
+  abbrev left : List ℕ
+  left = build 4 (λ j. getD (e .left) (r + j) 0)
+
+  abbrev above : List ℕ
+  above = build 4 (λ j. getD (e .above) (c + j) 0)
+
+  pub large-mean : replicate 16 dc ≡ largeOf 0 dc e r c
+  unfolding largeOf
+  large-mean = sym (build-constant 16 dc)
+
+  pub large-tm : tmOf left above (e .corner) ≡ largeOf 1 dc e r c
+  unfolding largeOf tmOf
+  large-tm =
+      build-same 16 _ _
+      (λ k h. ap₂ (λ (l a : ℕ). tmOne l a (e .corner)) (getD-build 4 _ (k / 4) 0 (omega arith)) (getD-build 4 _ (k % 4) 0 (omega arith)))
+
+  pub large-columns : build 16 (λ k. getD above (k % 4) 0) ≡ largeOf 2 dc e r c
+  unfolding largeOf
+  large-columns = build-same 16 _ _ (λ k h. getD-build 4 _ (k % 4) 0 (omega arith))
+
+  pub large-rows : build 16 (λ k. getD left (k / 4) 0) ≡ largeOf 3 dc e r c
+  unfolding largeOf
+  large-rows = build-same 16 _ _ (λ k h. getD-build 4 _ (k / 4) 0 (omega arith))
 
 -- ---- bytes
 -- n numbers, each a byte; past the end `getD` gives 0, so no index has to be within the list
@@ -78,10 +130,12 @@ every-at P [] d p i h = absurd (omega arith)
 every-at P (x ∷ xs) d p zero h = p .0
 every-at P (x ∷ xs) d p (suc i) h = every-at P xs d (p .1) i (omega arith)
 
+every-listed : {A : Type 0} (P : A → Type 0) (n : ℕ) (f : ℕ → A) → ((i : ℕ) → P (f i)) → Every P (listed n f)
+every-listed P zero f h = tt
+every-listed P (suc n) f h = (h 0, every-listed P n (λ i. f (suc i)) (λ i. h (suc i)))
+
 every-build : {A : Type 0} (P : A → Type 0) (n : ℕ) (f : ℕ → A) → ((i : ℕ) → P (f i)) → Every P (build n f)
-unfolding build
-every-build P zero f h = tt
-every-build P (suc n) f h = (h 0, every-build P n (λ i. f (suc i)) (λ i. h (suc i)))
+every-build P n f h = subst (Every P) (sym (build-listed n f)) (every-listed P n f h)
 
 every-same : {A : Type 0} (P : A → Type 0) (n : ℕ) (x : A) → P x → Every P (replicate n x)
 every-same P zero x h = tt
@@ -137,8 +191,8 @@ module _ {n : ℕ} {e : List ℕ} (b : Bytes n e) where
       & (search (means, b .byte)) & (search (means, b .byte)) & (search (means, b .byte)) & (search (means, b .byte)) & tt
 
   ten-long : Every (λ (l : List ℕ). length l ≡ 16) (blocksOf e)
-  unfolding dcBlock tmBlock veBlock heBlock rdBlock vrBlock ldBlock vlBlock hdBlock huBlock build
-  ten-long = search
+  unfolding dcBlock tmBlock veBlock heBlock rdBlock vrBlock ldBlock vlBlock hdBlock huBlock
+  ten-long = refl & length-build 16 _ & refl & refl & refl & refl & refl & refl & refl & refl & tt
 
   pub small-bytes : (mode : ℕ) → mode < 10 → Bytes 16 (smallOf mode e)
   small-bytes mode h = record {

@@ -1,12 +1,11 @@
 // Prediction of a block from the samples around it (RFC 6386, sections 12.2 and 12.3).
+use numbers::clip;
 ghost use mathlib.Core.Path.{_≡_};
 ghost use Prim.Native.Nat.{_<_, _≤_, _+_, _*_, _/_, _%_};
-ghost use lib.IntN.{pos, _+ℤ_, _-ℤ_};
 ghost use lib.ListN.{getD};
-ghost use Rattle.numbers.specs.Clamp.{clipZ};
 ghost use Rattle.numbers.specs.Lists.{build};
 ghost use Rattle.planes.specs.Predict.{Size, at, mean2, mean3, two, three, dcBlock, tmBlock, veBlock, heBlock, rdBlock, vrBlock, ldBlock, vlBlock, hdBlock, huBlock, smallOf, sumOf, dcOf, largeOf};
-ghost use Rattle.planes.specs.PredictLaws.{Count, meanOver, tmOf};
+ghost use Rattle.planes.specs.PredictLaws.{Count, meanOver, joinedOf, tmOne, tmRow, tmOf};
 
 // What lies around a macroblock's square: the row above, the column to the left (of both the first 8 or 16), the corner, and
 // whether the row above and the column to the left are inside the picture.
@@ -67,6 +66,29 @@ fn three(e: [u8; 13], i: usize) -> u8
 }
 
 // ---- blocks of four rows
+fn joined(w: [u8; 4], x: [u8; 4], y: [u8; 4], z: [u8; 4]) -> [u8; 16]
+    ensures { λ r. ⌜ r ≡ joinedOf w x y z ⌝ }
+{
+    [
+        w[0],
+        w[1],
+        w[2],
+        w[3],
+        x[0],
+        x[1],
+        x[2],
+        x[3],
+        y[0],
+        y[1],
+        y[2],
+        y[3],
+        z[0],
+        z[1],
+        z[2],
+        z[3],
+    ]
+}
+
 // Each row is a.
 fn columns(a: [u8; 4]) -> [u8; 16]
     ensures { λ r. ⌜ r ≡ build 16 (λ k. getD a (k % 4) 0) ⌝ }
@@ -89,24 +111,33 @@ fn rows(l: [u8; 4]) -> [u8; 16]
     [w, w, w, w, x, x, x, x, y, y, y, y, z, z, z, z]
 }
 
-// TM: the sample on the left, moved by what the row above differs from its corner.
+// TM: the sample on the left, moved by what the one above differs from the corner.
 fn tm_sample(l: u8, a: u8, corner: u8) -> u8
-    ensures { λ r. ⌜ r ≡ clipZ (pos l +ℤ pos a -ℤ pos corner) ⌝ }
+    ensures { λ r. ⌜ r ≡ tmOne l a corner ⌝ }
 {
-    numbers::clip(l as i32 + a as i32 - corner as i32)
+    clip(l as i32 + a as i32 - corner as i32)
 }
 
-// The same for a block with l on its left and a above it.
+// The same for a row with l on its left and a above it, and for a block of four rows.
+fn tm_row(l: u8, a: [u8; 4], corner: u8) -> [u8; 4]
+    ensures { λ r. ⌜ r ≡ tmRow l a corner ⌝ }
+{
+    [
+        tm_sample(l, a[0], corner),
+        tm_sample(l, a[1], corner),
+        tm_sample(l, a[2], corner),
+        tm_sample(l, a[3], corner),
+    ]
+}
+
 fn tm_samples(l: [u8; 4], a: [u8; 4], corner: u8) -> [u8; 16]
     ensures { λ r. ⌜ r ≡ tmOf l a corner ⌝ }
 {
-    let mut out = [0; 16];
-    let mut k = 0;
-    while k < 16 {
-        out[k] = tm_sample(l[k / 4], a[k % 4], corner);
-        k += 1;
-    }
-    out
+    let w = tm_row(l[0], a, corner);
+    let x = tm_row(l[1], a, corner);
+    let y = tm_row(l[2], a, corner);
+    let z = tm_row(l[3], a, corner);
+    joined(w, x, y, z)
 }
 
 // ---- section 12.3: a sub-block. The names dN and tN are the means of two from place N and of three around it; at an end of the edge

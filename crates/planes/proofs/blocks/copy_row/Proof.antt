@@ -1,14 +1,12 @@
 -- `copy_row` meets its contract: four stores are a copy of four.
-use native.Mathlib.Nat.{add-zero}
 use native.Mathlib.Omega.{arith}
 use lib.ListN.{length-set}
-use Rattle.numbers.specs.Runs.{placed, copied}
+use Rattle.planes.specs.PaintLaws.{copied-four}
 use Rattle.planes.proofs.blocks.copy_row.Statement.{statement}
 use Rattle.planes.proofs.blocks.copy_row.Tie as tie
 
 returns : tie.Need-returns
-unfolding copied placed
-returns c = simp add-zero
+returns c = copied-four _ _ _ _
 
 pub copy-row-spec : {M : Type 1} → statement M
 copy-row-spec =

@@ -1,13 +1,12 @@
 -- `four` meets its contract.
 use borrow.Author.Needs.{needs}
 use native.Mathlib.Nat.{add-zero}
-use Rattle.numbers.specs.Lists.{build}
+use Rattle.numbers.specs.Lists.{build-listed}
 use Rattle.planes.proofs.predict.four.Statement.{statement}
 use Rattle.planes.proofs.predict.four.Tie as tie
 
 returns : tie.Need-returns
-unfolding build
-returns c = rw add-zero
+returns c = rw (build-listed, add-zero)
 
 pub four-spec : {M : Type 1} → statement M
 four-spec =

@@ -4,35 +4,29 @@ use mathlib.Core.List.{List}
 use Prim.Native.Nat.{ℕ}
 use native.Mathlib.Omega.{arith}
 use borrow.Author.Needs.{needs}
-use Rattle.numbers.specs.Lists.{build}
-use Rattle.planes.specs.Predict.{largeOf}
-use Rattle.planes.specs.PredictLaws.{tmOf}
+use Rattle.planes.specs.PredictLaws.{tmOf, large-mean, large-tm, large-columns, large-rows}
 use Rattle.planes.proofs.predict.large_block.Statement.{statement}
 use Rattle.planes.proofs.predict.large_block.Tie as tie
 
 returns : tie.Need-returns
-unfolding largeOf build
-returns c = rw (c .match .keys1)
+returns c = rw (c .match .keys1) (large-mean _ _ _ _)
 
 returns-2 : tie.Need-returns-2
-unfolding largeOf tmOf build
 returns-2 c =
     let b = c .before in
     let p : ℕ = b .before .before .before .before .before .args .e .corner in
     let e = c .tm-samples .ensures ∙ ap₂ (λ (l a : List ℕ). tmOf l a p) (b .before .four .ensures) (b .four2 .ensures) in
-    rw (b .before .before .match .keys2) e
+    rw (b .before .before .match .keys2) (e ∙ large-tm _ _ _ _)
 
 returns-3 : tie.Need-returns-3
-unfolding largeOf build
-returns-3 c = let b = c .before in rw (b .before .match .keys3) (rw (b .four3 .ensures) at (c .columns .ensures))
+returns-3 c = let b = c .before in rw (b .before .match .keys3) ((rw (b .four3 .ensures) at (c .columns .ensures)) ∙ large-columns _ _ _ _)
 
 returns-4 : tie.Need-returns-4
-unfolding largeOf build
 returns-4 c =
     let b = c .before in
     let s = b .before .before .before .before in
     let e : s .args .mode ≡ 3 = omega arith in
-    rw e (rw (b .four4 .ensures) at (c .rows .ensures))
+    rw e ((rw (b .four4 .ensures) at (c .rows .ensures)) ∙ large-rows _ _ _ _)
 
 pub large-block-spec : {M : Type 1} → statement M
 large-block-spec =
