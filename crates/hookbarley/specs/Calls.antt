@@ -1,0 +1,41 @@
+-- The calls as C sees them: a number, the macroblocks finished, the lent memory.
+use Prim.Native.Nat.{ℕ}
+use mathlib.Core.Bool.{Bool, true, false, not, _&&_}
+use mathlib.Core.List.{List}
+use lib.Dec.{eqb}
+use lib.ListN.{length}
+use Rattle.kernel.specs.Kernel.{filterOf}
+use Rattle.picture.specs.Memory.{Memory}
+use Rattle.picture.specs.Checks.{Tile}
+use Rattle.picture.specs.Picture.{Ended, numberOf, valuesOf, pictureOf}
+
+pub record Called : Type 0 where
+  pub number : ℕ
+  pub finished : ℕ
+  pub mem : Memory
+
+abbrev pub toCalled : Ended → Called
+toCalled e = record { number = numberOf (e .answer); finished = valuesOf (e .answer); mem = e .mem }
+
+-- eight starts and eight lengths, else 9
+unfoldable pub calledOf : Tile → Memory → Called
+calledOf t m =
+    elim (eqb (length (t .starts)) 8 && eqb (length (t .lengths)) 8) [
+      | true ↦ toCalled (pictureOf t m)
+      | false ↦ record { number = 9; finished = 0; mem = m }
+    ]
+
+-- eight samples, else 9; a flag is true where its byte is not 0
+pub record Filtered : Type 0 where
+  pub number : ℕ
+  pub samples : List ℕ
+
+abbrev pub flagOf : ℕ → Bool
+flagOf n = not (eqb n 0)
+
+unfoldable pub filteredOf : List ℕ → (simple edge limit inner threshold : ℕ) → Filtered
+filteredOf e simple edge limit inner threshold =
+    elim (eqb (length e) 8) [
+      | true ↦ record { number = 0; samples = filterOf e (flagOf simple) (flagOf edge) limit inner threshold }
+      | false ↦ record { number = 9; samples = e }
+    ]

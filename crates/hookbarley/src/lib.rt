@@ -1,0 +1,147 @@
+// What a program in C or Rust links: the picture call and the edge kernel, on numbers and slices. A slice passes as a pointer
+// and a length; include/hookbarley.h says the same in C.
+use kernel::filter;
+use picture::decode;
+use picture::rows::Decoded;
+use reader::boolean::Reader;
+ghost use mathlib.Core.Path.{_≡_};
+ghost use lib.ListN.{length};
+ghost use Rattle.picture.specs.Picture.{numberOf, valuesOf};
+ghost use Rattle.hookbarley.specs.Calls.{Called, calledOf, Filtered, filteredOf};
+
+fn number_of(d: Decoded) -> u32
+    ensures { λ r. ⌜ r ≡ numberOf d ⌝ }
+{
+    match d {
+        Decoded::Whole(_) => 0,
+        Decoded::Refused(n) => n,
+        Decoded::NoModes(_) => 6,
+        Decoded::NoTokens(_) => 7,
+    }
+}
+
+fn finished_of(d: Decoded) -> usize
+    ensures { λ r. ⌜ r ≡ valuesOf d ⌝ }
+{
+    match d {
+        Decoded::Whole(k) => k,
+        Decoded::Refused(_) => 0,
+        Decoded::NoModes(k) => k,
+        Decoded::NoTokens(k) => k,
+    }
+}
+
+fn eight(s: &[usize]) -> [usize; 8]
+    requires { ⌜ length (now s) ≡ 8 ⌝ }
+    ensures { λ r. ⌜ r ≡ now (s .entry) ⌝ }
+{
+    [s[0], s[1], s[2], s[3], s[4], s[5], s[6], s[7]]
+}
+
+// The picture call. The eight starts and lengths are slices of eight (else 9); `at`, `range`, `shifts` and `window` are the
+// starting reader; the macroblocks finished are written through `finished`.
+#[no_mangle]
+pub extern "C" fn hookbarley_decode(
+    bytes: &[u8],
+    start: usize,
+    len: usize,
+    starts: &[usize],
+    lengths: &[usize],
+    at: usize,
+    range: u32,
+    shifts: u32,
+    window: u32,
+    count: usize,
+    header: &[i32],
+    width: usize,
+    height: usize,
+    y: &mut [u8],
+    u: &mut [u8],
+    v: &mut [u8],
+    columns: &mut [u8],
+    modes: &mut [u8],
+    strengths: &mut [u8],
+    finished: &mut usize,
+) -> u32
+    ensures { λ r. ⌜ _≡_ {A = Called} (record { number = r; finished = now (finished .exit); mem = record { y = now (y .exit); u = now (u .exit); v = now (v .exit); columns = now (columns .exit); modes = now (modes .exit); strengths = now (strengths .exit) } })
+        (calledOf (record { bytes = now (bytes .entry); firstStart = start; firstLength = len; reader = record { at = at; range = range; shifts = shifts; window = window }; starts = now (starts .entry); lengths = now (lengths .entry); count = count; header = now (header .entry); width = width; height = height })
+        (record { y = now (y .entry); u = now (u .entry); v = now (v .entry); columns = now (columns .entry); modes = now (modes .entry); strengths = now (strengths .entry) })) ⌝ }
+{
+    if starts.len() != 8 {
+        *finished = 0;
+        return 9;
+    }
+    if lengths.len() != 8 {
+        *finished = 0;
+        return 9;
+    }
+    let reader = Reader {
+        at: at,
+        range: range,
+        shifts: shifts,
+        window: window,
+    };
+    let eight_starts = eight(starts);
+    let eight_lengths = eight(lengths);
+    let d = decode(
+        bytes,
+        start,
+        len,
+        eight_starts,
+        eight_lengths,
+        reader,
+        count,
+        header,
+        width,
+        height,
+        y,
+        u,
+        v,
+        columns,
+        modes,
+        strengths,
+    );
+    *finished = finished_of(d);
+    number_of(d)
+}
+
+fn eight_samples(s: &[u8]) -> [u8; 8]
+    requires { ⌜ length (now s) ≡ 8 ⌝ }
+    ensures { λ r. ⌜ r ≡ now (s .entry) ⌝ }
+{
+    [s[0], s[1], s[2], s[3], s[4], s[5], s[6], s[7]]
+}
+
+// Stores eight samples.
+fn put(s: &mut [u8], e: [u8; 8])
+    requires { ⌜ length (now s) ≡ 8 ⌝ }
+    ensures { λ _. ⌜ now (s .exit) ≡ e ⌝ }
+{
+    let mut i = 0;
+    while i < 8 {
+        s[i] = e[i];
+        i = i + 1;
+    }
+}
+
+// The edge kernel on eight samples across an edge, p3 to p0 and q0 to q3, in place; 9 where there are not eight. `simple` and
+// `edge` (a macroblock edge) are true where they are not 0.
+#[no_mangle]
+pub extern "C" fn hookbarley_filter(
+    samples: &mut [u8],
+    simple: u8,
+    edge: u8,
+    limit: u8,
+    inner: u8,
+    threshold: u8,
+) -> u32
+    ensures { λ r. ⌜ _≡_ {A = Filtered} (record { number = r; samples = now (samples .exit) }) (filteredOf (now (samples .entry)) simple edge limit inner threshold) ⌝ }
+{
+    if samples.len() != 8 {
+        return 9;
+    }
+    let before = eight_samples(samples);
+    let after = filter(&before, simple != 0, edge != 0, limit, inner, threshold);
+    put(samples, after);
+    0
+}

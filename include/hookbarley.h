@@ -1,0 +1,75 @@
+/* Hookbarley: a VP8 key-frame tile decoder (RFC 6386), proved. Link libhookbarley.a (`rt staticlib hookbarley`, x86-64).
+ *
+ * Every call ends with an answer, for all arguments. What each answer and every lent byte is, is proved of the library's code; it
+ * supposes of the caller what C cannot check: that a pointer and its length name memory that is there, that memory lent to be
+ * written overlaps nothing else that is lent, and that nobody writes to what is lent during the call.
+ */
+#ifndef HOOKBARLEY_H
+#define HOOKBARLEY_H
+
+#include <stddef.h>
+#include <stdint.h>
+
+#ifdef __cplusplus
+extern "C" {
+#endif
+
+/* What hookbarley_decode returns. */
+enum hookbarley_number {
+    HOOKBARLEY_WHOLE = 0,     /* every macroblock is finished */
+    HOOKBARLEY_SIZE = 1,      /* width or height is not a multiple of 16 in 16..16384 */
+    HOOKBARLEY_COUNT = 2,     /* the count is not 1..8 */
+    HOOKBARLEY_ENTRY = 3,     /* a header entry is outside -255..255 */
+    HOOKBARLEY_LENGTH = 4,    /* a lent length, or the header's, is not as below */
+    HOOKBARLEY_PARTITION = 5, /* a partition is outside the bytes or has under 2; the starting reader is out of range */
+    HOOKBARLEY_NO_MODES = 6,  /* the first partition ran out in macroblock *finished */
+    HOOKBARLEY_NO_TOKENS = 7, /* a token partition ran out in macroblock *finished */
+    HOOKBARLEY_ARGUMENT = 9   /* not eight starts, not eight lengths; of hookbarley_filter: not eight samples */
+};
+
+/* Decodes one picture. Checks are made in the order of the numbers above (9 first), and after 1 to 5 and 9 nothing lent has changed
+ * and *finished is 0. After 6 and 7 the macroblocks 0..*finished-1 (raster order) stand finished, every other sample is 128, the
+ * modes and strengths of the others are 0. What the lent memory held before never matters.
+ *
+ * bytes            the file or whatever holds the partitions
+ * first_start, _length   the first partition (modes) in it
+ * token_starts, token_lengths   eight each (the lengths of both arrays are 8); those from `count` on are not looked at
+ * at, range, shifts, window     the boolean reader in the first partition, behind the coded frame header: the place of the next
+ *                  byte (2..first_length), range 128..255, shifts since a byte came in 0..7, window below 65536 and a multiple of
+ *                  2^shifts. For a first partition that holds modes alone: 2, 255, 0, first byte * 256 + second byte.
+ * count            token partitions, 1..8; macroblock row r reads partition r mod count
+ * header           1096 entries, see docs (segment map 3, probabilities 38..1093, quantizers, filter levels, ..)
+ * width, height    in samples, multiples of 16
+ * y, u, v          lent: width*height, (width/2)*(height/2) twice
+ * columns          lent: 13 bytes a macroblock column (4 modes, 9 flags), left as after the last finished macroblock
+ * modes            lent: 20 bytes a macroblock (segment, skip, small, 16 luma modes, chroma mode)
+ * strengths        lent: 4 bytes a macroblock (limit, inner, threshold, inside)
+ * finished         the macroblocks finished
+ */
+uint32_t hookbarley_decode(const uint8_t *bytes, size_t bytes_len,
+                           size_t first_start, size_t first_length,
+                           const size_t *token_starts, size_t token_starts_len,
+                           const size_t *token_lengths, size_t token_lengths_len,
+                           size_t at, uint32_t range, uint32_t shifts, uint32_t window,
+                           size_t count,
+                           const int32_t *header, size_t header_len,
+                           size_t width, size_t height,
+                           uint8_t *y, size_t y_len,
+                           uint8_t *u, size_t u_len,
+                           uint8_t *v, size_t v_len,
+                           uint8_t *columns, size_t columns_len,
+                           uint8_t *modes, size_t modes_len,
+                           uint8_t *strengths, size_t strengths_len,
+                           size_t *finished);
+
+/* The loop filter's kernel (RFC 6386, section 15) on eight samples across an edge, p3 p2 p1 p0 q0 q1 q2 q3, in place. `simple` picks
+ * the simple filter, `edge` a macroblock edge (else an inner one); both are true where they are not 0. 0, or 9 and nothing
+ * changed where there are not eight samples. */
+uint32_t hookbarley_filter(uint8_t *samples, size_t samples_len, uint8_t simple, uint8_t edge,
+                           uint8_t limit, uint8_t inner, uint8_t threshold);
+
+#ifdef __cplusplus
+}
+#endif
+
+#endif
