@@ -1,1 +1,16 @@
 pub mod Worked
+pub mod Refusals
+pub mod Reached
+pub mod ReachedLaws
+pub mod Stops
+pub mod Places
+pub mod KeptLaws
+pub mod Grey
+pub mod GreyLaws
+pub mod TwoRuns
+pub mod TwoModes
+pub mod Isolation
+pub mod IsolationLaws
+pub mod Valid
+pub mod Witness
+pub mod Determined

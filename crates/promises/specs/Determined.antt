@@ -1,0 +1,193 @@
+-- Each public function promises one answer: for every input, whatever meets its contract, lent memory included, is the same, and something
+-- meets it. Every contract is an equation with a definition: a line for each function.
+use mathlib.Core.Path.{_≡_, refl, sym, _∙_}
+use Prim.Native.Nat.{ℕ}
+use mathlib.Core.Bool.{Bool}
+use mathlib.Core.List.{List}
+use lib.IntN.{ℤ}
+use Rattle.numbers.specs.Clamp.{upTo, clipZ, signedTo, signedByteZ}
+use Rattle.numbers.specs.Wrap.{wrap16Of}
+use Rattle.reader.specs.Boolean.{validOf, openAnswer, symbolAnswer}
+use Rattle.reader.specs.Extra.{extraAnswer}
+use Rattle.reader.specs.Header.{presentOf, probabilityOf, entriesOf, headerOf}
+use Rattle.reader.specs.Trees.{walkAnswer}
+use Rattle.reader.specs.declared.boolean.Reader.{Reader}
+use Rattle.segments.specs.Levels.{levelAnswer}
+use Rattle.segments.specs.Quantizers.{quantizersOf}
+use Rattle.segments.specs.declared.quantizers.Factors.{Factors}
+use Rattle.coefficients.specs.Tokens as Tokens
+use Rattle.coefficients.specs.Tokens.{numberAnswer, signedAnswer, tableOf}
+use Rattle.coefficients.specs.Transform.{transformOf}
+use Rattle.kernel.specs.Kernel.{filterOf, pixelOf}
+use Rattle.modes.specs.Answers.{prefixAnswer, mainAnswer, blockAnswer, smallAnswer, modesAnswer}
+use Rattle.modes.specs.Modes as Modes
+use Rattle.modes.specs.Modes.{bottomOf}
+use Rattle.modes.specs.Records.{emptyContext, contextFine, columnWritten, columnFound, modeWritten, modeFound}
+use Rattle.modes.specs.declared.answers.Kinds.{Kinds}
+use Rattle.modes.specs.declared.columns.Context.{Context}
+use Rattle.residual.specs.Residual as Residual
+use Rattle.planes.specs.Paint.{paintOf}
+use Rattle.macroblock.specs.Frame.{framedOf}
+use Rattle.macroblock.specs.Macroblock as Macroblock
+use Rattle.macroblock.specs.Macroblock.{Planes}
+use Rattle.macroblock.specs.StrengthRecords.{strengthWritten}
+use Rattle.macroblock.specs.Strengths.{strengthAnswer}
+use Rattle.macroblock.specs.declared.frame.Frame.{Frame}
+use Rattle.macroblock.specs.declared.strengths.Strength.{Strength}
+use Rattle.picture.specs.Checks.{Tile}
+use Rattle.picture.specs.Memory.{Memory}
+use Rattle.picture.specs.Picture.{pictureOf}
+
+-- one answer meets the promise, and no other
+pub record One {A : Type 0} (Promise : A → Type 0) : Type 0 where
+  pub answer : A
+  pub meets : Promise answer
+  pub only : (x y : A) → Promise x → Promise y → x ≡ y
+
+determined : {A : Type 0} (d : A) → One (λ x. x ≡ d)
+determined d = record { answer = d; meets = refl; only = λ x y e f. e ∙ sym f }
+
+-- ---- numbers
+pub numbers-wrap16 : (v : ℤ) → One (λ x. x ≡ wrap16Of v)
+numbers-wrap16 v = determined (wrap16Of v)
+
+pub numbers-clamp-to : (v : ℤ) (top : ℕ) → One (λ x. x ≡ upTo top v)
+numbers-clamp-to v top = determined (upTo top v)
+
+pub numbers-clip : (v : ℤ) → One (λ x. x ≡ clipZ v)
+numbers-clip v = determined (clipZ v)
+
+pub numbers-signed-to : (v : ℤ) (top : ℕ) → One (λ x. x ≡ signedTo top v)
+numbers-signed-to v top = determined (signedTo top v)
+
+pub numbers-signed-byte : (v : ℤ) → One (λ x. x ≡ signedByteZ v)
+numbers-signed-byte v = determined (signedByteZ v)
+
+-- ---- reader
+pub reader-valid : (s : List ℕ) (r : Reader) → One (λ x. x ≡ validOf s r)
+reader-valid s r = determined (validOf s r)
+
+pub reader-open : (s : List ℕ) → One (λ x. x ≡ openAnswer s)
+reader-open s = determined (openAnswer s)
+
+pub reader-symbol : (s : List ℕ) (r : Reader) (prob : ℕ) → One (λ x. x ≡ symbolAnswer s r prob)
+reader-symbol s r prob = determined (symbolAnswer s r prob)
+
+pub reader-walk-tree : (s probs : List ℕ) (tree : List ℤ) (start : ℕ) (r : Reader) → One (λ x. x ≡ walkAnswer s probs tree start r)
+reader-walk-tree s probs tree start r = determined (walkAnswer s probs tree start r)
+
+pub reader-extra-bits : (s probs : List ℕ) (r : Reader) → One (λ x. x ≡ extraAnswer s probs r)
+reader-extra-bits s probs r = determined (extraAnswer s probs r)
+
+pub reader-present : (entry : ℤ) → One (λ x. x ≡ presentOf entry)
+reader-present entry = determined (presentOf entry)
+
+pub reader-probability : (entry : ℤ) → One (λ x. x ≡ probabilityOf entry)
+reader-probability entry = determined (probabilityOf entry)
+
+pub reader-entries-fine : (h : List ℤ) → One (λ x. x ≡ entriesOf h)
+reader-entries-fine h = determined (entriesOf h)
+
+pub reader-header-fine : (h : List ℤ) → One (λ x. x ≡ headerOf h)
+reader-header-fine h = determined (headerOf h)
+
+-- ---- segments
+pub segments-for-segment : (h : List ℤ) (segment : ℕ) → One (λ x. x ≡ quantizersOf h segment)
+segments-for-segment h segment = determined (quantizersOf h segment)
+
+pub segments-for-macroblock : (h : List ℤ) (segment : ℕ) (small : Bool) → One (λ x. x ≡ levelAnswer h segment small)
+segments-for-macroblock h segment small = determined (levelAnswer h segment small)
+
+-- ---- coefficients
+pub coefficients-number : (s : List ℕ) (token : ℕ) (r : Reader) → One (λ x. x ≡ numberAnswer s token r)
+coefficients-number s token r = determined (numberAnswer s token r)
+
+pub coefficients-dequant : (s : List ℕ) (token q : ℕ) (r : Reader) → One (λ x. x ≡ signedAnswer s token q r)
+coefficients-dequant s token q r = determined (signedAnswer s token q r)
+
+pub coefficients-probabilities : (h : List ℤ) → One (λ x. x ≡ tableOf h)
+coefficients-probabilities h = determined (tableOf h)
+
+pub coefficients-decode : (s : List ℕ) (r : Reader) (table : List ℕ) (kind ctx first q0 q1 : ℕ) (out : List ℤ) → One (λ x. x ≡ Tokens.decodeOf s r table kind ctx first q0 q1 out)
+coefficients-decode s r table kind ctx first q0 q1 out = determined (Tokens.decodeOf s r table kind ctx first q0 q1 out)
+
+pub coefficients-decode-header : (s : List ℕ) (r : Reader) (h : List ℤ) (kind ctx first q0 q1 : ℕ) (out : List ℤ) → One (λ x. x ≡ Tokens.decodeHeaderOf s r h kind ctx first q0 q1 out)
+coefficients-decode-header s r h kind ctx first q0 q1 out = determined (Tokens.decodeHeaderOf s r h kind ctx first q0 q1 out)
+
+pub coefficients-transform : (c : List ℤ) (walsh : Bool) → One (λ x. x ≡ transformOf c walsh)
+coefficients-transform c walsh = determined (transformOf c walsh)
+
+-- ---- kernel
+pub kernel-filter : (e : List ℕ) (simple edge : Bool) (limit inner threshold : ℕ) → One (λ x. x ≡ filterOf e simple edge limit inner threshold)
+kernel-filter e simple edge limit inner threshold = determined (filterOf e simple edge limit inner threshold)
+
+pub kernel-pixel : (e : List ℕ) (simple edge : Bool) (limit inner threshold k : ℕ) → One (λ x. x ≡ pixelOf e simple edge limit inner threshold k)
+kernel-pixel e simple edge limit inner threshold k = determined (pixelOf e simple edge limit inner threshold k)
+
+-- ---- modes
+pub modes-prefix : (s : List ℕ) (r : Reader) (h : List ℤ) → One (λ x. x ≡ prefixAnswer s r h)
+modes-prefix s r h = determined (prefixAnswer s r h)
+
+pub modes-main-mode : (s : List ℕ) (r : Reader) (chroma : Bool) → One (λ x. x ≡ mainAnswer s r chroma)
+modes-main-mode s r chroma = determined (mainAnswer s r chroma)
+
+pub modes-block-mode : (s : List ℕ) (r : Reader) (top left : ℕ) → One (λ x. x ≡ blockAnswer s r top left)
+modes-block-mode s r top left = determined (blockAnswer s r top left)
+
+pub modes-small-modes : (s : List ℕ) (r : Reader) (top left modes : List ℕ) → One (λ x. x ≡ smallAnswer s r top left modes)
+modes-small-modes s r top left modes = determined (smallAnswer s r top left modes)
+
+pub modes-read-modes : (s : List ℕ) (h : List ℤ) (r : Reader) (top left modes : List ℕ) → One (λ x. x ≡ modesAnswer s h r top left modes)
+modes-read-modes s h r top left modes = determined (modesAnswer s h r top left modes)
+
+pub modes-empty : One (λ x. x ≡ emptyContext)
+modes-empty = determined emptyContext
+
+pub modes-bottom : (modes : List ℕ) → One (λ x. x ≡ bottomOf modes)
+modes-bottom modes = determined (bottomOf modes)
+
+pub modes-right : (modes : List ℕ) → One (λ x. x ≡ Modes.rightOf modes)
+modes-right modes = determined (Modes.rightOf modes)
+
+pub modes-context-fine : (c : Context) → One (λ x. x ≡ contextFine c)
+modes-context-fine c = determined (contextFine c)
+
+pub modes-write-column : (mem : List ℕ) (column : ℕ) (c : Context) → One (λ x. x ≡ columnWritten mem column c)
+modes-write-column mem column c = determined (columnWritten mem column c)
+
+pub modes-read-column : (mem : List ℕ) (column : ℕ) → One (λ x. x ≡ columnFound mem column)
+modes-read-column mem column = determined (columnFound mem column)
+
+pub modes-write-mode-record : (mem : List ℕ) (i : ℕ) (kinds : Kinds) (modes : List ℕ) → One (λ x. x ≡ modeWritten mem i kinds modes)
+modes-write-mode-record mem i kinds modes = determined (modeWritten mem i kinds modes)
+
+pub modes-read-mode-record : (mem : List ℕ) (i : ℕ) → One (λ x. x ≡ modeFound mem i)
+modes-read-mode-record mem i = determined (modeFound mem i)
+
+-- ---- residual
+pub residual-decode : (s : List ℕ) (r : Reader) (table : List ℕ) (f : Factors) (small skip : Bool) (top left : List ℕ) (out : List ℤ) → One (λ x. x ≡ Residual.decodeOf s r table f small skip top left out)
+residual-decode s r table f small skip top left out = determined (Residual.decodeOf s r table f small skip top left out)
+
+pub residual-decode-header : (s : List ℕ) (r : Reader) (h : List ℤ) (segment : ℕ) (small skip : Bool) (top left : List ℕ) (out : List ℤ) → One (λ x. x ≡ Residual.decodeHeaderOf s r h segment small skip top left out)
+residual-decode-header s r h segment small skip top left out = determined (Residual.decodeHeaderOf s r h segment small skip top left out)
+
+-- ---- planes
+pub planes-paint : (plane : List ℕ) (stride column row size : ℕ) (small : Bool) (mode : ℕ) (modes : List ℕ) (coefficients : List ℤ) → One (λ x. x ≡ paintOf plane stride column row size small mode modes coefficients)
+planes-paint plane stride column row size small mode modes coefficients = determined (paintOf plane stride column row size small mode modes coefficients)
+
+-- ---- macroblock
+pub macroblock-take : (h : List ℤ) → One (λ x. x ≡ framedOf h)
+macroblock-take h = determined (framedOf h)
+
+pub macroblock-at-level : (level sharp : ℕ) (inside : Bool) → One (λ x. x ≡ strengthAnswer level sharp inside)
+macroblock-at-level level sharp inside = determined (strengthAnswer level sharp inside)
+
+pub macroblock-write-strength : (mem : List ℕ) (i : ℕ) (t : Strength) → One (λ x. x ≡ strengthWritten mem i t)
+macroblock-write-strength mem i t = determined (strengthWritten mem i t)
+
+pub macroblock-decode : (s : List ℕ) (r : Reader) (tokens : List ℕ) (t : Reader) (h : List ℤ) (table : List ℕ) (frame : Frame) (top left : Context) (w column row : ℕ) (p : Planes) → One (λ x. x ≡ Macroblock.decodeOf s r tokens t h table frame top left w column row p)
+macroblock-decode s r tokens t h table frame top left w column row p = determined (Macroblock.decodeOf s r tokens t h table frame top left w column row p)
+
+-- ---- picture
+pub picture-decode : (t : Tile) (m : Memory) → One (λ x. x ≡ pictureOf t m)
+picture-decode t m = determined (pictureOf t m)

@@ -1,0 +1,38 @@
+-- Where a macroblock's samples and records stand in the lent memory.
+use Prim.Native.Nat.{ℕ, _+_, _*_, _/_}
+use mathlib.Core.List.{List}
+use lib.ListN.{getD}
+use Rattle.planes.specs.Paint.{sampleAt}
+use Rattle.picture.specs.Memory.{Memory}
+
+-- the three planes: Y, U and V
+pub data Plane : Type 0 where
+  luma : Plane
+  blue : Plane
+  red : Plane
+
+abbrev pub planeOf : Plane → Memory → List ℕ
+planeOf luma m = m .y
+planeOf blue m = m .u
+planeOf red m = m .v
+
+-- a macroblock is 16 by 16 samples of luma, 8 by 8 of U and of V
+abbrev pub sideOf : Plane → ℕ
+sideOf luma = 16
+sideOf blue = 8
+sideOf red = 8
+
+-- the sample at column c of row r of a plane, `wide` macroblocks to a row
+abbrev pub sampleOf : (wide : ℕ) → Plane → (c r : ℕ) → Memory → ℕ
+sampleOf wide a c r m = sampleAt (planeOf a m) (wide * sideOf a) c r
+
+-- byte i of the mode records, twenty a macroblock; and of the strength records, four a macroblock
+abbrev pub modeByte : ℕ → Memory → ℕ
+modeByte i m = getD (m .modes) i 0
+
+abbrev pub strengthByte : ℕ → Memory → ℕ
+strengthByte i m = getD (m .strengths) i 0
+
+-- the macroblock, in raster order, that column c of row r of a plane lies in
+abbrev pub blockAt : (wide : ℕ) → Plane → (c r : ℕ) → ℕ
+blockAt wide a c r = r / sideOf a * wide + c / sideOf a
