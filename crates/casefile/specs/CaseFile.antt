@@ -1,0 +1,96 @@
+-- The layout of a case file, big-endian: version (1 byte); length of the rest (4); width, height (2 each); count (1); 1096 header
+-- entries (2 each, signed); the lengths of the first partition and of `count` token partitions (4 each); their bytes.
+use Prim.Native.Nat.{ℕ, zero, suc, _+_, _*_}
+use mathlib.Core.Bool.{Bool, true, false, _&&_}
+use mathlib.Core.List.{List}
+use lib.Dec.{leb, ltb, eqb}
+use lib.IntN.{ℤ, pos, _-ℤ_}
+use lib.ListN.{length, getD}
+use Rattle.numbers.specs.Lists.{build}
+use Rattle.reader.specs.declared.boolean.Reader.{Reader}
+use Rattle.reader.specs.Boolean.{firstReader, noReader}
+use Rattle.picture.specs.Partitions.{partOf}
+use Rattle.picture.specs.Checks.{Tile}
+
+-- ---- numbers of one, two and four bytes
+abbrev pub byteAt : List ℕ → ℕ → ℕ
+byteAt s i = getD s i 0
+
+unfoldable pub halfAt : List ℕ → ℕ → ℕ
+halfAt s i = byteAt s i * 256 + byteAt s (i + 1)
+
+unfoldable pub wordAt : List ℕ → ℕ → ℕ
+wordAt s i = halfAt s i * 65536 + halfAt s (i + 2)
+
+-- two bytes as a signed number
+unfoldable pub signedOf : ℕ → ℤ
+signedOf n = elim (ltb n 32768) [ true ↦ pos n | false ↦ pos n -ℤ pos 65536 ]
+
+-- ---- the fields
+abbrev pub versionOf : List ℕ → ℕ
+versionOf s = byteAt s 0
+
+abbrev pub restOf : List ℕ → ℕ
+restOf s = wordAt s 1
+
+abbrev pub widthOf : List ℕ → ℕ
+widthOf s = halfAt s 5
+
+abbrev pub heightOf : List ℕ → ℕ
+heightOf s = halfAt s 7
+
+abbrev pub countOf : List ℕ → ℕ
+countOf s = byteAt s 9
+
+abbrev pub entryAt : List ℕ → ℕ → ℤ
+entryAt s i = signedOf (halfAt s (10 + 2 * i))
+
+unfoldable pub headerOf : List ℕ → List ℤ
+headerOf s = build 1096 (entryAt s)
+
+-- ---- partitions: 0 is the first, then the token partitions
+abbrev pub lengthAt : List ℕ → ℕ → ℕ
+lengthAt s i = wordAt s (2202 + 4 * i)
+
+-- behind the lengths and the partitions before it
+unfoldable pub startAt : List ℕ → ℕ → ℕ
+startAt s zero = 2206 + 4 * countOf s
+startAt s (suc i) = startAt s i + lengthAt s i
+
+-- what is handed on of the token partitions: eight, and 0 past the count
+unfoldable pub slotOf : ℕ → (ℕ → ℕ) → ℕ → ℕ
+slotOf count f i = elim (ltb i count) [ true ↦ f (i + 1) | false ↦ 0 ]
+
+unfoldable pub startsOf : List ℕ → List ℕ
+startsOf s = build 8 (slotOf (countOf s) (startAt s))
+
+unfoldable pub lengthsOf : List ℕ → List ℕ
+lengthsOf s = build 8 (slotOf (countOf s) (lengthAt s))
+
+-- ---- well-formed: version 1, as long as the file says, no byte missing or left over; at most 64 KiB, and no side over 64
+unfoldable pub wholeOf : List ℕ → Bool
+wholeOf s = leb (2206 + 4 * countOf s) (length s) && eqb (startAt s (countOf s + 1)) (length s)
+
+unfoldable pub wellFormed : List ℕ → Bool
+wellFormed s =
+    leb 2206 (length s)
+    && (leb (length s) 65536 && eqb (versionOf s) 1 && eqb (restOf s + 5) (length s) && leb (widthOf s) 64 && leb (heightOf s) 64 && wholeOf s)
+
+-- ---- what the picture call is given of it
+-- a partition opened afresh; under two bytes no reader, which the call refuses by 5
+unfoldable pub openedOf : List ℕ → Reader
+openedOf first = elim (leb 2 (length first)) [ true ↦ firstReader first | false ↦ noReader ]
+
+abbrev pub tileOf : List ℕ → Tile
+tileOf s = record {
+  bytes = s;
+  firstStart = startAt s 0;
+  firstLength = lengthAt s 0;
+  reader = openedOf (partOf s (startAt s 0) (lengthAt s 0));
+  starts = startsOf s;
+  lengths = lengthsOf s;
+  count = countOf s;
+  header = headerOf s;
+  width = widthOf s;
+  height = heightOf s;
+}

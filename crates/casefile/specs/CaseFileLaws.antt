@@ -1,0 +1,137 @@
+-- What a well-formed file has, and the laws of its parts.
+use Prim.Native.Nat.{ℕ, zero, suc, _+_, _*_, _≤_, _<_}
+use mathlib.Core.Path.{_≡_, refl, _∙_, ap, subst}
+use mathlib.Core.Bool.{true, false, _&&_}
+use mathlib.Core.List.{List}
+use mathlib.Core.Logic.{⊎-elim}
+use native.Mathlib.Omega.{arith}
+use native.Mathlib.Numerals.{add-one}
+use borrow.Author.Tests.{leb-true, eqb-true, le-leb, lt-leb, lt-ltb, le-ltb}
+use lib.Dec.{leb, eqb}
+use lib.IntN.{ℤ, pos, negsuc, _-ℤ_}
+use mir.Syntax.{w32}
+use lib.ListN.{length}
+use Rattle.numbers.specs.Tests.{lt-or, both-left, both-right}
+use Rattle.numbers.specs.In.{In}
+use Rattle.numbers.specs.Know.{Know, num, plainly, round, wider, know-sub}
+use Rattle.numbers.specs.Hand.{unsigned-below, answered}
+use Rattle.reader.specs.declared.boolean.Reader.{Reader}
+use Rattle.reader.specs.declared.boolean.Opened.the-variants as O
+use Rattle.reader.specs.Boolean.{noReader, openAnswer}
+use Rattle.reader.specs.BooleanLaws.{opened, open-good}
+use Rattle.casefile.specs.CaseFile.{byteAt, halfAt, wordAt, signedOf, widthOf, heightOf, countOf, versionOf, restOf, entryAt, lengthAt, startAt, slotOf, wholeOf, wellFormed, openedOf}
+
+pub record Formed (s : List ℕ) : Type 0 where
+  pub long : 2206 ≤ length s
+  pub width : widthOf s ≤ 64
+  pub height : heightOf s ≤ 64
+  pub room : 2206 + 4 * countOf s ≤ length s
+  pub first : startAt s 0 + lengthAt s 0 ≤ length s
+
+-- ---- where partitions start
+module _ (s : List ℕ) where
+  pub start-none : 2206 + 4 * countOf s ≡ startAt s 0
+  unfolding startAt
+  start-none = refl
+
+  pub start-next : (i : ℕ) → startAt s (i + 1) ≡ startAt s i + lengthAt s i
+  unfolding startAt
+  start-next i = rw (add-one i)
+
+  -- the first partition ends where the next one starts, or before
+  first-before : (i : ℕ) → startAt s 0 + lengthAt s 0 ≤ startAt s (suc i)
+  unfolding startAt
+  first-before zero = omega arith
+  first-before (suc i) = let h = first-before i in omega arith
+
+-- ---- well-formed
+module _ (s : List ℕ) where
+  pub not-whole : length s < 2206 + 4 * countOf s → false ≡ wholeOf s
+  unfolding wholeOf
+  not-whole h = rw (lt-leb _ _ h)
+
+  pub whole-rest : 2206 + 4 * countOf s ≤ length s → eqb (startAt s (countOf s + 1)) (length s) ≡ wholeOf s
+  unfolding wholeOf
+  whole-rest h = rw (le-leb _ _ h)
+
+  pub too-short : length s < 2206 → false ≡ wellFormed s
+  unfolding wellFormed
+  too-short h = rw (lt-leb _ _ h)
+
+  pub long-enough : 2206 ≤ length s → leb (length s) 65536 && eqb (versionOf s) 1 && eqb (restOf s + 5) (length s) && leb (widthOf s) 64 && leb (heightOf s) 64 && wholeOf s ≡ wellFormed s
+  unfolding wellFormed
+  long-enough h = rw (le-leb _ _ h)
+
+  pub well-formed : wellFormed s ≡ true → Formed s
+  unfolding wellFormed wholeOf
+  well-formed e =
+      let plain = leb (length s) 65536 && eqb (versionOf s) 1 && eqb (restOf s + 5) (length s) in
+      let wide = plain && leb (widthOf s) 64 in
+      let high = wide && leb (heightOf s) 64 in
+      let fields = leb (2206 + 4 * countOf s) (length s) in
+      let b = both-right (leb 2206 (length s)) _ e in
+      let w = both-right high (wholeOf s) b in
+      let h = both-left high (wholeOf s) b in
+      let t : startAt s (countOf s + 1) ≡ length s = eqb-true _ _ (both-right fields _ w) in
+      record {
+        long = leb-true 2206 _ (both-left _ _ e);
+        width = leb-true _ 64 (both-right plain _ (both-left wide _ h));
+        height = leb-true _ 64 (both-right wide _ h);
+        room = leb-true _ _ (both-left fields _ w);
+        first = rw (← t, add-one (countOf s)) (first-before s (countOf s));
+      }
+
+-- ---- numbers
+module _ (s : List ℕ) (i : ℕ) where
+  pub half-is : {a b : ℕ} → (a ≡ byteAt s i) × (a < 256) → (b ≡ byteAt s (i + 1)) × (b < 256) → (a * 256 + b ≡ halfAt s i) × (a * 256 + b < 65536)
+  unfolding halfAt
+  half-is p q = (rw (p .0, q .0), omega arith)
+
+  pub word-is : {a b : ℕ} → (a ≡ halfAt s i) × (a < 65536) → (b ≡ halfAt s (i + 2)) × (b < 65536) → (a * 65536 + b ≡ wordAt s i) × (a * 65536 + b < 4294967296)
+  unfolding wordAt
+  word-is p q = (rw (p .0, q .0), omega arith)
+
+pub signed-low : (n : ℕ) → n < 32768 → pos n ≡ signedOf n
+unfolding signedOf
+signed-low n h = rw (lt-ltb _ _ h, signedOf)
+
+pub signed-high : (n : ℕ) → 32768 ≤ n → pos n -ℤ pos 65536 ≡ signedOf n
+unfolding signedOf
+signed-high n h = rw (le-ltb _ _ h, signedOf)
+
+bounds : {t z l h : ℤ} → Know t z l h → In l h z
+bounds k = record { low = k .low; high = k .high }
+
+signed-in : (n : ℕ) → n ≤ 65535 → In (negsuc 65535) (pos 65535) (signedOf n)
+signed-in n h =
+    ⊎-elim
+    (λ l. subst (In (negsuc 65535) (pos 65535)) (signed-low n l) (bounds (wider (plainly (unsigned-below h)) tt)))
+    (λ g. subst (In (negsuc 65535) (pos 65535)) (signed-high n g) (bounds (wider (know-sub (plainly (unsigned-below h)) (num (pos 65536))) tt)))
+    (lt-or n 32768)
+
+-- an entry as the machine stores it
+pub entry-stored : (s : List ℕ) (i : ℕ) {n : ℕ} {r : ℤ} → (n ≡ halfAt s (10 + 2 * i)) × (n < 65536) → r ≡ signedOf n → round w32 r ≡ entryAt s i
+entry-stored s i {n} p e = answered w32 e (signed-in n (omega arith)) tt .eq ∙ ap signedOf (p .0)
+
+-- ---- what is handed on
+module _ (count : ℕ) (f : ℕ → ℕ) (i : ℕ) where
+  pub slot-past : count ≤ i → 0 ≡ slotOf count f i
+  unfolding slotOf
+  slot-past h = rw (le-ltb i count h, slotOf)
+
+  pub slot-below : i < count → f (i + 1) ≡ slotOf count f i
+  unfolding slotOf
+  slot-below h = rw (lt-ltb i count h, slotOf)
+
+module _ (s : List ℕ) where
+  pub opened-ready : {r : Reader} → O.Ready r ≡ openAnswer s → r ≡ openedOf s
+  unfolding openedOf
+  opened-ready e = let o = opened s e in rw (le-leb 2 (length s) (o .0), openedOf) (o .1)
+
+  pub opened-none : O.Refused ≡ openAnswer s → noReader ≡ openedOf s
+  unfolding openedOf
+  opened-none e =
+      ⊎-elim
+      (λ h. rw (lt-leb 2 (length s) h, openedOf))
+      (λ h. absurd (let f = open-good s h in let z : _≡_ {A = ℕ} 0 1 = cc in omega arith))
+      (lt-or (length s) 2)

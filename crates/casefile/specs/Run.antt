@@ -1,0 +1,53 @@
+-- A case file run through the picture call, over memory of the lengths that its size asks, each byte 165; and what is told of it.
+use Prim.Native.Nat.{ℕ, _*_, _/_}
+use mathlib.Core.Bool.{true, false, _&&_}
+use mathlib.Core.List.{List}
+use lib.Dec.{leb}
+use lib.ListN.{replicate}
+use Rattle.picture.specs.Memory.{Memory}
+use Rattle.picture.specs.Checks.{blocksOf}
+use Rattle.picture.specs.Picture.{Ended, numberOf, valuesOf, pictureOf}
+use Rattle.casefile.specs.declared.run.Sums.{Sums}
+use Rattle.casefile.specs.declared.run.Hashes.{Hashes}
+use Rattle.casefile.specs.declared.run.Ran.{Ran}
+use Rattle.casefile.specs.CaseFile.{widthOf, heightOf, wellFormed, tileOf}
+use Rattle.casefile.specs.Measures.{sumOf, fnvOf}
+
+abbrev pub lentOf : ℕ → ℕ → Memory
+lentOf w h = record {
+  y = replicate (w * h) 165;
+  u = replicate (w / 2 * (h / 2)) 165;
+  v = replicate (w / 2 * (h / 2)) 165;
+  columns = replicate (13 * (w / 16)) 165;
+  modes = replicate (20 * blocksOf w h) 165;
+  strengths = replicate (4 * blocksOf w h) 165;
+}
+
+-- the sum of a plane, 0 after 1 to 5
+unfoldable pub sumAfter : ℕ → List ℕ → ℕ
+sumAfter number l = elim (leb 1 number && leb number 5) [ true ↦ 0 | false ↦ sumOf l ]
+
+abbrev pub hashesOf : Memory → Hashes
+hashesOf m = record { y = fnvOf (m .y); u = fnvOf (m .u); v = fnvOf (m .v); columns = fnvOf (m .columns); modes = fnvOf (m .modes); strengths = fnvOf (m .strengths) }
+
+abbrev pub sumsOf : ℕ → Memory → Sums
+sumsOf number m = record { y = sumAfter number (m .y); u = sumAfter number (m .u); v = sumAfter number (m .v) }
+
+abbrev pub reportOf : Ended → Ran
+reportOf e = record {
+  number = numberOf (e .answer);
+  k = valuesOf (e .answer);
+  sums = sumsOf (numberOf (e .answer)) (e .mem);
+  hashes = hashesOf (e .mem);
+}
+
+abbrev pub malformedRan : Ran
+malformedRan = record {
+  number = 10;
+  k = 0;
+  sums = record { y = 0; u = 0; v = 0 };
+  hashes = record { y = 0; u = 0; v = 0; columns = 0; modes = 0; strengths = 0 };
+}
+
+unfoldable pub ranOf : List ℕ → Ran
+ranOf s = elim (wellFormed s) [ true ↦ reportOf (pictureOf (tileOf s) (lentOf (widthOf s) (heightOf s))) | false ↦ malformedRan ]
