@@ -36,6 +36,8 @@ use Rattle.macroblock.specs.declared.frame.Frame.{Frame}
 use Rattle.macroblock.specs.declared.strengths.Strength.{Strength}
 use Rattle.picture.specs.Checks.{Tile}
 use Rattle.picture.specs.Memory.{Memory}
+use Rattle.casefile.specs.Run.{ranOf}
+use Rattle.hookbarley.specs.Calls.{calledOf, filteredOf}
 use Rattle.picture.specs.Picture.{pictureOf}
 
 -- one answer meets the promise, and no other
@@ -191,3 +193,14 @@ macroblock-decode s r tokens t h table frame top left w column row p = determine
 -- ---- picture
 pub picture-decode : (t : Tile) (m : Memory) → One (λ x. x ≡ pictureOf t m)
 picture-decode t m = determined (pictureOf t m)
+
+-- ---- casefile
+pub casefile-run : (file : List ℕ) → One (λ x. x ≡ ranOf file)
+casefile-run file = determined (ranOf file)
+
+-- ---- hookbarley
+pub hookbarley-decode : (t : Tile) (m : Memory) → One (λ x. x ≡ calledOf t m)
+hookbarley-decode t m = determined (calledOf t m)
+
+pub hookbarley-filter : (samples : List ℕ) (simple edge limit inner threshold : ℕ) → One (λ x. x ≡ filteredOf samples simple edge limit inner threshold)
+hookbarley-filter samples simple edge limit inner threshold = determined (filteredOf samples simple edge limit inner threshold)
