@@ -55,11 +55,12 @@ int main(int argc, char **argv) {
         at += length;
     }
     if (at != n) { printf("10 0 0 0 0\n"); return 0; }
-    size_t luma = w * h, chroma = (w / 2) * (h / 2), blocks = (w / 16) * (h / 16), k = 0;
-    uint8_t *y = lent(luma), *u = lent(chroma), *v = lent(chroma), *columns = lent(13 * (w / 16)), *modes = lent(20 * blocks), *strengths = lent(4 * blocks);
+    size_t lw = w > 16384 ? 0 : w, lh = h > 16384 ? 0 : h; /* what is lent; a size beyond is refused first */
+    size_t luma = lw * lh, chroma = (lw / 2) * (lh / 2), blocks = (lw / 16) * (lh / 16), k = 0;
+    uint8_t *y = lent(luma), *u = lent(chroma), *v = lent(chroma), *columns = lent(13 * (lw / 16)), *modes = lent(20 * blocks), *strengths = lent(4 * blocks);
     uint32_t window = first < 2 ? 0 : (uint32_t)be(file + places, 2);
     uint32_t number = hookbarley_decode(file, n, places, first, starts, 8, lengths, 8, 2, 255, 0, window, count, header, 1096, w, h,
-                                        y, luma, u, chroma, v, chroma, columns, 13 * (w / 16), modes, 20 * blocks, strengths, 4 * blocks, &k);
+                                        y, luma, u, chroma, v, chroma, columns, 13 * (lw / 16), modes, 20 * blocks, strengths, 4 * blocks, &k);
     int written = number == 0 || number == 6 || number == 7;
     printf("%u %zu %lu %lu %lu\n", number, k, written ? sum(y, luma) : 0, written ? sum(u, chroma) : 0, written ? sum(v, chroma) : 0);
     if (argc > 2 && written) {

@@ -1,0 +1,89 @@
+#!/usr/bin/env bash
+# Counts instructions a luma sample: bench/run.sh [ARCHIVE]. Prints markdown tables: the three bench tiles beside libwebp 1.2.4
+# (scalar, its loop filter bypassed, both in this run), and the growth with macroblocks and with bytes.
+# Counted by qemu's plugin insncount.c, which counts the same everywhere. A count is of some decodes more less that of one,
+# so starting the program and reading the file is not in it.
+set -eu
+cd "$(dirname "$0")/.."
+ARCHIVE=${1:-${ARCHIVE:-}}
+mkdir -p target/bench
+. tools/outside-env.sh
+need qemu-x86_64 qemu-user
+need gcc gcc libc6-dev
+need python3 python3
+out=target/bench
+webp=libwebp-1.2.4
+qemu="qemu-x86_64"
+[ "$(uname -m)" = x86_64 ] || qemu="$qemu -L /usr/x86_64-linux-gnu"
+
+gcc -shared -fPIC -O2 -o $out/insncount.so bench/insncount.c
+$X86CC -O2 -Iinclude -o $out/bench examples/c/bench.c "$ARCHIVE"
+
+# libwebp from Debian's source, its decoder alone. With HAVE_CONFIG_H and an empty config.h no SIMD code is chosen.
+if [ ! -f $out/libwebpdec.a ]; then
+    tar=libwebp_1.2.4.orig.tar.gz
+    # the machine's own package sources, asked for the source
+    lists=$PWD/$out/apt
+    mkdir -p "$lists/lists/partial" "$lists/cache/archives/partial" "$lists/parts"
+    cat /etc/apt/sources.list.d/*.sources 2>/dev/null | sed 's/^Types:.*/Types: deb-src/' >"$lists/parts/src.sources" || true
+    cat /etc/apt/sources.list 2>/dev/null | sed -n 's/^deb /deb-src /p' >"$lists/parts/src.list" || true
+    sources() { apt-get -q -o Dir::Etc::SourceList=/dev/null -o Dir::Etc::SourceParts="$lists/parts" -o Dir::State::Lists="$lists/lists" -o Dir::Cache="$lists/cache" "$@"; }
+    [ -f $out/$tar ] || { sources update && (cd $out && sources source --download-only libwebp); }
+    echo "7bf5a8a28cc69bcfa8cb214f2c3095703c6b73ac5fba4d5480c205331d9494df  $out/$tar" | sha256sum -c --quiet
+    tar -xzf $out/$tar -C $out
+    : >$out/$webp/src/webp/config.h
+    rm -rf $out/o
+    mkdir $out/o
+    for f in $out/$webp/src/dec/*.c $out/$webp/src/utils/*.c \
+        $out/$webp/src/dsp/{alpha_processing,cpu,dec,dec_clip_tables,filters,lossless,rescaler,upsampling,yuv}.c; do
+        $X86CC -O3 -DHAVE_CONFIG_H -I$out/$webp -c -o $out/o/"$(basename "$f" .c)".o "$f"
+    done
+    ar rcs $out/libwebpdec.a $out/o/*.o
+fi
+$X86CC -O2 -I$out/$webp -o $out/webp bench/webp.c $out/libwebpdec.a -lm -lpthread
+
+# count PROGRAM FILE TIMES: instructions of so many decodes
+count() {
+    local few many
+    few=$($qemu -plugin $out/insncount.so "$1" "$2" 1 2>&1 >/dev/null | sed -n 's/^instructions //p')
+    many=$($qemu -plugin $out/insncount.so "$1" "$2" $((1 + $3)) 2>&1 >/dev/null | sed -n 's/^instructions //p')
+    echo $((many - few))
+}
+
+# a FIXED-POINT quotient: div A B DIGITS
+div() { python3 -c "print(f'{$1 / $2:.$3f}')"; }
+
+echo "Instructions a luma sample, 256 by 256 samples:"
+echo
+echo "| tile | bytes | hookbarley | libwebp 1.2.4 scalar | ratio |"
+echo "|---|---|---|---|---|"
+for q in 50 75 90; do
+    f=bench/tile-q$q
+    ours=$($qemu $out/bench $f.case 1)
+    theirs=$($qemu $out/webp $f.webp 1)
+    [ "$ours" = "$theirs" ] || { echo "tile-q$q: $ours, libwebp $theirs" >&2; exit 1; }
+    a=$(count $out/bench $f.case 10)
+    b=$(count $out/webp $f.webp 10)
+    echo "| tile-q$q | $(($(stat -c %s $f.case) - 2210)) | $(div "$a" 655360 1) | $(div "$b" 655360 1) | $(div "$a" "$b" 2) |"
+done
+
+$X86CC -O2 -Iinclude -o $out/needed bench/needed.c "$ARCHIVE"
+rm -rf $out/grow
+python3 bench/grow.py make $out/grow
+for f in $out/grow/*.case; do
+    echo "$(basename "$f" .case) $($qemu $out/needed "$f") $(($(count $out/bench "$f" 2) / 2))"
+done >$out/grow.txt
+echo
+echo "Growth with macroblocks and with bytes, instructions of one decode:"
+echo
+python3 bench/grow.py table $out/grow.txt
+
+gcc -shared -fPIC -O2 -o $out/profile.so bench/profile.c
+$X86CC -O2 -static -no-pie -Iinclude -o $out/bench-static examples/c/bench.c "$ARCHIVE"
+for q in 50 75 90; do
+    $qemu -plugin $out/profile.so $out/bench-static bench/tile-q$q.case 10 2>$out/tile-q$q.counts >/dev/null
+done
+echo
+echo "Where the instructions go (functions of the archive; what the compiler drew into a function counts as its own):"
+echo
+python3 bench/profile.py $out/bench-static 655360 $out/tile-q50.counts $out/tile-q75.counts $out/tile-q90.counts

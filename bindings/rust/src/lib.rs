@@ -1,0 +1,130 @@
+//! Safe calls of libhookbarley.a. The borrow rules give what the library supposes of its caller: memory that is there, and lent
+//! memory that does not overlap.
+
+extern "C" {
+    fn hookbarley_decode(
+        bytes: *const u8, bytes_len: usize,
+        first_start: usize, first_length: usize,
+        token_starts: *const usize, token_starts_len: usize,
+        token_lengths: *const usize, token_lengths_len: usize,
+        at: usize, range: u32, shifts: u32, window: u32,
+        count: usize,
+        header: *const i32, header_len: usize,
+        width: usize, height: usize,
+        y: *mut u8, y_len: usize,
+        u: *mut u8, u_len: usize,
+        v: *mut u8, v_len: usize,
+        columns: *mut u8, columns_len: usize,
+        modes: *mut u8, modes_len: usize,
+        strengths: *mut u8, strengths_len: usize,
+        finished: *mut usize,
+    ) -> u32;
+    fn hookbarley_filter(samples: *mut u8, samples_len: usize, simple: u8, edge: u8, limit: u8, inner: u8, threshold: u8) -> u32;
+}
+
+/// The boolean reader in the first partition, behind the coded frame header.
+#[derive(Clone, Copy, Debug, PartialEq, Eq)]
+pub struct Reader {
+    pub at: usize,
+    pub range: u32,
+    pub shifts: u32,
+    pub window: u32,
+}
+
+impl Reader {
+    /// A partition opened afresh; one under two bytes gives a reader that `decode` refuses (5).
+    pub fn open(partition: &[u8]) -> Reader {
+        let window = if partition.len() < 2 { 0 } else { partition[0] as u32 * 256 + partition[1] as u32 };
+        Reader { at: 2, range: 255, shifts: 0, window }
+    }
+}
+
+/// What a picture is decoded from. Token partitions from `count` on are not looked at.
+#[derive(Clone, Copy, Debug)]
+pub struct Tile<'a> {
+    pub bytes: &'a [u8],
+    pub first_start: usize,
+    pub first_length: usize,
+    pub token_starts: [usize; 8],
+    pub token_lengths: [usize; 8],
+    pub reader: Reader,
+    pub count: usize,
+    pub header: &'a [i32],
+    pub width: usize,
+    pub height: usize,
+}
+
+/// The memory lent to a call. `Memory::new` makes it of the lengths that a size asks.
+#[derive(Clone, Debug, PartialEq, Eq)]
+pub struct Memory {
+    pub y: Vec<u8>,
+    pub u: Vec<u8>,
+    pub v: Vec<u8>,
+    pub columns: Vec<u8>,
+    pub modes: Vec<u8>,
+    pub strengths: Vec<u8>,
+}
+
+impl Memory {
+    pub fn new(width: usize, height: usize, fill: u8) -> Memory {
+        let blocks = (width / 16) * (height / 16);
+        Memory {
+            y: vec![fill; width * height],
+            u: vec![fill; (width / 2) * (height / 2)],
+            v: vec![fill; (width / 2) * (height / 2)],
+            columns: vec![fill; 13 * (width / 16)],
+            modes: vec![fill; 20 * blocks],
+            strengths: vec![fill; 4 * blocks],
+        }
+    }
+}
+
+/// How a call ended.
+#[derive(Clone, Copy, Debug, PartialEq, Eq)]
+pub enum Decoded {
+    /// Every macroblock is finished.
+    Whole(usize),
+    /// An argument was refused, 1 to 5; nothing lent has changed.
+    Refused(u32),
+    /// The first partition ran out in this macroblock (6).
+    NoModes(usize),
+    /// A token partition ran out in this macroblock (7).
+    NoTokens(usize),
+}
+
+/// Decodes a picture into lent memory, whatever it held.
+pub fn decode(tile: &Tile, mem: &mut Memory) -> Decoded {
+    let mut k = 0usize;
+    // Safe: each pointer and length is of a slice, and the lent ones are six different vectors.
+    let number = unsafe {
+        hookbarley_decode(
+            tile.bytes.as_ptr(), tile.bytes.len(),
+            tile.first_start, tile.first_length,
+            tile.token_starts.as_ptr(), 8,
+            tile.token_lengths.as_ptr(), 8,
+            tile.reader.at, tile.reader.range, tile.reader.shifts, tile.reader.window,
+            tile.count,
+            tile.header.as_ptr(), tile.header.len(),
+            tile.width, tile.height,
+            mem.y.as_mut_ptr(), mem.y.len(),
+            mem.u.as_mut_ptr(), mem.u.len(),
+            mem.v.as_mut_ptr(), mem.v.len(),
+            mem.columns.as_mut_ptr(), mem.columns.len(),
+            mem.modes.as_mut_ptr(), mem.modes.len(),
+            mem.strengths.as_mut_ptr(), mem.strengths.len(),
+            &mut k,
+        )
+    };
+    match number {
+        0 => Decoded::Whole(k),
+        6 => Decoded::NoModes(k),
+        7 => Decoded::NoTokens(k),
+        n => Decoded::Refused(n),
+    }
+}
+
+/// The edge kernel on eight samples, p3 to p0 and q0 to q3, in place.
+pub fn filter(samples: &mut [u8; 8], simple: bool, edge: bool, limit: u8, inner: u8, threshold: u8) {
+    // Safe: eight samples.
+    unsafe { hookbarley_filter(samples.as_mut_ptr(), 8, simple as u8, edge as u8, limit, inner, threshold) };
+}

@@ -1,0 +1,220 @@
+//! The archive called from Rust: the worked tile, refusals, cut partitions, memory lent again and again.
+use hookbarley::{decode, filter, Decoded, Memory, Reader, Tile};
+
+/// The worked tile: 16 by 16, header 0 but 128 in 38..1093, both partitions zero bytes.
+fn tile<'a>(bytes: &'a [u8], first: usize, tokens: usize, header: &'a [i32]) -> Tile<'a> {
+    let mut starts = [0; 8];
+    let mut lengths = [0; 8];
+    starts[0] = first;
+    lengths[0] = tokens;
+    Tile { bytes, first_start: 0, first_length: first, token_starts: starts, token_lengths: lengths, reader: Reader::open(&bytes[..first]), count: 1, header, width: 16, height: 16 }
+}
+
+fn header() -> Vec<i32> {
+    (0..1096).map(|i| if (38..1094).contains(&i) { 128 } else { 0 }).collect()
+}
+
+fn sum(p: &[u8]) -> u32 {
+    p.iter().map(|&x| x as u32).sum()
+}
+
+#[test]
+fn worked_tile() {
+    let (bytes, h) = ([0u8; 64], header());
+    let mut mem = Memory::new(16, 16, 0xA5);
+    assert_eq!(decode(&tile(&bytes, 32, 32, &h), &mut mem), Decoded::Whole(1));
+    assert_eq!((sum(&mem.y), sum(&mem.u), sum(&mem.v)), (32960, 8192, 8192));
+}
+
+#[test]
+fn cut_partitions_leave_grey() {
+    let (bytes, h) = ([0u8; 64], header());
+    let grey = { let mut m = Memory::new(16, 16, 128); m.columns.fill(0); m.modes.fill(0); m.strengths.fill(0); m };
+    for cut in 2..32 {
+        let mut mem = Memory::new(16, 16, 0xA5);
+        match decode(&tile(&bytes, 32, cut, &h), &mut mem) {
+            Decoded::Whole(1) => assert_eq!(sum(&mem.y), 32960),
+            Decoded::NoTokens(0) => assert_eq!(mem, grey),
+            other => panic!("{cut}: {other:?}"),
+        }
+    }
+    let mut mem = Memory::new(16, 16, 0xA5);
+    assert_eq!(decode(&tile(&bytes, 32, 2, &h), &mut mem), Decoded::NoTokens(0));
+}
+
+#[test]
+fn refusals_change_nothing() {
+    let (bytes, h) = ([0u8; 64], header());
+    let good = tile(&bytes, 32, 32, &h);
+    let mut bad_entry = h.clone();
+    bad_entry[0] = 256;
+    let cases = [
+        (1, Tile { width: 17, ..good }),
+        (1, Tile { width: 17, count: 9, ..good }),
+        (2, Tile { count: 0, ..good }),
+        (2, Tile { count: 9, ..good }),
+        (3, Tile { header: &bad_entry, ..good }),
+        (4, Tile { header: &h[1..], ..good }),
+        (5, Tile { first_start: usize::MAX, ..good }),
+        (5, Tile { first_length: usize::MAX, ..good }),
+        (5, Tile { reader: Reader { range: 127, ..good.reader }, ..good }),
+    ];
+    for (number, t) in cases {
+        let mut mem = Memory::new(16, 16, 0xA5);
+        assert_eq!(decode(&t, &mut mem), Decoded::Refused(number));
+        assert_eq!(mem, Memory::new(16, 16, 0xA5));
+    }
+    let mut short = Memory::new(16, 16, 0xA5);
+    short.y.pop();
+    let before = short.clone();
+    assert_eq!(decode(&good, &mut short), Decoded::Refused(4));
+    assert_eq!(short, before);
+}
+
+#[test]
+fn memory_lent_again_and_again() {
+    let h = header();
+    let mut again = Memory::new(16, 16, 0);
+    let mut x = 1u32;
+    for _ in 0..500 {
+        let bytes: Vec<u8> = (0..64).map(|_| { x = x.wrapping_mul(1664525).wrapping_add(1013904223); (x >> 24) as u8 }).collect();
+        let mut fresh = Memory::new(16, 16, (x >> 16) as u8);
+        let t = tile(&bytes, 32, 32, &h);
+        assert_eq!(decode(&t, &mut again), decode(&t, &mut fresh));
+        assert_eq!(again, fresh);
+    }
+}
+
+/// A case file of the corpus, taken apart.
+struct Case {
+    bytes: Vec<u8>,
+    header: Vec<i32>,
+    width: usize,
+    height: usize,
+    count: usize,
+    first: usize,
+    lengths: [usize; 8],
+}
+
+impl Case {
+    fn read(name: &str) -> Case {
+        let path = format!("{}/../../crates/replay/data/{name}.case", env!("CARGO_MANIFEST_DIR"));
+        let f = std::fs::read(&path).expect(&path);
+        let be = |at: usize, n: usize| f[at..at + n].iter().fold(0usize, |x, &b| x << 8 | b as usize);
+        let count = f[9] as usize;
+        let mut lengths = [0; 8];
+        for i in 0..count {
+            lengths[i] = be(2206 + 4 * i, 4);
+        }
+        Case {
+            bytes: f[2206 + 4 * count..].to_vec(),
+            header: (0..1096).map(|i| be(10 + 2 * i, 2) as u16 as i16 as i32).collect(),
+            width: be(5, 2),
+            height: be(7, 2),
+            count,
+            first: be(2202, 4),
+            lengths,
+        }
+    }
+
+    /// The tile with partition p (0 the first, then the token partitions) cut to n bytes.
+    fn cut(&self, p: usize, n: usize) -> Tile<'_> {
+        let mut starts = [0; 8];
+        let mut at = self.first;
+        for i in 0..self.count {
+            starts[i] = at;
+            at += self.lengths[i];
+        }
+        let mut lengths = self.lengths;
+        let mut first = self.first;
+        if p == 0 { first = n } else { lengths[p - 1] = n }
+        Tile {
+            bytes: &self.bytes,
+            first_start: 0,
+            first_length: first,
+            token_starts: starts,
+            token_lengths: lengths,
+            reader: Reader::open(&self.bytes[..first]),
+            count: self.count,
+            header: &self.header,
+            width: self.width,
+            height: self.height,
+        }
+    }
+
+    fn length(&self, p: usize) -> usize {
+        if p == 0 { self.first } else { self.lengths[p - 1] }
+    }
+}
+
+#[test]
+fn real_tiles() {
+    for (name, blocks, sums) in [
+        ("real/0003", 12, (344832, 103888, 96800)),
+        ("real/0023", 8, (253688, 66014, 65520)),
+        ("real/0039", 6, (171566, 55040, 55115)),
+    ] {
+        let c = Case::read(name);
+        let mut mem = Memory::new(c.width, c.height, 0xA5);
+        assert_eq!(decode(&c.cut(0, c.first), &mut mem), Decoded::Whole(blocks), "{name}");
+        assert_eq!((sum(&mem.y), sum(&mem.u), sum(&mem.v)), sums, "{name}");
+    }
+}
+
+/// Every cut of a tile of eight partitions: what is finished equals the whole tile's, the rest is grey.
+#[test]
+fn real_tile_cut_everywhere() {
+    let c = Case::read("real/0010");
+    let mut whole = Memory::new(c.width, c.height, 0);
+    assert_eq!(decode(&c.cut(0, c.first), &mut whole), Decoded::Whole(2));
+    let mut mem = Memory::new(c.width, c.height, 0xA5);
+    for p in 0..=c.count {
+        for n in 0..c.length(p) {
+            let before = mem.clone();
+            let k = match decode(&c.cut(p, n), &mut mem) {
+                Decoded::Refused(5) if n < 2 => {
+                    assert_eq!(mem, before);
+                    continue;
+                }
+                Decoded::NoModes(k) if p == 0 => k,
+                Decoded::NoTokens(k) if p > 0 => k,
+                Decoded::Whole(k) => k,
+                other => panic!("partition {p}, {n} bytes: {other:?}"),
+            };
+            // One macroblock a row: the finished rows stand first.
+            assert_eq!(mem.y[..256 * k], whole.y[..256 * k]);
+            assert_eq!(mem.u[..64 * k], whole.u[..64 * k]);
+            assert_eq!(mem.v[..64 * k], whole.v[..64 * k]);
+            assert_eq!(mem.modes[..20 * k], whole.modes[..20 * k]);
+            assert_eq!(mem.strengths[..4 * k], whole.strengths[..4 * k]);
+            assert!(mem.y[256 * k..].iter().chain(&mem.u[64 * k..]).chain(&mem.v[64 * k..]).all(|&x| x == 128));
+            assert!(mem.modes[20 * k..].iter().chain(&mem.strengths[4 * k..]).all(|&x| x == 0));
+        }
+    }
+}
+
+/// Tiles that differ in token partition 1 agree in macroblock row 0.
+#[test]
+fn partitions_apart() {
+    let mut c = Case::read("real/0039");
+    let mut one = Memory::new(c.width, c.height, 0);
+    decode(&c.cut(0, c.first), &mut one);
+    let at = c.first + c.lengths[0];
+    for x in 0..=255u8 {
+        c.bytes[at..at + c.lengths[1]].fill(x);
+        let mut other = Memory::new(c.width, c.height, x);
+        decode(&c.cut(0, c.first), &mut other);
+        assert_eq!(one.y[..16 * c.width], other.y[..16 * c.width]);
+        assert_eq!(one.u[..4 * c.width], other.u[..4 * c.width]);
+        assert_eq!(one.v[..4 * c.width], other.v[..4 * c.width]);
+    }
+}
+
+#[test]
+fn kernel() {
+    let mut e = [100, 100, 100, 100, 110, 110, 110, 110];
+    filter(&mut e, false, true, 24, 0, 0);
+    assert_eq!(e, [100, 100, 100, 100, 110, 110, 110, 110]);
+    filter(&mut e, false, true, 25, 0, 0);
+    assert_eq!(e, [100, 101, 103, 104, 106, 107, 109, 110]);
+}

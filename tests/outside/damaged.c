@@ -1,0 +1,653 @@
+/* The picture call from outside, with damaged input: damaged DIR N SEED [random].
+ *
+ * DIR holds NNNN.case and expected-memory.txt (tests/outside/README.md). Every lent buffer and every input stands between
+ * pages that may not be touched: once ending at the page behind it, once starting at the page before it. The inputs are lent
+ * through a view that may only be read. Memory to be written is poisoned, each time with another byte. Run here:
+ *   whole   every tile of DIR: number, k and the six memories as expected-memory.txt says;
+ *   cut     every tile, every partition, every shorter length: finished macroblocks equal the whole tile's, the rest is 128 and 0,
+ *           column memory is as after macroblock k - 1, k never falls as the length rises;
+ *   apart   every tile of two partitions or more, every partition: another content leaves the macroblock rows above alone;
+ *   random  N inputs made from SEED, valid, damaged and absurd: the number is the one this file works out (1 to 5, 9) or 0, 6, 7,
+ *           refusals leave the poison, both runs agree, the rest is 128 and 0, a further cut keeps what is finished;
+ *   refused every set of reasons to refuse: the number is that of the first check, nothing is written;
+ *   kernel  the edge kernel: numbers of the scope, other lengths answer 9 and change nothing.
+ * With `random` the cuts are left out. A fault or a difference ends the run with status 1 and says where. */
+#define _GNU_SOURCE
+#include "hookbarley.h"
+#include <signal.h>
+#include <stdarg.h>
+#include <stdio.h>
+#include <stdlib.h>
+#include <string.h>
+#include <sys/mman.h>
+#include <unistd.h>
+
+enum { Y, U, V, COLUMNS, MODES, STRENGTHS, LENT, BYTES = LENT, STARTS, LENGTHS, HEADER, FINISHED, BUFFERS };
+enum { GUARD = 1 << 20, SLACK = 64 };
+static const char *const names[] = {"y", "u", "v", "columns", "modes", "strengths", "bytes", "starts", "lengths", "header", "finished"};
+static const size_t capacities[] = {1 << 18, 1 << 16, 1 << 16, 1 << 14, 5 << 12, 1 << 12, 1 << 17, 1 << 12, 1 << 12, 5 << 12, 1 << 12};
+
+static char where[256] = "start";
+
+static void fail(const char *format, ...) {
+    va_list a;
+    va_start(a, format);
+    fprintf(stderr, "FAILED at %s: ", where);
+    vfprintf(stderr, format, a);
+    fprintf(stderr, "\n");
+    va_end(a);
+    exit(1);
+}
+
+static void fault(int s, siginfo_t *i, void *c) {
+    (void)c;
+    char t[400];
+    int n = snprintf(t, sizeof t, "FAILED at %s: signal %d at %p\n", where, s, i->si_addr);
+    if (write(2, t, (size_t)n) < 0) _exit(3);
+    _exit(1);
+}
+
+/* Memory between guards. `seen` is what the library is given, `ours` the same bytes to be written here. */
+static struct { uint8_t *seen, *ours; } buffers[BUFFERS];
+
+static void make_buffers(void) {
+    for (int b = 0; b < BUFFERS; b++) {
+        size_t n = capacities[b];
+        int input = b >= BYTES && b <= HEADER, fd = memfd_create(names[b], 0);
+        if (fd < 0 || ftruncate(fd, (off_t)n)) { perror("memfd"); exit(2); }
+        uint8_t *p = mmap(NULL, n + 2 * GUARD, PROT_NONE, MAP_PRIVATE | MAP_ANONYMOUS | MAP_NORESERVE, -1, 0);
+        if (p == MAP_FAILED) { perror("mmap"); exit(2); }
+        buffers[b].seen = mmap(p + GUARD, n, input ? PROT_READ : PROT_READ | PROT_WRITE, MAP_SHARED | MAP_FIXED, fd, 0);
+        buffers[b].ours = input ? mmap(NULL, n, PROT_READ | PROT_WRITE, MAP_SHARED, fd, 0) : buffers[b].seen;
+        if (buffers[b].seen != p + GUARD || buffers[b].ours == MAP_FAILED) { perror("mmap"); exit(2); }
+        close(fd);
+    }
+}
+
+/* One call's arguments and lent lengths. */
+struct call {
+    uint8_t bytes[1 << 17];
+    size_t n, first_start, first_length, starts[16], lengths[16], starts_len, lengths_len, at;
+    uint32_t range, shifts, window;
+    size_t count;
+    int32_t header[1200];
+    size_t header_len, w, h, lent[LENT];
+};
+
+struct result { uint32_t number; size_t k; uint8_t *mem[LENT]; };
+
+static struct result new_result(void) {
+    struct result r = {0};
+    for (int b = 0; b < LENT; b++) r.mem[b] = malloc(capacities[b]);
+    return r;
+}
+
+static size_t offset(int b, size_t n, int end) { return end ? capacities[b] - n : 0; }
+
+static const void *lay(int b, const void *from, size_t n, int end) {
+    size_t o = offset(b, n, end);
+    memcpy(buffers[b].ours + o, from, n);
+    return buffers[b].seen + o;
+}
+
+/* The bytes beside a lent buffer on the side where no guard stands. */
+static uint8_t *slack(int b, size_t n, int end, size_t *size) {
+    size_t free = capacities[b] - n;
+    *size = free < SLACK ? free : SLACK;
+    return end ? buffers[b].seen + free - *size : buffers[b].seen + n;
+}
+
+static int all(const uint8_t *p, size_t n, int x) {
+    return n == 0 || (*p == x && memcmp(p, p + 1, n - 1) == 0);
+}
+
+/* Runs a call, the buffers ending (end = 1) or starting (end = 0) at a guard. */
+static void run(const struct call *c, int end, int poison, struct result *r) {
+    uint8_t *m[LENT], *beside;
+    size_t size;
+    for (int b = 0; b < LENT; b++) {
+        m[b] = buffers[b].seen + offset(b, c->lent[b], end);
+        memset(m[b], poison, c->lent[b]);
+        beside = slack(b, c->lent[b], end, &size);
+        memset(beside, poison ^ 0x3C, size);
+    }
+    const uint8_t *bytes = lay(BYTES, c->bytes, c->n, end);
+    const size_t *starts = lay(STARTS, c->starts, c->starts_len * sizeof(size_t), end);
+    const size_t *lengths = lay(LENGTHS, c->lengths, c->lengths_len * sizeof(size_t), end);
+    const int32_t *header = lay(HEADER, c->header, c->header_len * sizeof(int32_t), end);
+    size_t *finished = (size_t *)(buffers[FINISHED].seen + offset(FINISHED, sizeof(size_t), end));
+    memset(finished, poison, sizeof *finished);
+    r->number = hookbarley_decode(bytes, c->n, c->first_start, c->first_length, starts, c->starts_len, lengths, c->lengths_len,
+                                  c->at, c->range, c->shifts, c->window, c->count, header, c->header_len, c->w, c->h,
+                                  m[Y], c->lent[Y], m[U], c->lent[U], m[V], c->lent[V], m[COLUMNS], c->lent[COLUMNS],
+                                  m[MODES], c->lent[MODES], m[STRENGTHS], c->lent[STRENGTHS], finished);
+    r->k = *finished;
+    for (int b = 0; b < LENT; b++) {
+        memcpy(r->mem[b], m[b], c->lent[b]);
+        beside = slack(b, c->lent[b], end, &size);
+        if (!all(beside, size, poison ^ 0x3C)) fail("a byte beside %s was written", names[b]);
+    }
+}
+
+/* The refusal that a call must be answered with, worked out from the header's text; 0 where it must be decoded. */
+static int inside(const struct call *c, size_t start, size_t length) {
+    return start <= c->n && length <= c->n - start && length >= 2;
+}
+
+static int side(size_t n) { return n >= 16 && n <= 16384 && n % 16 == 0; }
+
+static void lengths_of(size_t w, size_t h, size_t *lent) {
+    lent[Y] = w * h;
+    lent[U] = lent[V] = (w / 2) * (h / 2);
+    lent[COLUMNS] = 13 * (w / 16);
+    lent[MODES] = 20 * (w / 16) * (h / 16);
+    lent[STRENGTHS] = 4 * (w / 16) * (h / 16);
+}
+
+static uint32_t refusal(const struct call *c) {
+    if (c->starts_len != 8 || c->lengths_len != 8) return 9;
+    if (!side(c->w) || !side(c->h)) return 1;
+    if (c->count < 1 || c->count > 8) return 2;
+    for (size_t i = 0; i < c->header_len; i++)
+        if (c->header[i] < -255 || c->header[i] > 255) return 3;
+    size_t lent[LENT];
+    lengths_of(c->w, c->h, lent);
+    if (memcmp(lent, c->lent, sizeof lent) || c->header_len != 1096) return 4;
+    if (!inside(c, c->first_start, c->first_length)) return 5;
+    for (size_t i = 0; i < c->count; i++)
+        if (!inside(c, c->starts[i], c->lengths[i])) return 5;
+    if (c->at < 2 || c->at > c->first_length || c->range < 128 || c->range > 255 || c->shifts > 7) return 5;
+    if (c->window > 65535 || c->window % (1u << c->shifts)) return 5;
+    return 0;
+}
+
+/* The macroblocks of row r among the first k. */
+static size_t done(size_t columns, size_t r, size_t k) {
+    size_t before = r * columns;
+    return k <= before ? 0 : k - before >= columns ? columns : k - before;
+}
+
+static void plane_rest(const char *name, const uint8_t *p, size_t w, size_t h, size_t side, size_t k) {
+    for (size_t y = 0; y < h; y++) {
+        size_t f = side * done(w / side, y / side, k);
+        if (!all(p + y * w + f, w - f, 128)) fail("%s: a sample of an unfinished macroblock is not 128 (row %zu)", name, y);
+    }
+}
+
+static void plane_same(const char *name, const uint8_t *p, const uint8_t *q, size_t w, size_t h, size_t side, size_t k) {
+    for (size_t y = 0; y < h; y++)
+        if (memcmp(p + y * w, q + y * w, side * done(w / side, y / side, k)))
+            fail("%s: a sample of a finished macroblock differs (row %zu)", name, y);
+}
+
+/* The first k macroblocks agree. */
+static void same(const struct call *c, const struct result *a, const struct result *b, size_t k) {
+    plane_same("y", a->mem[Y], b->mem[Y], c->w, c->h, 16, k);
+    plane_same("u", a->mem[U], b->mem[U], c->w / 2, c->h / 2, 8, k);
+    plane_same("v", a->mem[V], b->mem[V], c->w / 2, c->h / 2, 8, k);
+    if (memcmp(a->mem[MODES], b->mem[MODES], 20 * k)) fail("modes of finished macroblocks differ");
+    if (memcmp(a->mem[STRENGTHS], b->mem[STRENGTHS], 4 * k)) fail("strengths of finished macroblocks differ");
+}
+
+/* What holds of one answer. */
+static void sound(const struct call *c, const struct result *r, uint32_t want, int poison) {
+    if (want) {
+        if (r->number != want || r->k != 0) fail("answer %u %zu, should be %u 0", r->number, r->k, want);
+        for (int b = 0; b < LENT; b++)
+            if (!all(r->mem[b], c->lent[b], poison)) fail("refused with %u, and %s was written", want, names[b]);
+        return;
+    }
+    size_t blocks = (c->w / 16) * (c->h / 16), k = r->k;
+    if (r->number != 0 && r->number != 6 && r->number != 7) fail("answer %u, should be 0, 6 or 7", r->number);
+    if (r->number == 0 ? k != blocks : k >= blocks) fail("answer %u with %zu of %zu macroblocks", r->number, k, blocks);
+    plane_rest("y", r->mem[Y], c->w, c->h, 16, k);
+    plane_rest("u", r->mem[U], c->w / 2, c->h / 2, 8, k);
+    plane_rest("v", r->mem[V], c->w / 2, c->h / 2, 8, k);
+    if (!all(r->mem[MODES] + 20 * k, 20 * (blocks - k), 0)) fail("modes of unfinished macroblocks are not 0");
+    if (!all(r->mem[STRENGTHS] + 4 * k, 4 * (blocks - k), 0)) fail("strengths of unfinished macroblocks are not 0");
+}
+
+static size_t answers[10], calls;
+
+/* Both places, two poisons; everything that holds of every call. */
+static uint32_t both(const struct call *c, struct result *r, struct result *spare) {
+    uint32_t want = refusal(c);
+    run(c, 1, 0xA5, r);
+    sound(c, r, want, 0xA5);
+    run(c, 0, 0x5A, spare);
+    sound(c, spare, want, 0x5A);
+    calls += 2;
+    if (r->number != spare->number || r->k != spare->k) fail("answers %u %zu and %u %zu", r->number, r->k, spare->number, spare->k);
+    for (int b = 0; want == 0 && b < LENT; b++)
+        if (memcmp(r->mem[b], spare->mem[b], c->lent[b])) fail("%s depends on what it held", names[b]);
+    answers[r->number]++;
+    return want;
+}
+
+static size_t be(const uint8_t *p, int n) {
+    size_t x = 0;
+    while (n--) x = x << 8 | *p++;
+    return x;
+}
+
+static int load(const char *path, struct call *c) {
+    static uint8_t file[1 << 17];
+    FILE *f = fopen(path, "rb");
+    if (!f) return 0;
+    size_t n = fread(file, 1, sizeof file, f), count = n > 9 ? file[9] : 0, places = 2206 + 4 * count;
+    fclose(f);
+    if (n < places || file[0] != 1 || count < 1 || count > 8) return 0;
+    memset(c, 0, sizeof *c);
+    c->n = n - places;
+    memcpy(c->bytes, file + places, c->n);
+    c->w = be(file + 5, 2);
+    c->h = be(file + 7, 2);
+    c->count = count;
+    for (int i = 0; i < 1096; i++) c->header[i] = (int16_t)be(file + 10 + 2 * i, 2);
+    c->header_len = 1096;
+    c->starts_len = c->lengths_len = 8;
+    c->first_length = be(file + 2202, 4);
+    size_t at = c->first_length;
+    for (size_t i = 0; i < count; i++) {
+        c->starts[i] = at;
+        at += c->lengths[i] = be(file + 2206 + 4 * i, 4);
+    }
+    if (at != c->n || c->w * c->h > capacities[Y]) return 0;
+    c->at = 2;
+    c->range = 255;
+    c->window = c->first_length < 2 ? 0 : (uint32_t)be(c->bytes, 2);
+    lengths_of(c->w, c->h, c->lent);
+    return 1;
+}
+
+static unsigned long long fnv(const uint8_t *p, size_t n) {
+    unsigned long long h = 0xcbf29ce484222325ull;
+    while (n--) h = (h ^ *p++) * 0x100000001b3ull;
+    return h;
+}
+
+static struct call *tiles;
+static size_t tiles_len;
+
+static void load_all(const char *dir) {
+    char path[4096];
+    tiles = calloc(200, sizeof *tiles);
+    for (tiles_len = 0; tiles_len < 200; tiles_len++) {
+        snprintf(path, sizeof path, "%s/%04zu.case", dir, tiles_len);
+        if (access(path, R_OK)) break;
+        if (!load(path, &tiles[tiles_len])) { fprintf(stderr, "%s: not a tile\n", path); exit(2); }
+    }
+    if (!tiles_len) { fprintf(stderr, "%s: no tiles\n", dir); exit(2); }
+}
+
+static void whole(const char *dir, struct result *r, struct result *spare) {
+    char path[4096], line[512], got[512];
+    snprintf(path, sizeof path, "%s/expected-memory.txt", dir);
+    FILE *f = fopen(path, "r");
+    if (!f) { perror(path); exit(2); }
+    for (size_t t = 0; t < tiles_len; t++) {
+        snprintf(where, sizeof where, "whole, tile %04zu", t);
+        struct call *c = &tiles[t];
+        both(c, r, spare);
+        int n = sprintf(got, "%u %zu", r->number, r->k);
+        for (int b = 0; b < LENT; b++) n += sprintf(got + n, " %016llx", fnv(r->mem[b], c->lent[b]));
+        if (!fgets(line, sizeof line, f)) fail("no line in expected-memory.txt");
+        line[strcspn(line, "\r\n")] = 0;
+        if (strcmp(line, got)) fail("got %s, should be %s", got, line);
+    }
+    fclose(f);
+    printf("whole: %zu tiles as expected\n", tiles_len);
+}
+
+/* Column memory after each macroblock row: that of the tile with fewer rows. Empty before the first. */
+static uint8_t after_rows[65][13 * 64];
+
+static void learn_columns(const struct call *tile, struct result *r, struct result *spare) {
+    static struct call c;
+    c = *tile;
+    memset(after_rows, 0, sizeof after_rows);
+    for (size_t row = 1; row <= tile->h / 16; row++) {
+        c.h = 16 * row;
+        lengths_of(c.w, c.h, c.lent);
+        both(&c, r, spare);
+        memcpy(after_rows[row], r->mem[COLUMNS], c.lent[COLUMNS]);
+    }
+}
+
+/* Column memory is as after macroblock k - 1. */
+static void columns_after(const struct call *c, const struct result *r) {
+    size_t columns = c->w / 16, row = r->k / columns, in = r->k % columns;
+    if (memcmp(r->mem[COLUMNS], after_rows[row + (in > 0)], 13 * in) ||
+        memcmp(r->mem[COLUMNS] + 13 * in, after_rows[row] + 13 * in, 13 * (columns - in)))
+        fail("column memory is not as after %zu macroblocks", r->k);
+}
+
+static void cut(struct result *r, struct result *spare, struct result *full) {
+    static struct call c;
+    size_t cuts = 0;
+    for (size_t t = 0; t < tiles_len; t++) {
+        c = tiles[t];
+        snprintf(where, sizeof where, "cut, tile %04zu whole", t);
+        if (both(&c, full, spare) || c.w > 1024 || c.h > 1024) continue;
+        learn_columns(&c, r, spare);
+        for (size_t p = 0; p <= c.count; p++) {
+            size_t *length = p ? &c.lengths[p - 1] : &c.first_length, from = *length, last = 0;
+            for (size_t n = 0; n < from; n++, cuts++) {
+                snprintf(where, sizeof where, "cut, tile %04zu, partition %zu, length %zu", t, p, n);
+                *length = n;
+                if (both(&c, r, spare)) continue;
+                same(&c, r, full, r->k);
+                columns_after(&c, r);
+                if (r->k > full->k || r->k < last) fail("k %zu after %zu, whole %zu", r->k, last, full->k);
+                last = r->k;
+            }
+            *length = from;
+        }
+    }
+    printf("cut: %zu cuts of %zu tiles\n", cuts, tiles_len);
+}
+
+static uint64_t state;
+
+static uint64_t draw(void) {
+    uint64_t z = state += 0x9e3779b97f4a7c15ull;
+    z = (z ^ z >> 30) * 0xbf58476d1ce4e5b9ull;
+    z = (z ^ z >> 27) * 0x94d049bb133111ebull;
+    return z ^ z >> 31;
+}
+
+static size_t below(size_t n) { return n ? draw() % n : 0; }
+
+static void fill(uint8_t *p, size_t n) {
+    switch (below(5)) {
+    case 0: memset(p, 0, n); break;
+    case 1: memset(p, 255, n); break;
+    case 2: memset(p, (int)below(256), n); break;
+    default: while (n--) *p++ = (uint8_t)draw();
+    }
+}
+
+/* Token partition p shares no byte with another that is read. */
+static int alone(const struct call *c, size_t p) {
+    size_t a = c->starts[p], b = a + c->lengths[p];
+    if (c->first_start < b && a < c->first_start + c->first_length) return 0;
+    for (size_t i = 0; i < c->count; i++)
+        if (i != p && c->starts[i] < b && a < c->starts[i] + c->lengths[i]) return 0;
+    return 1;
+}
+
+/* Another content of partition p leaves the macroblock rows above row p alone. */
+static void apart(struct call *c, size_t p, const struct result *before, struct result *r, struct result *spare) {
+    static uint8_t old[1 << 17];
+    size_t n = c->lengths[p], above = p * (c->w / 16), blocks = (c->w / 16) * (c->h / 16);
+    memcpy(old, c->bytes + c->starts[p], n);
+    if (below(3)) fill(c->bytes + c->starts[p], n);
+    else c->bytes[c->starts[p] + below(n)] ^= (uint8_t)(1 + below(255));
+    both(c, r, spare);
+    memcpy(c->bytes + c->starts[p], old, n);
+    if (above > blocks) above = blocks;
+    size_t k = before->k < above ? before->k : above, l = r->k < above ? r->k : above;
+    if (k != l) fail("above partition %zu: %zu and %zu macroblocks", p, k, l);
+    same(c, before, r, k);
+    size_t both_k = before->k < r->k ? before->k : r->k;
+    if (memcmp(before->mem[MODES], r->mem[MODES], 20 * both_k)) fail("modes depend on token partition %zu", p);
+    if (above == blocks && (before->number != r->number || memcmp(before->mem[COLUMNS], r->mem[COLUMNS], c->lent[COLUMNS])))
+        fail("partition %zu is not read, and the answer differs", p);
+}
+
+static void all_apart(struct result *r, struct result *spare, struct result *full) {
+    size_t pairs = 0;
+    for (size_t t = 0; t < tiles_len; t++) {
+        struct call *c = &tiles[t];
+        if (refusal(c)) continue;
+        run(c, 1, 0xA5, full);
+        for (size_t p = 0; c->count > 1 && p < c->count; p++)
+            for (int i = 0; i < 8; i++, pairs++) {
+                snprintf(where, sizeof where, "apart, tile %04zu, partition %zu, change %d", t, p, i);
+                apart(c, p, full, r, spare);
+            }
+    }
+    printf("apart: %zu pairs that differ in one token partition\n", pairs);
+}
+
+/* A valid call with random content. */
+static void invent(struct call *c) {
+    c->count = 1 + below(8);
+    c->first_start = below(4);
+    c->first_length = 2 + below(60);
+    size_t at = c->first_start + c->first_length;
+    for (size_t i = 0; i < 8; i++) {
+        c->starts[i] = at;
+        at += c->lengths[i] = 2 + below(below(4) ? 40 : 400);
+    }
+    c->n = at + below(4);
+    fill(c->bytes, c->n);
+    c->w = 16 * (1 + below(below(4) ? 2 : 4));
+    c->h = 16 * (1 + below(below(4) ? 2 : 4));
+    lengths_of(c->w, c->h, c->lent);
+    int legal = (int)below(2);
+    for (int i = 0; i < 1096; i++) c->header[i] = legal ? (i >= 14 && i < 17) || i >= 38 ? (int)below(256) : (int)below(64) * !below(3) : (int)below(511) - 255;
+    c->header_len = 1096;
+    c->starts_len = c->lengths_len = 8;
+    c->at = 2;
+    c->range = 255;
+    c->shifts = 0;
+    c->window = (uint32_t)be(c->bytes + c->first_start, 2);
+}
+
+static size_t wild(size_t n) {
+    size_t w[] = {0, 1, 2, 3, n, n - 1, n + 1, n / 2, SIZE_MAX, SIZE_MAX - 1, SIZE_MAX - n, SIZE_MAX - n + 1, (size_t)1 << 63, (size_t)1 << 32, below(n + 1), below(n + 1)};
+    return w[below(sizeof w / sizeof *w)];
+}
+
+static void resize(struct call *c) {
+    static const size_t absurd[] = {0, 1, 15, 17, 24, 16385, 16400, 65536, (size_t)1 << 32, ((size_t)1 << 32) + 16, SIZE_MAX, SIZE_MAX - 15, (size_t)1 << 60};
+    if (below(3) == 0) {
+        *(below(2) ? &c->w : &c->h) = absurd[below(sizeof absurd / sizeof *absurd)];
+        return;
+    }
+    c->w = 16 * (1 + below(5));
+    c->h = 16 * (1 + below(5));
+    if (below(500) == 0) { c->w = 16384; c->h = 16; }
+    if (below(500) == 0) { c->w = 16; c->h = 16384; }
+    if (below(10)) lengths_of(c->w, c->h, c->lent);
+}
+
+static void damage(struct call *c) {
+    size_t i = below(8), j = below(8), x;
+    switch (below(24)) {
+    case 0: case 1: case 2: case 3:
+        for (x = 1 + below(16); x--;) c->bytes[below(c->n)] ^= (uint8_t)(1 << below(8));
+        break;
+    case 4: case 5:
+        for (x = 1 + below(16); x--;) c->bytes[below(c->n)] = (uint8_t)draw();
+        break;
+    case 6:
+        i %= c->count ? c->count : 1; j %= c->count ? c->count : 1; i &= 7; j &= 7;
+        x = c->starts[i]; c->starts[i] = c->starts[j]; c->starts[j] = x;
+        x = c->lengths[i]; c->lengths[i] = c->lengths[j]; c->lengths[j] = x;
+        break;
+    case 7: case 8:
+        c->starts[i] = below(c->n);
+        c->lengths[i] = below(c->n - c->starts[i] + 1);
+        break;
+    case 9:
+        c->first_start = below(c->n);
+        c->first_length = below(c->n - c->first_start + 1);
+        break;
+    case 10: case 11:
+        for (x = 1 + below(30); x--;) c->header[below(1096)] = (int)below(511) - 255;
+        break;
+    case 12: {
+        static const int32_t out[] = {256, -256, INT32_MAX, INT32_MIN, 1000, -32768, 65536};
+        c->header[below(1096)] = out[below(7)];
+        break;
+    }
+    case 13:
+        for (x = 0; x < 1096; x++) c->header[x] = (int)below(511) - 255;
+        break;
+    case 14: resize(c); break;
+    case 15: c->count = below(4) ? 1 + below(8) : wild(8); break;
+    case 16: case 17:
+        c->at = 2 + below(c->first_length ? c->first_length - 1 : 1);
+        c->range = 128 + (uint32_t)below(128);
+        c->shifts = (uint32_t)below(8);
+        c->window = (uint32_t)below(65536) >> c->shifts << c->shifts;
+        break;
+    case 18:
+        switch (below(4)) {
+        case 0: c->at = wild(c->first_length); break;
+        case 1: c->range = (uint32_t)(below(2) ? below(128) : 256 + below(1000)); break;
+        case 2: c->shifts = (uint32_t)(below(2) ? 8 + below(30) : draw()); break;
+        default: c->window = (uint32_t)draw();
+        }
+        break;
+    case 19:
+        i = below(LENT);
+        switch (below(4)) {
+        case 0: c->lent[i] = 0; break;
+        case 1: c->lent[i] -= c->lent[i] > 0; break;
+        case 2: if (c->lent[i] < capacities[i]) c->lent[i]++; break;
+        default: if (c->lent[i] * 2 <= capacities[i]) c->lent[i] *= 2;
+        }
+        break;
+    case 20:
+        c->header_len = (size_t[]){0, 1, 1095, 1097, 1200}[below(5)];
+        break;
+    case 21:
+        *(below(2) ? &c->starts_len : &c->lengths_len) = below(10);
+        break;
+    case 22:
+        if (below(2)) *(below(2) ? &c->first_start : &c->first_length) = wild(c->n);
+        else (below(2) ? c->starts : c->lengths)[i] = wild(c->n);
+        break;
+    default:
+        if (below(3) == 0) c->n = below(c->n + 1);
+        else if (below(2)) c->lengths[i] = below(c->lengths[i] + 1);
+        else c->first_length = below(c->first_length + 1);
+    }
+    if (c->n == 0) c->n = 1;
+}
+
+/* Any tile, most often the smallest of four. */
+static const struct call *small_tile(void) {
+    const struct call *c = &tiles[below(tiles_len)];
+    for (size_t i = below(8) ? 3 : 0; i--;) {
+        const struct call *d = &tiles[below(tiles_len)];
+        if (d->w * d->h < c->w * c->h) c = d;
+    }
+    return c;
+}
+
+/* Without the bytes that are not used. */
+static void copy(struct call *to, const struct call *from) {
+    memcpy(to->bytes, from->bytes, from->n);
+    memcpy(&to->n, &from->n, sizeof *to - offsetof(struct call, n));
+}
+
+static void random_calls(size_t times, struct result *r, struct result *spare, struct result *full) {
+    static struct call c;
+    size_t further = 0, pairs = 0;
+    for (size_t t = 0; t < times; t++) {
+        snprintf(where, sizeof where, "random %zu", t);
+        if (below(3)) copy(&c, small_tile());
+        else invent(&c);
+        for (size_t d = below(4); d--;) damage(&c);
+        if (both(&c, full, spare)) continue;
+        if (below(4) == 0) {
+            size_t p = below(c.count + 1), *length = p ? &c.lengths[p - 1] : &c.first_length, from = *length;
+            *length = below(from + 1);
+            if (both(&c, r, spare) == 0) {
+                if (r->k > full->k) fail("a cut finishes more, %zu and %zu", r->k, full->k);
+                same(&c, r, full, r->k);
+                further++;
+            }
+            *length = from;
+        }
+        size_t p = below(c.count);
+        if (below(8) == 0 && alone(&c, p)) { apart(&c, p, full, r, spare); pairs++; }
+    }
+    printf("random: %zu inputs, %zu cut further, %zu pairs\n", times, further, pairs);
+}
+
+/* Every set of reasons to refuse: the least number is answered. */
+static void refused(size_t times, struct result *r, struct result *spare) {
+    static struct call c;
+    static const size_t sides[] = {0, 17, 16400, SIZE_MAX, ((size_t)1 << 32) + 16}, counts[] = {0, 9, 16, SIZE_MAX, ((size_t)1 << 32) + 1};
+    for (size_t t = 0; t < times; t++) {
+        size_t why = t % 128, i = below(5);
+        snprintf(where, sizeof where, "refused %zu", t);
+        copy(&c, small_tile());
+        if (why & 1) *(below(2) ? &c.w : &c.h) = sides[i];
+        if (why & 2) c.count = counts[i];
+        if (why & 4) c.header[below(1096)] = (int32_t[]){256, -256, INT32_MIN, INT32_MAX, 32767}[i];
+        if (why & 8) { if (i) c.lent[below(LENT)] ^= 1; else c.header_len++; }
+        if (why & 16) c.first_start = below(2) ? c.n + 1 + below(100) : SIZE_MAX - below(100);
+        if (why & 32) c.range = (uint32_t[]){0, 127, 256, 1u << 31, UINT32_MAX}[i];
+        if (why & 64) *(below(2) ? &c.starts_len : &c.lengths_len) = below(2) ? 7 : 9;
+        if (both(&c, r, spare) == 0 && why) fail("reasons %zu, and not refused", why);
+    }
+    printf("refused: %zu inputs with every set of seven reasons\n", times);
+}
+
+static void kernel(size_t times) {
+    static const uint8_t flat[8] = {100, 100, 100, 100, 110, 110, 110, 110};
+    static const struct { uint8_t simple, edge, limit, to[8]; } worked[] = {
+        {0, 1, 24, {100, 100, 100, 100, 110, 110, 110, 110}}, {0, 1, 25, {100, 101, 103, 104, 106, 107, 109, 110}},
+        {0, 0, 25, {100, 100, 102, 104, 106, 108, 110, 110}}, {1, 0, 25, {100, 100, 100, 102, 107, 110, 110, 110}}};
+    snprintf(where, sizeof where, "kernel");
+    for (int i = 0; i < 4; i++) {
+        uint8_t *s = buffers[Y].seen + capacities[Y] - 8;
+        memcpy(s, flat, 8);
+        uint32_t n = hookbarley_filter(s, 8, worked[i].simple, worked[i].edge, worked[i].limit, 0, 0);
+        if (n || memcmp(s, worked[i].to, 8)) fail("worked numbers, line %d", i);
+    }
+    for (size_t t = 0; t < times; t++) {
+        uint8_t e[20], once[20], simple = (uint8_t)draw(), edge = (uint8_t)draw(), limit = (uint8_t)draw(), inner = (uint8_t)draw(), threshold = (uint8_t)draw();
+        size_t n = below(4) ? 8 : below(17);
+        uint8_t base = (uint8_t)draw();
+        int spread = 1 + (int)below(below(2) ? 12 : 256);
+        if (below(2)) simple = 0;
+        if (below(2)) edge = 0;
+        for (size_t i = 0; i < n; i++) e[i] = (uint8_t)(base + below((size_t)spread));
+        for (int end = 0; end < 2; end++) {
+            uint8_t *s = buffers[Y].seen + offset(Y, n, end);
+            memcpy(s, e, n);
+            uint32_t number = hookbarley_filter(s, n, simple, edge, limit, inner, threshold);
+            if (number != (n == 8 ? 0 : 9)) fail("kernel answers %u for %zu samples", number, n);
+            if (n != 8 && memcmp(s, e, n)) fail("kernel refuses and writes");
+            if (n == 8 && (s[0] != e[0] || s[7] != e[7])) fail("kernel changes sample 0 or 7");
+            if (end && memcmp(s, once, n)) fail("kernel answers differ");
+            memcpy(once, s, n);
+        }
+    }
+    printf("kernel: 4 worked edges, %zu random\n", times);
+}
+
+int main(int argc, char **argv) {
+    if (argc < 4) { fprintf(stderr, "usage: %s DIR N SEED [random]\n", argv[0]); return 2; }
+    setvbuf(stdout, NULL, _IOLBF, 0);
+    size_t times = strtoull(argv[2], NULL, 10);
+    state = strtoull(argv[3], NULL, 10);
+    printf("seed: %s\n", argv[3]);
+    struct sigaction a = {0};
+    a.sa_sigaction = fault;
+    a.sa_flags = SA_SIGINFO;
+    sigaction(SIGSEGV, &a, NULL);
+    sigaction(SIGBUS, &a, NULL);
+    sigaction(SIGILL, &a, NULL);
+    sigaction(SIGFPE, &a, NULL);
+    make_buffers();
+    load_all(argv[1]);
+    struct result r = new_result(), spare = new_result(), full = new_result();
+    whole(argv[1], &r, &spare);
+    kernel(times);
+    all_apart(&r, &spare, &full);
+    random_calls(times, &r, &spare, &full);
+    refused(1280, &r, &spare);
+    if (argc == 4) cut(&r, &spare, &full);
+    printf("answers 0 to 9:");
+    for (int i = 0; i < 10; i++) printf(" %zu", answers[i]);
+    printf("\nok: %zu calls of the picture call, nothing touched outside\n", calls);
+    return 0;
+}

@@ -1,0 +1,43 @@
+/* The outside test's own test: the picture call with one fault, chosen when compiling (-DFAULT=n) and put before the archive's by the
+ * linker (--wrap=hookbarley_decode). damaged.c must fail with every one of them. */
+#include "hookbarley.h"
+
+#define PARAMETERS const uint8_t *bytes, size_t bytes_len, size_t first_start, size_t first_length, const size_t *starts, size_t starts_len, const size_t *lengths, size_t lengths_len, size_t at, uint32_t range, uint32_t shifts, uint32_t window, size_t count, const int32_t *header, size_t header_len, size_t width, size_t height, uint8_t *y, size_t y_len, uint8_t *u, size_t u_len, uint8_t *v, size_t v_len, uint8_t *columns, size_t columns_len, uint8_t *modes, size_t modes_len, uint8_t *strengths, size_t strengths_len, size_t *finished
+
+uint32_t __real_hookbarley_decode(PARAMETERS);
+uint32_t __wrap_hookbarley_decode(PARAMETERS);
+
+static volatile uint8_t sink;
+
+uint32_t __wrap_hookbarley_decode(PARAMETERS) {
+    uint8_t before = y_len ? y[0] : 0;
+    uint32_t n = __real_hookbarley_decode(bytes, bytes_len, first_start, first_length, starts, starts_len, lengths, lengths_len, at, range, shifts, window, count, header, header_len, width, height, y, y_len, u, u_len, v, v_len, columns, columns_len, modes, modes_len, strengths, strengths_len, finished);
+    size_t blocks = strengths_len / 4;
+    (void)before; (void)blocks;
+#if FAULT == 1 /* reads the byte behind the input */
+    sink = bytes[bytes_len];
+#elif FAULT == 2 /* reads the byte before a lent buffer */
+    sink = u[-1];
+#elif FAULT == 3 /* writes into the input */
+    ((uint8_t *)bytes)[0] = 0;
+#elif FAULT == 4 /* writes one byte too many */
+    if (n == 0) modes[modes_len] = 0;
+#elif FAULT == 5 /* a refusal writes */
+    if (n >= 1 && n <= 5 && v_len) v[v_len - 1] = 128;
+#elif FAULT == 6 /* what was lent shows through */
+    if (n == 7 && *finished == 0) y[0] = before;
+#elif FAULT == 7 /* an unfinished sample is not 128 */
+    if (n == 7) v[v_len - 1] = 127;
+#elif FAULT == 8 /* one macroblock too many */
+    if (n == 7 && *finished + 1 < blocks) ++*finished;
+#elif FAULT == 9 /* count is checked before size */
+    if (n == 1 && (count < 1 || count > 8)) n = 2;
+#elif FAULT == 10 /* a finished strength is lost when the picture stops */
+    if ((n == 6 || n == 7) && *finished > 0) strengths[4 * *finished - 1] ^= 1;
+#elif FAULT == 11 /* column memory is empty after a stop */
+    if (n == 6 || n == 7) for (size_t i = 0; i < columns_len; i++) columns[i] = 0;
+#elif FAULT == 12 /* row 0 depends on the last partition */
+    if (n == 0 && count > 1 && lengths[count - 1] > 8) y[3] ^= bytes[starts[count - 1] + 5] & 1;
+#endif
+    return n;
+}

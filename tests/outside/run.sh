@@ -1,0 +1,100 @@
+#!/usr/bin/env bash
+# The tests from outside, through the archive: tests/outside/run.sh [ARCHIVE]. Builds the archive where it is not there
+# (`rt staticlib hookbarley`), installs what is missing (Debian packages, as root), runs on x86-64 and, by emulation, on Arm:
+# the C example on the case files, damaged inputs between guard pages, faults that these must find, the Rust wrapper's tests.
+# Settings: N (damaged inputs, 20000), SEED (of these; else drawn from the clock and printed).
+set -u
+cd "$(dirname "$0")/../.." || exit 1
+ARCHIVE=${1:-${ARCHIVE:-}}
+N=${N:-20000}
+SEED=${SEED:-$(date +%s)}
+out=target/outside
+cases=crates/replay/data
+mkdir -p $out
+. tools/outside-env.sh
+failed=0
+say() { printf '%-10s %s\n' "$1" "$2"; }
+bad() { say "$1" "FAILED: $2"; failed=1; }
+build() { # build NAME SOURCES..
+    local name=$1
+    shift
+    $X86CC -std=gnu11 -O2 -Wall -Wextra -Iinclude -o "$out/$name" "$@" "$ARCHIVE"
+}
+echo "archive $ARCHIVE, seed $SEED, $(uname -m)"
+
+# 1. The C example: the worked tile, every case that is not beyond the case program's limits, the bench tiles.
+if build decode_case examples/c/decode_case.c; then
+    line=$($X86RUN $out/decode_case $cases/named/0000.case $out/worked)
+    [ "$line" = "0 1 32960 8192 8192" ] || bad example "the worked tile gives: $line"
+    [ "$(head -c 9 $out/worked-y.pgm | tr '\n' ' ')" = "P5 16 16 " ] || bad example "no PGM picture"
+    tried=0
+    for set in named real; do
+        i=0
+        while read -r want; do
+            f=$(printf '%s/%s/%04d.case' $cases $set $i)
+            i=$((i + 1))
+            case $set/$((i - 1)) in named/14 | named/15 | named/35) continue ;; esac # over 64 KiB or a side over 64
+            if [ "$want" = "10 0 0 0 0" ] && [ $set/$((i - 1)) = named/13 ]; then want="1 0 0 0 0"; fi
+            line=$($X86RUN $out/decode_case "$f")
+            [ "$line" = "$want" ] || bad example "$f gives $line, should be $want"
+            tried=$((tried + 1))
+        done <$cases/$set/expected.txt
+    done
+    while read -r name want; do
+        line=$($X86RUN $out/decode_case bench/"$name".case)
+        [ "$line" = "$want" ] || bad example "$name gives $line, should be $want"
+        tried=$((tried + 1))
+    done <<END
+tile-q50 0 256 7864495 1869616 2222832
+tile-q75 0 256 7862718 1870044 2222860
+tile-q90 0 256 7861994 1870584 2223410
+END
+    [ $failed -eq 0 ] && say example "$tried case files as expected, the worked tile: 0 1 32960 8192 8192"
+else
+    bad example "does not build"
+fi
+
+# 2. Damaged inputs between guard pages.
+if build damaged tests/outside/damaged.c && $X86RUN $out/damaged $cases/real "$N" "$SEED" >$out/damaged.log 2>&1; then
+    sed 's/^/           /' $out/damaged.log
+    say damaged "$(tail -n 1 $out/damaged.log)"
+else
+    tail -n 5 $out/damaged.log
+    bad damaged "N $N, seed $SEED"
+fi
+
+# 3. The faults that the test must find, on four small tiles of several partitions.
+found=0
+few=$out/few
+rm -rf $few
+mkdir $few
+i=0
+for t in 3 10 15 26; do
+    cp "$(printf '%s/real/%04d.case' $cases $t)" "$(printf '%s/%04d.case' $few $i)"
+    sed -n "$((t + 1))p" $cases/real/expected-memory.txt >>$few/expected-memory.txt
+    i=$((i + 1))
+done
+for fault in 0 1 2 3 4 5 6 7 8 9 10 11 12; do
+    build mutant -DFAULT=$fault -Wl,--wrap=hookbarley_decode tests/outside/damaged.c tests/outside/mutants.c || { bad faults "fault $fault does not build"; continue; }
+    $X86RUN $out/mutant $few 300 1 >$out/mutant-$fault.log 2>&1
+    status=$?
+    if [ $fault -eq 0 ]; then
+        [ $status -eq 0 ] || bad faults "the call without a fault fails"
+    elif [ $status -eq 1 ] && grep -q '^FAILED at' $out/mutant-$fault.log; then
+        found=$((found + 1))
+    else
+        bad faults "fault $fault was not found (status $status)"
+    fi
+done
+say faults "$found of 12 found"
+
+# 4. The Rust wrapper.
+if tests/outside/rust.sh "$ARCHIVE" >$out/rust.log 2>&1; then
+    say rust "$(grep '^test result' $out/rust.log | awk '{s += $4} END {print s " tests passed"}')"
+else
+    tail -n 20 $out/rust.log
+    bad rust "see $out/rust.log"
+fi
+
+if [ $failed -eq 0 ]; then echo "outside: passed, seed $SEED"; else echo "outside: FAILED, seed $SEED"; fi
+exit $failed

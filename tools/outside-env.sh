@@ -1,0 +1,37 @@
+# What the outside tests and the bench share; sourced with the repository's root as the working directory. Sets
+#   X86CC     a C compiler for x86-64
+#   X86RUN    what runs an x86-64 program here: nothing on x86-64, qemu elsewhere
+#   ARCHIVE   libhookbarley.a: $ARCHIVE if given, else target/staticlib/libhookbarley.a, built where it is not there
+# and need COMMAND PACKAGE.., which installs Debian packages where the command is missing.
+
+need() {
+    local command=$1
+    shift
+    command -v "$command" >/dev/null && return
+    [ "$(id -u)" -eq 0 ] || { echo "missing: $command; install: $*" >&2; return 1; }
+    echo "installing $*" >&2
+    { DEBIAN_FRONTEND=noninteractive apt-get install -y -q --no-install-recommends "$@" ||
+        { apt-get update -q && DEBIAN_FRONTEND=noninteractive apt-get install -y -q --no-install-recommends "$@"; }; } >/dev/null 2>&1
+    command -v "$command" >/dev/null || { echo "missing: $command; apt-get could not install $*" >&2; return 1; }
+}
+
+if [ "$(uname -m)" = x86_64 ]; then
+    need gcc gcc libc6-dev || exit 1
+    X86CC=gcc
+    X86RUN=
+else
+    need x86_64-linux-gnu-gcc gcc-x86-64-linux-gnu libc6-dev-amd64-cross || exit 1
+    need qemu-x86_64 qemu-user || exit 1
+    X86CC=x86_64-linux-gnu-gcc
+    X86RUN="qemu-x86_64 -L /usr/x86_64-linux-gnu"
+fi
+
+if [ -z "${ARCHIVE:-}" ]; then
+    ARCHIVE=target/staticlib/libhookbarley.a
+    if [ ! -f $ARCHIVE ]; then
+        echo "building $ARCHIVE" >&2
+        rt staticlib hookbarley >target/staticlib.log 2>&1 || { tail -n 20 target/staticlib.log >&2; exit 1; }
+    fi
+fi
+[ -f "$ARCHIVE" ] || { echo "no archive: $ARCHIVE" >&2; exit 1; }
+ARCHIVE=$(realpath "$ARCHIVE")
