@@ -3,7 +3,6 @@ use Prim.Native.Nat.{ℕ, _+_, _-_, _*_, _/_, _≤_}
 use mathlib.Core.Path.{_≡_, sym, _∙_, ap}
 use mathlib.Core.Bool.{true, false, _&&_}
 use mathlib.Core.List.{List}
-use native.Mathlib.Nat.{add-sub-cancel-left}
 use lib.Dec.{leb}
 use lib.IntN.{ℤ}
 use lib.ListN.{length, replicate, take, drop, length-replicate}
@@ -11,6 +10,7 @@ use lib.Seq.{getD-take, length-take-le}
 use Rattle.numbers.specs.Lists.{constant, getD-constant}
 use Rattle.reader.specs.declared.boolean.Reader.{Reader}
 use Rattle.picture.specs.Partitions.{partOf}
+use Rattle.picture.specs.PartitionsLaws.{part-cut}
 use Rattle.picture.specs.Checks.{Tile, blocksOf}
 use Rattle.picture.specs.Memory.{Memory}
 use Rattle.picture.specs.Picture.{Ended, pictureOf}
@@ -39,8 +39,9 @@ module _ (s : List ℕ) where
 
 -- the tile that the fields of a file make
 pub tile-is : (s : List ℕ) {from len n w h : ℕ} {starts lengths : List ℕ} {r : Reader} {e : List ℤ} → from ≡ startAt s 0 → len ≡ lengthAt s 0 → starts ≡ startsOf s → lengths ≡ lengthsOf s → r ≡ openedOf (take (from + len - from) (drop from s)) → n ≡ countOf s → e ≡ headerOf s → w ≡ widthOf s → h ≡ heightOf s → _≡_ {A = Tile} (record { bytes = s; firstStart = from; firstLength = len; reader = r; starts = starts; lengths = lengths; count = n; header = e; width = w; height = h }) (tileOf s)
-unfolding partOf
-tile-is s a b c d o n e w h = rw (o, a, b, c, d, n, e, w, h, add-sub-cancel-left)
+tile-is s {from} {len} a b c d o n e w h =
+    let q : openedOf (take (from + len - from) (drop from s)) ≡ openedOf (partOf s from len) = ap openedOf (part-cut s from len) in
+    rw (o, q, a, b, c, d, n, e, w, h)
 
 pub picture-is : (m : Memory) {t t′ : Tile} {x : Ended} → x ≡ pictureOf t m → t ≡ t′ → x ≡ pictureOf t′ m
 picture-is m e f = e ∙ ap (λ (t : Tile). pictureOf t m) f

@@ -1,11 +1,11 @@
 -- The laws of partitions that callers cite: what a partition holds, and that the reader it starts with is in range over it.
-use Prim.Native.Nat.{ℕ, _+_, _≤_, _<_}
+use Prim.Native.Nat.{ℕ, _+_, _-_, _≤_, _<_}
 use mathlib.Core.Path.{_≡_, sym, _∙_, ap}
 use mathlib.Core.List.{List}
 use mathlib.Core.Logic.{⊎-elim}
 use native.Mathlib.Omega.{arith}
 use borrow.Author.Tests.{lt-ltb, le-ltb}
-use lib.ListN.{length, getD, length-take, length-drop, List·getD-eq-default}
+use lib.ListN.{length, getD, take, drop, length-take, length-drop, List·getD-eq-default}
 use lib.Seq.{getD-take, getD-drop}
 use lib.Dec.{lit<}
 use Rattle.numbers.specs.Tests.{lt-or}
@@ -20,6 +20,11 @@ module _ (bytes : List ℕ) (start len : ℕ) where
   pub part-length : start + len ≤ length bytes → length (partOf bytes start len) ≡ len
   unfolding partOf
   part-length h = simp (length-take, length-drop) (omega arith)
+
+  -- as a slice from `start` to `start + len` is cut
+  pub part-cut : take (start + len - start) (drop start bytes) ≡ partOf bytes start len
+  unfolding partOf
+  part-cut = let e : start + len - start ≡ len = omega arith in rw e
 
   pub part-at : (i : ℕ) → i < len → getD (partOf bytes start len) i 0 ≡ getD bytes (start + i) 0
   unfolding partOf

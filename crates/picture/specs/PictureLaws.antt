@@ -48,6 +48,12 @@ module _ (n : ℕ) (P : Picture) (k : ℕ) (S : State) where
   unfolding runOf
   run-no-tokens e = rw (e, runOf)
 
+-- one macroblock written out: its partitions and readers, the contexts around it, its place, the planes
+pub step-at : (P : Picture) (k : ℕ) (S : State)
+    → stepAt P k S ≡ stepOf (P .first) (S .reader) (P .token (partitionOf P k)) (getD (S .readers) (partitionOf P k) noReader) (P .header) (headerTable (P .header)) (frameOf (P .header)) (columnAt (S .mem .columns) (columnOf P k)) (besideOf (columnOf P k) (S .left)) (P .wide * 16) (columnOf P k) (rowOf P k) (planesOf (S .mem))
+unfolding stepAt
+step-at P k S = refl
+
 -- ---- what the macroblocks share is in range
 pub record Shared (P : Picture) : Type 0 where
   pub least : 1 ≤ P .count
@@ -87,7 +93,7 @@ module _ (P : Picture) (k : ℕ) (h : k < P .wide * P .high) where
   row-below = div-lt-iff-lt-mul some .1 (rw (mul-comm (P .high) (P .wide)) h)
 
   pub partition-below : 1 ≤ P .count → partitionOf P k < P .count
-  partition-below l = mod-lt (rowOf P k) {m = P .count} l
+  partition-below l = mod-lt _ {m = P .count} l
 
 beside-fine : (column : ℕ) (left : Context) → contextFine left ≡ true → Sized left → (contextFine (besideOf column left) ≡ true) × Sized (besideOf column left)
 beside-fine column left e z = ⊎-elim

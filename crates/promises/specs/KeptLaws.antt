@@ -1,6 +1,6 @@
 -- What macroblocks leave alone: one macroblock, and every one of a run.
 use Prim.Native.Nat.{ℕ, zero, suc, _+_, _-_, _*_, _/_, _≤_, _<_}
-use mathlib.Core.Path.{_≡_, refl, _∙_, subst}
+use mathlib.Core.Path.{_≡_, refl, sym, _∙_, subst}
 use mathlib.Core.List.{List}
 use native.Mathlib.Omega.{arith}
 use lib.ListN.{getD}
@@ -23,7 +23,7 @@ use Rattle.picture.specs.Checks.{Tile}
 use Rattle.picture.specs.ChecksLaws.{fine-partitions}
 use Rattle.picture.specs.CallLaws.{shared-start, live-start}
 use Rattle.picture.specs.Picture.{Picture, State, cutOut, startOf, columnOf, rowOf, partitionOf, besideOf, planesOf, stepAt, nextOf, runOf}
-use Rattle.picture.specs.PictureLaws.{Shared, Live, column-below, partition-below, laid-at, ready-at, ends-at, live-next, run-none, run-finished, run-no-modes, run-no-tokens}
+use Rattle.picture.specs.PictureLaws.{Shared, Live, step-at, column-below, partition-below, laid-at, ready-at, ends-at, live-next, run-none, run-finished, run-no-modes, run-no-tokens}
 use Rattle.promises.specs.Refusals.{Fine}
 use Rattle.promises.specs.Reached.{Reached, start, after}
 use Rattle.promises.specs.ReachedLaws.{rest-of}
@@ -56,11 +56,10 @@ module _ {P : Picture} {S₀ : State} (z : Sound P S₀) where
     live-after = live-next P S k (z .shared) l h x (ends-at P S k (z .shared) l h (z .first) (z .tokens (partitionOf P k) q-below) x e)
 
     elsewhere : Elsewhere (P .wide * 16) (columnOf P k) (rowOf P k) (planesOf (S .mem)) (x .planes)
-    unfolding stepAt
     elsewhere =
         step-outside (P .first) (S .reader) (P .token (partitionOf P k)) (getD (S .readers) (partitionOf P k) noReader) (P .header) (headerTable (P .header)) (frameOf (P .header))
         (columnAt (S .mem .columns) (columnOf P k)) (besideOf (columnOf P k) (S .left)) (P .wide * 16) (columnOf P k) (rowOf P k) (planesOf (S .mem))
-        (ready-at P S k (z .shared) l h (columnOf P k) (partitionOf P k) (column-below P k h) q-below refl refl refl) (z .first) (z .tokens (partitionOf P k) q-below) (header-bytes (P .header)) e (laid-at P S k (z .shared) l h)
+        (ready-at P S k (z .shared) l h (columnOf P k) (partitionOf P k) (column-below P k h) q-below refl refl refl) (z .first) (z .tokens (partitionOf P k) q-below) (header-bytes (P .header)) (sym (step-at P k S) ∙ e) (laid-at P S k (z .shared) l h)
 
     half : {w n : ℕ} {p q : List ℕ} {a b : ℕ} → w ≡ n → Kept w a b 8 p q → Kept n a b 8 p q
     half {p} {q} {a} {b} f k = subst (λ (i : ℕ). Kept i a b 8 p q) f k

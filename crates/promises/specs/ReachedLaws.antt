@@ -1,6 +1,6 @@
 -- The laws of a picture's run: it passes through every state that is reached, and it ends in one of three ways.
 use Prim.Native.Nat.{ℕ, zero, suc, _+_, _-_, _*_, _≤_, _<_}
-use mathlib.Core.Path.{_≡_, refl, _∙_, ap, subst}
+use mathlib.Core.Path.{_≡_, refl, sym, _∙_, ap, subst}
 use native.Mathlib.Omega.{arith}
 use native.Mathlib.Numerals.{add-one}
 use mathlib.Core.Logic.{_⊎_, inl, inr}
@@ -14,22 +14,21 @@ use Rattle.macroblock.specs.Macroblock.{Finished, Step, finished, no-modes, no-
 use Rattle.macroblock.specs.StepLaws.{NoTokens, step-no-modes, step-no-tokens, step-refused-modes, step-refused-tokens}
 use Rattle.picture.specs.declared.rows.Decoded.the-variants as D
 use Rattle.picture.specs.Picture.{Picture, State, Ended, columnOf, rowOf, partitionOf, planesOf, stepAt, nextOf, runOf, valuesOf}
-use Rattle.picture.specs.PictureLaws.{run-none, run-finished, run-no-modes, run-no-tokens}
+use Rattle.picture.specs.PictureLaws.{step-at, run-none, run-finished, run-no-modes, run-no-tokens}
 use Rattle.promises.specs.Reached.{Reached, start, after, aboveOf, leftOf, modesAsked, tokensAsked, Ending, whole, modes-out, tokens-out}
 use lib.ListN.{getD}
 
 -- ---- a macroblock's answer, in words of the two grammars
 module _ (P : Picture) (k : ℕ) (S : State) where
   pub modes-missing : stepAt P k S ≡ no-modes → modesAsked P k S ≡ missing
-  unfolding stepAt
   modes-missing e =
       step-refused-modes (P .first) (S .reader) (P .token (partitionOf P k)) (getD (S .readers) (partitionOf P k) noReader) (P .header) (headerTable (P .header)) (frameOf (P .header))
-      (aboveOf P k S) (leftOf P k S) (P .wide * 16) (columnOf P k) (rowOf P k) (planesOf (S .mem)) e
+      (aboveOf P k S) (leftOf P k S) (P .wide * 16) (columnOf P k) (rowOf P k) (planesOf (S .mem)) (sym (step-at P k S) ∙ e)
 
   pub missing-modes : modesAsked P k S ≡ missing → stepAt P k S ≡ no-modes
-  unfolding stepAt
   missing-modes e =
-      step-no-modes (P .first) (S .reader) (P .token (partitionOf P k)) (getD (S .readers) (partitionOf P k) noReader) (P .header) (headerTable (P .header)) (frameOf (P .header))
+      step-at P k S
+      ∙ step-no-modes (P .first) (S .reader) (P .token (partitionOf P k)) (getD (S .readers) (partitionOf P k) noReader) (P .header) (headerTable (P .header)) (frameOf (P .header))
       (aboveOf P k S) (leftOf P k S) (P .wide * 16) (columnOf P k) (rowOf P k) (planesOf (S .mem)) e
 
   -- its modes are given, and its tokens run out
@@ -40,16 +39,15 @@ module _ (P : Picture) (k : ℕ) (S : State) where
     pub out : tokensAsked P k S modes ≡ missing
 
   pub tokens-missing : stepAt P k S ≡ no-tokens → Short
-  unfolding stepAt
   tokens-missing e =
       let n = step-refused-tokens (P .first) (S .reader) (P .token (partitionOf P k)) (getD (S .readers) (partitionOf P k) noReader) (P .header) (headerTable (P .header)) (frameOf (P .header))
-      (aboveOf P k S) (leftOf P k S) (P .wide * 16) (columnOf P k) (rowOf P k) (planesOf (S .mem)) e in
+      (aboveOf P k S) (leftOf P k S) (P .wide * 16) (columnOf P k) (rowOf P k) (planesOf (S .mem)) (sym (step-at P k S) ∙ e) in
       record { modes = n .modes; reader = n .first; gave = n .gave; out = n .out }
 
   pub missing-tokens : (m : Macroblock) (r : Reader) → modesAsked P k S ≡ given m r → tokensAsked P k S m ≡ missing → stepAt P k S ≡ no-tokens
-  unfolding stepAt
   missing-tokens m r e f =
-      step-no-tokens (P .first) (S .reader) (P .token (partitionOf P k)) (getD (S .readers) (partitionOf P k) noReader) (P .header) (headerTable (P .header)) (frameOf (P .header))
+      step-at P k S
+      ∙ step-no-tokens (P .first) (S .reader) (P .token (partitionOf P k)) (getD (S .readers) (partitionOf P k) noReader) (P .header) (headerTable (P .header)) (frameOf (P .header))
       (aboveOf P k S) (leftOf P k S) (P .wide * 16) (columnOf P k) (rowOf P k) (planesOf (S .mem)) m r e f
 
 -- ---- the run passes through every state that is reached

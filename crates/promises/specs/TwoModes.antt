@@ -16,7 +16,7 @@ use Rattle.macroblock.specs.Macroblock.{Finished, finished, stepOf}
 use Rattle.macroblock.specs.StepLaws.{SameModes, step-modes-only-first}
 use Rattle.picture.specs.Picture.{Picture, State, columnOf, rowOf, partitionOf, besideOf, planesOf, stepAt, nextOf}
 use Rattle.picture.specs.TurnLaws.{beside-none, beside-left}
-use Rattle.picture.specs.PictureLaws.{Live, column-below, partition-below, room-at, ends-at}
+use Rattle.picture.specs.PictureLaws.{Live, step-at, column-below, partition-below, room-at, ends-at}
 use Rattle.promises.specs.Reached.{Reached, start, after}
 use Rattle.promises.specs.KeptLaws.{Sound, live-reached}
 
@@ -49,12 +49,11 @@ module _ {P Q : Picture} {S₀ T₀ : State} (z : Sound P S₀) (y : Sound Q T�
   column-same k = λ i. k % wide i
 
   step-modes : (k : ℕ) (S T : State) → k < P .wide * P .high → Moded (P .wide) S T → (x w : Finished) → stepAt P k S ≡ finished x → stepAt Q k T ≡ finished w → SameModes x w
-  unfolding stepAt
   step-modes k S T h d x w e f =
       let g : stepOf (P .first) (S .reader) (Q .token (partitionOf Q k)) (getD (T .readers) (partitionOf Q k) noReader) (P .header) (headerTable (Q .header)) (frameOf (Q .header))
       (columnAt (T .mem .columns) (columnOf Q k)) (besideOf (columnOf Q k) (T .left)) (Q .wide * 16) (columnOf Q k) (rowOf Q k) (planesOf (T .mem))
-      ≡ stepAt Q k T = λ i. stepOf (first i) (d .reader i) (Q .token (partitionOf Q k)) (getD (T .readers) (partitionOf Q k) noReader) (header i) (headerTable (Q .header)) (frameOf (Q .header))
-      (columnAt (T .mem .columns) (columnOf Q k)) (besideOf (columnOf Q k) (T .left)) (Q .wide * 16) (columnOf Q k) (rowOf Q k) (planesOf (T .mem)) in
+      ≡ stepAt Q k T = (λ i. stepOf (first i) (d .reader i) (Q .token (partitionOf Q k)) (getD (T .readers) (partitionOf Q k) noReader) (header i) (headerTable (Q .header)) (frameOf (Q .header))
+      (columnAt (T .mem .columns) (columnOf Q k)) (besideOf (columnOf Q k) (T .left)) (Q .wide * 16) (columnOf Q k) (rowOf Q k) (planesOf (T .mem))) ∙ sym (step-at Q k T) in
       step-modes-only-first (P .first) (S .reader) (P .header)
       (P .token (partitionOf P k)) (getD (S .readers) (partitionOf P k) noReader) (headerTable (P .header)) (frameOf (P .header))
       (columnAt (S .mem .columns) (columnOf P k)) (besideOf (columnOf P k) (S .left)) (P .wide * 16) (columnOf P k) (rowOf P k) (planesOf (S .mem))
@@ -62,7 +61,7 @@ module _ {P Q : Picture} {S₀ T₀ : State} (z : Sound P S₀) (y : Sound Q T�
       (columnAt (T .mem .columns) (columnOf Q k)) (besideOf (columnOf Q k) (T .left)) (Q .wide * 16) (columnOf Q k) (rowOf Q k) (planesOf (T .mem))
       (d .above (columnOf P k) (column-below P k h) ∙ ap (λ (c : ℕ). columnAt (T .mem .columns) c .modes) (column-same k))
       (beside-modes (columnOf P k) (S .left) (T .left) (d .left) ∙ ap (λ (c : ℕ). besideOf c (T .left) .modes) (column-same k))
-      e (g ∙ f)
+      (sym (step-at P k S) ∙ e) (g ∙ f)
 
   module _ (k : ℕ) (S T : State) (h : k < P .wide * P .high) (l : Live P S) (o : Live Q T) (d : Moded (P .wide) S T) (x w : Finished) (e : stepAt P k S ≡ finished x) (f : stepAt Q k T ≡ finished w) where
     s : SameModes x w

@@ -14,6 +14,7 @@ use Rattle.macroblock.specs.Macroblock.{Finished, Step, no-modes, no-tokens, st
 use Rattle.picture.specs.declared.rows.Decoded.{Decoded}
 use Rattle.picture.specs.declared.rows.Decoded.the-variants as D
 use Rattle.picture.specs.Memory.{Memory}
+use Rattle.picture.specs.PictureLaws.{step-at}
 use Rattle.picture.specs.Picture.{Picture, State, Ended, partitionOf, besideOf, planesOf, stepAt, written, nextOf, runOf}
 use Rattle.promises.specs.Reached.{Reached, start, after, Ending, whole, modes-out, tokens-out}
 use Rattle.promises.specs.ReachedLaws.{missing-modes, missing-tokens, ending, ends-whole, stops-modes, stops-tokens, reached-before}
@@ -43,12 +44,13 @@ module _ {U : ℕ → Type 0} {P Q : Picture} (t : Twins U P Q) where
   module _ {S T : State} (s : Same U S T) (k : ℕ) (u : U (partitionOf P k)) where
     -- one macroblock of both
     pub step-same : stepAt P k S ≡ stepAt Q k T
-    unfolding stepAt
     step-same =
         let a : P .token (partitionOf P k) ≡ Q .token (partitionOf Q k) = t .token (partitionOf P k) u ∙ ap (Q .token) (part-same k) in
         let b : getD (S .readers) (partitionOf P k) noReader ≡ getD (T .readers) (partitionOf Q k) noReader = s .readers (partitionOf P k) u ∙ ap (λ (q : ℕ). getD (T .readers) q noReader) (part-same k) in
-        λ i. stepOf (t .first i) (s .reader i) (a i) (b i) (t .header i) (headerTable (t .header i)) (frameOf (t .header i))
-        (columnAt (s .mem i .columns) (k % t .wide i)) (besideOf (k % t .wide i) (s .left i)) (t .wide i * 16) (k % t .wide i) (k / t .wide i) (planesOf (s .mem i))
+        step-at P k S
+        ∙ (λ i. stepOf (t .first i) (s .reader i) (a i) (b i) (t .header i) (headerTable (t .header i)) (frameOf (t .header i))
+        (columnAt (s .mem i .columns) (k % t .wide i)) (besideOf (k % t .wide i) (s .left i)) (t .wide i * 16) (k % t .wide i) (k / t .wide i) (planesOf (s .mem i)))
+        ∙ sym (step-at Q k T)
 
     pub next-same : partitionOf P k < P .count → (x : Finished) → Same U (nextOf P k S x) (nextOf Q k T x)
     next-same h x =
