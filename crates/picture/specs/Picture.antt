@@ -50,7 +50,7 @@ pub record State : Type 0 where
 abbrev pub startOf : Tile → Memory → State
 startOf t m = record { reader = t .reader; readers = readersOf (t .bytes) (t .starts) (t .lengths) (t .count); left = emptyContext; mem = blankOf m }
 
--- ---- macroblock k: its place, and the token partition that its row reads
+-- ---- macroblock k, in raster order (RFC 6386, section 2): its place, and the token partition that its row reads (section 9.5)
 abbrev pub columnOf : Picture → ℕ → ℕ
 columnOf P k = k % P .wide
 
@@ -60,7 +60,7 @@ rowOf P k = k / P .wide
 abbrev pub partitionOf : Picture → ℕ → ℕ
 partitionOf P k = rowOf P k % P .count
 
--- at column 0 nothing lies to the left
+-- at column 0 nothing lies to the left: DC modes (section 11.3) and no coefficients (section 13.3)
 unfoldable pub besideOf : ℕ → Context → Context
 besideOf column left = elim (eqb column 0) [ true ↦ emptyContext | false ↦ left ]
 
@@ -102,7 +102,8 @@ pub record Ended : Type 0 where
 unfoldable pub endingOf : (number k : ℕ) → Decoded
 endingOf number k = elim (eqb number 0) [ true ↦ D.Whole k | false ↦ elim (eqb number 6) [ true ↦ D.NoModes k | false ↦ D.NoTokens k ] ]
 
--- n macroblocks from number k on, until one is refused: modes that run out (6), tokens that run out (7)
+-- n macroblocks from number k on (modes section 19.3, tokens section 13), until one is refused: modes that run out (6), tokens that run
+-- out (7)
 unfoldable pub runOf : ℕ → Picture → ℕ → State → Ended
 runOf zero P k S = record { answer = D.Whole k; mem = S .mem }
 runOf (suc n) P k S =
