@@ -1,7 +1,3 @@
--- tokens: definitions, how one token is read node by node, laws that callers cite
-pub mod Tokens
-pub mod TokenSteps
-pub mod TokenLaws
 -- the two inverse transforms: definitions, how far their numbers go, laws that callers cite, and the source's own definitions
 pub mod Transform
 pub mod TransformBounds

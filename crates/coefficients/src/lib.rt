@@ -1,4 +1,3 @@
-// The coefficients of a block: how its tokens are read (tokens, RFC 6386 section 13), and what becomes of them (transform,
-// sections 14.3 and 14.4).
-pub mod tokens;
+// What becomes of a block's coefficients: the two inverse transforms (RFC 6386, sections 14.3 and 14.4). How they are read is
+// `reader::tokens`.
 pub mod transform;

@@ -19,10 +19,11 @@ use Rattle.modes.specs.ModesLaws.{each-fact, each-all}
 use Rattle.modes.specs.Records.{contextFine}
 use Rattle.modes.specs.RecordsLaws.{contexts-fine}
 use Rattle.residual.specs.Residual.{Flags}
-use Rattle.macroblock.specs.declared.frame.Frame.{Frame}
+use Rattle.segments.specs.declared.frame.Frame.{Frame}
 use Rattle.macroblock.specs.declared.whole.Whole.{Whole}
 use Rattle.macroblock.specs.declared.whole.Finish.the-variants as F
-use Rattle.macroblock.specs.Macroblock.{Planes, Laid, Ready, Step, finished, no-modes, no-tokens, Called, toCalled, levelAt, levelsFine, readyOf, laidOf, stepOf, wholeOf, decodeOf, nothing, finishNumberOf}
+use Rattle.segments.specs.Frame.{levelAt}
+use Rattle.macroblock.specs.Macroblock.{Planes, Laid, Ready, Step, finished, no-modes, no-tokens, Called, toCalled, levelsFine, readyOf, laidOf, stepOf, wholeOf, decodeOf, nothing, finishNumberOf}
 
 -- ---- levels
 levels-fact : (l : List ℕ) → length l ≡ 4 → levelsFine l ≡ true → (i : ℕ) → getD l i 0 ≤ 63

@@ -2,8 +2,6 @@ pub mod Strengths
 pub mod StrengthsLaws
 pub mod StrengthRecords
 pub mod StrengthRecordsLaws
-pub mod Frame
-pub mod FrameLaws
 pub mod Macroblock
 pub mod MacroblockLaws
 pub mod DecodeLaws

@@ -20,20 +20,13 @@ use Rattle.modes.specs.Answers.{kindsOf, contextsOf}
 use Rattle.modes.specs.Records.{emptyContext, contextFine}
 use Rattle.residual.specs.Residual.{Model, Flags, residualOf}
 use Rattle.planes.specs.Paint.{squarePainted}
-use Rattle.macroblock.specs.declared.frame.Frame.{Frame}
+use Rattle.segments.specs.Frame.{factorsAt, levelAt}
+use Rattle.segments.specs.declared.frame.Frame.{Frame}
 use Rattle.macroblock.specs.declared.strengths.Strength.{Strength}
 use Rattle.macroblock.specs.declared.whole.Whole.{Whole}
 use Rattle.macroblock.specs.declared.whole.Finish.{Finish}
 use Rattle.macroblock.specs.declared.whole.Finish.the-variants as F
 use Rattle.macroblock.specs.Strengths.{strengthOf, noStrength}
-
--- ---- what is shared, by segment
-abbrev pub factorsAt : Frame → ℕ → Factors
-factorsAt f segment = getD (f .factors) segment noFactors
-
-abbrev pub levelAt : Frame → Bool → ℕ → ℕ
-levelAt f true segment = getD (f .small) segment 0
-levelAt f false segment = getD (f .large) segment 0
 
 -- ---- what lies before it and what it leaves
 pub record Planes : Type 0 where

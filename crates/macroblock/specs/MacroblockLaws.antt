@@ -14,7 +14,7 @@ use Rattle.numbers.specs.Parts.{of-le}
 use Rattle.reader.specs.declared.boolean.Reader.{Reader}
 use Rattle.modes.specs.Modes.{Macroblock, modesOf, bottomOf, rightOf}
 use Rattle.modes.specs.Answers.{kindsOf}
-use Rattle.macroblock.specs.declared.frame.Frame.{Frame}
+use Rattle.segments.specs.declared.frame.Frame.{Frame}
 use Rattle.macroblock.specs.declared.strengths.Strength.{Strength}
 use Rattle.macroblock.specs.declared.whole.Finish.the-variants as F
 use Rattle.reader.specs.Boolean.{Given, given, missing}
@@ -30,7 +30,8 @@ use Rattle.modes.specs.Records.{emptyContext}
 use Rattle.macroblock.specs.declared.whole.Finish.{Finish}
 use Rattle.macroblock.specs.declared.whole.Whole.{Whole}
 use Rattle.macroblock.specs.Strengths.{noStrength, strengthOf}
-use Rattle.macroblock.specs.Macroblock.{Planes, Laid, Painting, paintedPlanes, factorsAt, levelAt, endOf, endedOf, afterTokens, afterModes, tokenStep, stepOf, toCalled, tokensOf, wholeOf, nothing}
+use Rattle.segments.specs.Frame.{factorsAt, levelAt}
+use Rattle.macroblock.specs.Macroblock.{Planes, Laid, Painting, paintedPlanes, endOf, endedOf, afterTokens, afterModes, tokenStep, stepOf, toCalled, tokensOf, wholeOf, nothing}
 
 -- a part of numbers in range
 each-part : (c : List ℤ) (n k : ℕ) → Each (negsuc 32767) (pos 32767) c → Each (negsuc 32767) (pos 32767) (take n (drop k c))

@@ -29,15 +29,16 @@ use Rattle.residual.specs.ResidualLaws.{residual-within}
 use Rattle.planes.specs.Paint.{sampleAt, squarePainted, paintOf, Outcome}
 use Rattle.planes.specs.PaintLaws.{length-paint, paint-bytes, paint-off, paint-good}
 use Rattle.planes.specs.Places.{Outside}
-use Rattle.macroblock.specs.declared.frame.Frame.{Frame}
+use Rattle.segments.specs.declared.frame.Frame.{Frame}
 use Rattle.macroblock.specs.declared.whole.Finish.{Finish}
 use Rattle.macroblock.specs.declared.whole.Finish.the-variants as F
 use Rattle.macroblock.specs.declared.whole.Whole.{Whole}
-use Rattle.macroblock.specs.Frame.{frameOf}
-use Rattle.macroblock.specs.FrameLaws.{frame-factors, frame-level}
+use Rattle.segments.specs.Frame.{frameOf}
+use Rattle.segments.specs.FrameLaws.{frame-factors, frame-level}
 use Rattle.macroblock.specs.Strengths.{strengthOf}
 use Rattle.macroblock.specs.StrengthsLaws.{limit-most}
-use Rattle.macroblock.specs.Macroblock.{Planes, Laid, Painting, Ready, Finished, Step, finished, no-modes, no-tokens, Called, toCalled, factorsAt, levelAt, paintedPlanes, endOf, afterTokens, afterModes, tokenStep, stepOf, wholeOf, decodeOf, finishNumberOf}
+use Rattle.segments.specs.Frame.{factorsAt, levelAt}
+use Rattle.macroblock.specs.Macroblock.{Planes, Laid, Painting, Ready, Finished, Step, finished, no-modes, no-tokens, Called, toCalled, paintedPlanes, endOf, afterTokens, afterModes, tokenStep, stepOf, wholeOf, decodeOf, finishNumberOf}
 use Rattle.macroblock.specs.MacroblockLaws.{painting, luma-proper, chroma-proper}
 use Rattle.macroblock.specs.DecodeLaws.{context-test, decode-good}
 

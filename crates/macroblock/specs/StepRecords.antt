@@ -6,10 +6,11 @@ use mathlib.Core.List.{List}
 use lib.IntN.{ℤ}
 use Rattle.reader.specs.declared.boolean.Reader.{Reader}
 use Rattle.modes.specs.declared.columns.Context.{Context}
-use Rattle.macroblock.specs.declared.frame.Frame.{Frame}
+use Rattle.segments.specs.declared.frame.Frame.{Frame}
 use Rattle.macroblock.specs.StrengthRecords.{strengthFine}
 use Rattle.macroblock.specs.StrengthRecordsLaws.{strength-fine}
-use Rattle.macroblock.specs.Macroblock.{Planes, Finished, finished, levelAt, stepOf}
+use Rattle.segments.specs.Frame.{levelAt}
+use Rattle.macroblock.specs.Macroblock.{Planes, Finished, finished, stepOf}
 use Rattle.macroblock.specs.StepLaws.{step-both}
 
 pub step-strength : (s : List ℕ) (r : Reader) (tokens : List ℕ) (t : Reader) (h : List ℤ) (table : List ℕ) (f : Frame) (top left : Context) (w column row : ℕ) (p : Planes) {x : Finished}

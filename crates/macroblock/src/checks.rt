@@ -1,9 +1,9 @@
 // Whether the arguments of a macroblock lie in their ranges. Nothing is multiplied before it is known to be small.
-use crate::frame::Frame;
 use modes::columns::Context;
 use modes::columns::context_fine;
 use reader::boolean::Reader;
 use reader::boolean::valid;
+use segments::frame::Frame;
 ghost use mathlib.Core.Path.{_≡_};
 ghost use Prim.Native.Nat.{_*_, _≤_};
 ghost use Rattle.macroblock.specs.Macroblock.{levelsFine, readyOf, laidOf};

@@ -2,7 +2,6 @@
 // contexts that it leaves. Where a byte is missing nothing is written.
 use crate::checks::laid;
 use crate::checks::ready;
-use crate::frame::Frame;
 use crate::squares::squares;
 use crate::strengths::Strength;
 use crate::strengths::Strengths;
@@ -15,6 +14,7 @@ use modes::columns::right;
 use modes::whole::read_modes;
 use reader::boolean::Reader;
 use residual::Ended;
+use segments::frame::Frame;
 use segments::quantizers::Factors;
 ghost use mathlib.Core.Path.{_≡_};
 ghost use mathlib.Core.Bool.{Bool, not, _||_};
@@ -25,7 +25,8 @@ ghost use Rattle.modes.specs.ModesLaws.{InRange};
 ghost use Rattle.modes.specs.Answers.{macroblockOf};
 ghost use Rattle.residual.specs.Residual.{residualOf};
 ghost use Rattle.macroblock.specs.Strengths.{noStrength, strengthOf};
-ghost use Rattle.macroblock.specs.Macroblock.{Ready, Tokens, Laid, levelAt, endedOf, tokensOf, factorsAt, wholeOf, decodeOf, nothing};
+ghost use Rattle.segments.specs.Frame.{levelAt, factorsAt};
+ghost use Rattle.macroblock.specs.Macroblock.{Ready, Tokens, Laid, endedOf, tokensOf, wholeOf, decodeOf, nothing};
 
 // Finished, with the readers after it; or where it stopped: its modes (6) or its tokens (7) ran out; or an argument (9).
 pub enum Finish {

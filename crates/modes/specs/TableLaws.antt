@@ -35,6 +35,11 @@ entry-in i h =
     let e = all-of (λ x. leb 1 x && ltb x 256) rfcTable 0 rfc-entries i (rw rfc-length h) in
     (leb-true 1 (getD rfcTable i 0) (both-left _ _ e), ltb-true (getD rfcTable i 0) 256 (both-right (leb 1 (getD rfcTable i 0)) _ e))
 
+-- the test of a whole table: each of its 900 numbers is the RFC's, with both modes renumbered
+pub record Renumbered (t : List ℕ) : Type 0 where
+  pub same : permuted t rfcTable rfcPlace ≡ true
+  pub long : length t ≡ 900
+
 module _ (above left : ℕ) where
   pub probabilities-length : length (probabilities above left) ≡ 9
   unfolding probabilities
@@ -75,5 +80,5 @@ module _ (above left : ℕ) where
 
   -- THE LAW of the code's table: where one test finds it to be the RFC's with both modes renumbered, its nine numbers for two modes,
   -- from k up to m, are the RFC's for them
-  pub part-is : (t : List ℕ) → permuted t rfcTable rfcPlace ≡ true → length t ≡ 900 → above < 10 → left < 10 → (k m : ℕ) → k ≡ at above left → m ≡ k + 9 → take (m - k) (drop k t) ≡ probabilities above left
-  part-is t e n a l k m h g = let d : m - k ≡ 9 = omega arith in rw (d, h) (nine-are t e n a l)
+  pub part-is : {t : List ℕ} → Renumbered t → above < 10 → left < 10 → (k m : ℕ) → k ≡ at above left → m ≡ k + 9 → take (m - k) (drop k t) ≡ probabilities above left
+  part-is {t} e a l k m h g = let d : m - k ≡ 9 = omega arith in rw (d, h) (nine-are t (e .same) (e .long) a l)

@@ -17,6 +17,7 @@ ghost use Rattle.reader.specs.Trees.{walk};
 ghost use Rattle.modes.specs.Modes.{bTree, blockMode, aboveOf, leftOf, zeros, smallModes};
 ghost use Rattle.modes.specs.Answers.{toMode, toSixteen, contextsOf, blockAnswer, smallAnswer};
 ghost use Rattle.modes.specs.ModesLaws.{Modes};
+ghost use Rattle.modes.specs.TableLaws.{Renumbered};
 
 // Where the nine probabilities stand.
 fn place(top: u8, left: u8) -> usize
@@ -110,15 +111,23 @@ fn small_mode(s: &[u8], r: Reader, probs: &[u8]) -> Mode
     }
 }
 
+// The table as a value: it is made once for a macroblock, since a constant is written out wherever it is used.
+fn all_probabilities() -> [u8; 900]
+    ensures { λ r. ⌜ Renumbered r ⌝ }
+{
+    BMODE
+}
+
 // The nine probabilities are lent from the table, not copied.
-fn block(s: &[u8], r: Reader, top: u8, left: u8) -> Mode
+fn block(s: &[u8], r: Reader, top: u8, left: u8, all: &[u8]) -> Mode
     requires { ⌜ Valid (now s) r ⌝ }
     requires { ⌜ (top < 10) × (left < 10) ⌝ }
+    requires { ⌜ Renumbered (now all) ⌝ }
     ensures { λ q. ⌜ q ≡ toMode (run (blockMode top left) (now (s .entry)) r) ⌝ }
 {
     let at = place(top, left);
     let end = at + 9;
-    small_mode(s, r, &BMODE[at..end])
+    small_mode(s, r, &all[at..end])
 }
 
 // A small mode, between the mode above it and the mode left of it.
@@ -134,7 +143,8 @@ pub fn block_mode(s: &[u8], r: Reader, top: u8, left: u8) -> Mode
     if 10 <= left {
         return Mode::Refused;
     }
-    block(s, r, top, left)
+    let all = all_probabilities();
+    block(s, r, top, left, &all)
 }
 
 // The mode above small block i, and the mode left of it.
@@ -164,13 +174,14 @@ pub(crate) fn sixteen(s: &[u8], r: Reader, top: &[u8; 4], left: &[u8; 4]) -> Six
     requires { ⌜ Modes (now top) × Modes (now left) ⌝ }
     ensures { λ q. ⌜ q ≡ toSixteen zeros (run (smallModes (now (top .entry)) (now (left .entry))) (now (s .entry)) r) ⌝ }
 {
+    let all = all_probabilities();
     let mut modes = [0u8; 16];
     let mut t = r;
     let mut i = 0;
     while i < 16 {
         let up = above(top, &modes, i);
         let by = beside(left, &modes, i);
-        let Mode::Read(m, next) = block(s, t, up, by) else {
+        let Mode::Read(m, next) = block(s, t, up, by, &all) else {
             return Sixteen {
                 answer: Next::Missing,
                 modes: [0u8; 16],

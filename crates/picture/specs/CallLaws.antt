@@ -8,15 +8,15 @@ use lib.ListN.{length, getD, replicate, length-replicate}
 use Rattle.reader.specs.declared.boolean.Reader.{Reader}
 use Rattle.reader.specs.Boolean.{noReader}
 use Rattle.reader.specs.BooleanLaws.{Bytes}
-use Rattle.coefficients.specs.declared.tokens.Table.{Table}
-use Rattle.coefficients.specs.Tokens.{headerTable, tableOf}
-use Rattle.coefficients.specs.TokenSteps.{table-done}
+use Rattle.reader.specs.declared.tokens.Table.{Table}
+use Rattle.reader.specs.Tokens.{headerTable, tableOf}
+use Rattle.reader.specs.TokenSteps.{table-done}
 use Rattle.modes.specs.Records.{emptyContext}
 use Rattle.modes.specs.RecordsLaws.{columns-empty}
-use Rattle.macroblock.specs.declared.frame.Framed.{Framed}
-use Rattle.macroblock.specs.declared.frame.Frame.{Frame}
-use Rattle.macroblock.specs.Frame.{frameOf, framedOf}
-use Rattle.macroblock.specs.FrameLaws.{frame-good}
+use Rattle.segments.specs.declared.frame.Framed.{Framed}
+use Rattle.segments.specs.declared.frame.Frame.{Frame}
+use Rattle.segments.specs.Frame.{frameOf, framedOf}
+use Rattle.segments.specs.FrameLaws.{frame-good}
 use Rattle.picture.specs.declared.rows.Decoded.{Decoded}
 use Rattle.picture.specs.declared.rows.Decoded.the-variants as D
 use Rattle.picture.specs.Memory.{Memory, sizesOf, blankOf}

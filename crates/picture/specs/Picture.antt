@@ -7,11 +7,11 @@ use lib.IntN.{ℤ}
 use lib.ListN.{getD, set}
 use Rattle.reader.specs.declared.boolean.Reader.{Reader}
 use Rattle.reader.specs.Boolean.{noReader}
-use Rattle.coefficients.specs.Tokens.{headerTable}
+use Rattle.reader.specs.Tokens.{headerTable}
 use Rattle.modes.specs.declared.columns.Context.{Context}
 use Rattle.modes.specs.Answers.{kindsOf}
 use Rattle.modes.specs.Records.{columnAt, columnSet, modeSet, emptyContext}
-use Rattle.macroblock.specs.Frame.{frameOf}
+use Rattle.segments.specs.Frame.{frameOf}
 use Rattle.macroblock.specs.Macroblock.{Planes, Finished, Step, finished, no-modes, no-tokens, stepOf}
 use Rattle.macroblock.specs.StrengthRecords.{strengthSet}
 use Rattle.picture.specs.declared.rows.Decoded.{Decoded}

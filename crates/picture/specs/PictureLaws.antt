@@ -13,16 +13,16 @@ use Rattle.numbers.specs.Tests.{eq-or, both-left, both-right}
 use Rattle.reader.specs.declared.boolean.Reader.{Reader}
 use Rattle.reader.specs.Boolean.{noReader}
 use Rattle.reader.specs.BooleanLaws.{Bytes, Valid}
-use Rattle.coefficients.specs.Tokens.{headerTable}
-use Rattle.coefficients.specs.TokenLaws.{length-header, header-bytes}
+use Rattle.reader.specs.Tokens.{headerTable}
+use Rattle.reader.specs.TokenLaws.{length-header, header-bytes}
 use Rattle.modes.specs.declared.columns.Context.{Context}
 use Rattle.modes.specs.Records.{columnAt, columnSet, modeSet, contextFine, emptyContext}
 use Rattle.modes.specs.RecordsLaws.{Sized, Columns, columns-set, column-set-length, mode-set-length, column-sized, contexts-fine}
-use Rattle.macroblock.specs.declared.frame.Frame.{Frame}
-use Rattle.macroblock.specs.Frame.{frameOf}
+use Rattle.segments.specs.declared.frame.Frame.{Frame}
+use Rattle.segments.specs.Frame.{frameOf}
 use Rattle.macroblock.specs.Macroblock.{Planes, Finished, Step, finished, no-modes, no-tokens, stepOf, Ready, Laid}
 use Rattle.macroblock.specs.DecodeLaws.{flags-of}
-use Rattle.macroblock.specs.FrameLaws.{frame-levels}
+use Rattle.segments.specs.FrameLaws.{frame-levels}
 use Rattle.macroblock.specs.StrengthRecordsLaws.{strength-set-length}
 use Rattle.picture.specs.declared.rows.Decoded.the-variants as D
 use Rattle.picture.specs.Memory.{Memory}

@@ -22,7 +22,7 @@ use Rattle.macroblock.specs.declared.whole.Finish.{Finish}
 use Rattle.macroblock.specs.declared.whole.Finish.the-variants as F
 use Rattle.macroblock.specs.declared.whole.Whole.{Whole}
 use Rattle.macroblock.specs.declared.records.Kept.{Kept}
-use Rattle.macroblock.specs.declared.frame.Frame.{Frame}
+use Rattle.segments.specs.declared.frame.Frame.{Frame}
 use Rattle.macroblock.specs.DecodeLaws.{decode-good}
 use Rattle.macroblock.specs.StepLaws.{whole-step, step-ends, step-outside}
 use Rattle.macroblock.specs.StepRecords.{step-strength}

@@ -13,9 +13,9 @@ use crate::partitions::part;
 use crate::rows::Decoded;
 use crate::rows::ended;
 use crate::rows::rows;
-use coefficients::tokens::probabilities;
-use macroblock::frame::take;
 use reader::boolean::Reader;
+use reader::tokens::probabilities;
+use segments::frame::take;
 ghost use mathlib.Core.Path.{_≡_};
 ghost use Rattle.picture.specs.Picture.{Ended, pictureOf};
 

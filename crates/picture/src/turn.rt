@@ -1,6 +1,5 @@
 // One macroblock in its place: the context above it from column memory, then its modes, samples, strengths and what it leaves
 // below it and to its right. Where a byte is missing nothing is written.
-use macroblock::frame::Frame;
 use macroblock::records::write_strength;
 use macroblock::whole::Finish;
 use macroblock::whole::decode;
@@ -9,6 +8,7 @@ use modes::columns::read_column;
 use modes::columns::write_column;
 use modes::records::write_mode_record;
 use reader::boolean::Reader;
+use segments::frame::Frame;
 ghost use mathlib.Core.Path.{_≡_};
 ghost use Prim.Native.Nat.{_<_, _/_};
 ghost use lib.ListN.{length};

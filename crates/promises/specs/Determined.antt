@@ -15,8 +15,8 @@ use Rattle.reader.specs.declared.boolean.Reader.{Reader}
 use Rattle.segments.specs.Levels.{levelAnswer}
 use Rattle.segments.specs.Quantizers.{quantizersOf}
 use Rattle.segments.specs.declared.quantizers.Factors.{Factors}
-use Rattle.coefficients.specs.Tokens as Tokens
-use Rattle.coefficients.specs.Tokens.{numberAnswer, signedAnswer, tableOf}
+use Rattle.reader.specs.Tokens as Tokens
+use Rattle.reader.specs.Tokens.{numberAnswer, signedAnswer, tableOf}
 use Rattle.coefficients.specs.Transform.{transformOf}
 use Rattle.kernel.specs.Kernel.{filterOf, pixelOf}
 use Rattle.modes.specs.Answers.{prefixAnswer, mainAnswer, blockAnswer, smallAnswer, modesAnswer}
@@ -27,12 +27,12 @@ use Rattle.modes.specs.declared.answers.Kinds.{Kinds}
 use Rattle.modes.specs.declared.columns.Context.{Context}
 use Rattle.residual.specs.Residual as Residual
 use Rattle.planes.specs.Paint.{paintOf}
-use Rattle.macroblock.specs.Frame.{framedOf}
+use Rattle.segments.specs.Frame.{framedOf}
 use Rattle.macroblock.specs.Macroblock as Macroblock
 use Rattle.macroblock.specs.Macroblock.{Planes}
 use Rattle.macroblock.specs.StrengthRecords.{strengthWritten}
 use Rattle.macroblock.specs.Strengths.{strengthAnswer}
-use Rattle.macroblock.specs.declared.frame.Frame.{Frame}
+use Rattle.segments.specs.declared.frame.Frame.{Frame}
 use Rattle.macroblock.specs.declared.strengths.Strength.{Strength}
 use Rattle.picture.specs.Checks.{Tile}
 use Rattle.picture.specs.Memory.{Memory}
@@ -93,6 +93,21 @@ reader-entries-fine h = determined (entriesOf h)
 pub reader-header-fine : (h : List ℤ) → One (λ x. x ≡ headerOf h)
 reader-header-fine h = determined (headerOf h)
 
+pub reader-number : (s : List ℕ) (token : ℕ) (r : Reader) → One (λ x. x ≡ numberAnswer s token r)
+reader-number s token r = determined (numberAnswer s token r)
+
+pub reader-dequant : (s : List ℕ) (token q : ℕ) (r : Reader) → One (λ x. x ≡ signedAnswer s token q r)
+reader-dequant s token q r = determined (signedAnswer s token q r)
+
+pub reader-probabilities : (h : List ℤ) → One (λ x. x ≡ tableOf h)
+reader-probabilities h = determined (tableOf h)
+
+pub reader-decode : (s : List ℕ) (r : Reader) (table : List ℕ) (kind ctx first q0 q1 : ℕ) (out : List ℤ) → One (λ x. x ≡ Tokens.decodeOf s r table kind ctx first q0 q1 out)
+reader-decode s r table kind ctx first q0 q1 out = determined (Tokens.decodeOf s r table kind ctx first q0 q1 out)
+
+pub reader-decode-header : (s : List ℕ) (r : Reader) (h : List ℤ) (kind ctx first q0 q1 : ℕ) (out : List ℤ) → One (λ x. x ≡ Tokens.decodeHeaderOf s r h kind ctx first q0 q1 out)
+reader-decode-header s r h kind ctx first q0 q1 out = determined (Tokens.decodeHeaderOf s r h kind ctx first q0 q1 out)
+
 -- ---- segments
 pub segments-for-segment : (h : List ℤ) (segment : ℕ) → One (λ x. x ≡ quantizersOf h segment)
 segments-for-segment h segment = determined (quantizersOf h segment)
@@ -100,22 +115,10 @@ segments-for-segment h segment = determined (quantizersOf h segment)
 pub segments-for-macroblock : (h : List ℤ) (segment : ℕ) (small : Bool) → One (λ x. x ≡ levelAnswer h segment small)
 segments-for-macroblock h segment small = determined (levelAnswer h segment small)
 
+pub segments-take : (h : List ℤ) → One (λ x. x ≡ framedOf h)
+segments-take h = determined (framedOf h)
+
 -- ---- coefficients
-pub coefficients-number : (s : List ℕ) (token : ℕ) (r : Reader) → One (λ x. x ≡ numberAnswer s token r)
-coefficients-number s token r = determined (numberAnswer s token r)
-
-pub coefficients-dequant : (s : List ℕ) (token q : ℕ) (r : Reader) → One (λ x. x ≡ signedAnswer s token q r)
-coefficients-dequant s token q r = determined (signedAnswer s token q r)
-
-pub coefficients-probabilities : (h : List ℤ) → One (λ x. x ≡ tableOf h)
-coefficients-probabilities h = determined (tableOf h)
-
-pub coefficients-decode : (s : List ℕ) (r : Reader) (table : List ℕ) (kind ctx first q0 q1 : ℕ) (out : List ℤ) → One (λ x. x ≡ Tokens.decodeOf s r table kind ctx first q0 q1 out)
-coefficients-decode s r table kind ctx first q0 q1 out = determined (Tokens.decodeOf s r table kind ctx first q0 q1 out)
-
-pub coefficients-decode-header : (s : List ℕ) (r : Reader) (h : List ℤ) (kind ctx first q0 q1 : ℕ) (out : List ℤ) → One (λ x. x ≡ Tokens.decodeHeaderOf s r h kind ctx first q0 q1 out)
-coefficients-decode-header s r h kind ctx first q0 q1 out = determined (Tokens.decodeHeaderOf s r h kind ctx first q0 q1 out)
-
 pub coefficients-transform : (c : List ℤ) (walsh : Bool) → One (λ x. x ≡ transformOf c walsh)
 coefficients-transform c walsh = determined (transformOf c walsh)
 
@@ -178,9 +181,6 @@ pub planes-paint : (plane : List ℕ) (stride column row size : ℕ) (small : Bo
 planes-paint plane stride column row size small mode modes coefficients = determined (paintOf plane stride column row size small mode modes coefficients)
 
 -- ---- macroblock
-pub macroblock-take : (h : List ℤ) → One (λ x. x ≡ framedOf h)
-macroblock-take h = determined (framedOf h)
-
 pub macroblock-at-level : (level sharp : ℕ) (inside : Bool) → One (λ x. x ≡ strengthAnswer level sharp inside)
 macroblock-at-level level sharp inside = determined (strengthAnswer level sharp inside)
 

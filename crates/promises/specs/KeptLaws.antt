@@ -7,13 +7,13 @@ use lib.ListN.{getD}
 use Rattle.numbers.specs.Runs.{Off}
 use Rattle.reader.specs.Boolean.{noReader}
 use Rattle.reader.specs.BooleanLaws.{Bytes}
-use Rattle.coefficients.specs.Tokens.{headerTable}
-use Rattle.coefficients.specs.TokenLaws.{header-bytes}
+use Rattle.reader.specs.Tokens.{headerTable}
+use Rattle.reader.specs.TokenLaws.{header-bytes}
 use Rattle.modes.specs.Answers.{kindsOf}
 use Rattle.modes.specs.Records.{columnAt}
 use Rattle.modes.specs.RecordsLaws.{mode-set-off}
 use Rattle.planes.specs.Places.{Outside}
-use Rattle.macroblock.specs.Frame.{frameOf}
+use Rattle.segments.specs.Frame.{frameOf}
 use Rattle.macroblock.specs.Macroblock.{Finished, Step, finished, no-modes, no-tokens}
 use Rattle.macroblock.specs.StepLaws.{Kept, Elsewhere, step-outside}
 use Rattle.macroblock.specs.StrengthRecordsLaws.{strength-set-off}

@@ -5,13 +5,14 @@ use lib.ListN.{getD}
 use Rattle.reader.specs.declared.boolean.Reader.{Reader}
 use Rattle.reader.specs.Boolean.{Given, given, missing, noReader}
 use Rattle.reader.specs.Reading.{run}
-use Rattle.coefficients.specs.Tokens.{headerTable}
+use Rattle.reader.specs.Tokens.{headerTable}
 use Rattle.modes.specs.declared.columns.Context.{Context}
 use Rattle.modes.specs.Modes.{Macroblock, modesOf}
 use Rattle.modes.specs.Records.{columnAt}
 use Rattle.residual.specs.Residual.{Model, residualOf}
-use Rattle.macroblock.specs.Frame.{frameOf}
-use Rattle.macroblock.specs.Macroblock.{Finished, finished, factorsAt}
+use Rattle.segments.specs.Frame.{frameOf}
+use Rattle.segments.specs.Frame.{factorsAt}
+use Rattle.macroblock.specs.Macroblock.{Finished, finished}
 use Rattle.picture.specs.declared.rows.Decoded.the-variants as D
 use Rattle.picture.specs.Picture.{Picture, State, Ended, columnOf, partitionOf, besideOf, stepAt, nextOf}
 

@@ -7,9 +7,9 @@ use mathlib.Core.Logic.{_⊎_, inl, inr}
 use Rattle.numbers.specs.Tests.{lt-or}
 use Rattle.reader.specs.declared.boolean.Reader.{Reader}
 use Rattle.reader.specs.Boolean.{given, missing, noReader}
-use Rattle.coefficients.specs.Tokens.{headerTable}
+use Rattle.reader.specs.Tokens.{headerTable}
 use Rattle.modes.specs.Modes.{Macroblock}
-use Rattle.macroblock.specs.Frame.{frameOf}
+use Rattle.segments.specs.Frame.{frameOf}
 use Rattle.macroblock.specs.Macroblock.{Finished, Step, finished, no-modes, no-tokens}
 use Rattle.macroblock.specs.StepLaws.{NoTokens, step-no-modes, step-no-tokens, step-refused-modes, step-refused-tokens}
 use Rattle.picture.specs.declared.rows.Decoded.the-variants as D

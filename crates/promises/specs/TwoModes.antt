@@ -6,12 +6,12 @@ use native.Mathlib.Omega.{arith}
 use lib.ListN.{getD}
 use Rattle.numbers.specs.Tests.{eq-or}
 use Rattle.reader.specs.Boolean.{noReader}
-use Rattle.coefficients.specs.Tokens.{headerTable}
+use Rattle.reader.specs.Tokens.{headerTable}
 use Rattle.modes.specs.declared.columns.Context.{Context}
 use Rattle.modes.specs.Answers.{kindsOf}
 use Rattle.modes.specs.Records.{columnAt, columnSet, modeSet}
 use Rattle.modes.specs.RecordsLaws.{column-back, column-other}
-use Rattle.macroblock.specs.Frame.{frameOf}
+use Rattle.segments.specs.Frame.{frameOf}
 use Rattle.macroblock.specs.Macroblock.{Finished, finished, stepOf}
 use Rattle.macroblock.specs.StepLaws.{SameModes, step-modes-only-first}
 use Rattle.picture.specs.Picture.{Picture, State, columnOf, rowOf, partitionOf, besideOf, planesOf, stepAt, nextOf}

@@ -7,9 +7,9 @@ use lib.ListN.{length, getD, set, length-set}
 use lib.Seq.{getD-set-same, getD-set-other}
 use Rattle.numbers.specs.Tests.{lt-or, eq-or}
 use Rattle.reader.specs.Boolean.{noReader}
-use Rattle.coefficients.specs.Tokens.{headerTable}
+use Rattle.reader.specs.Tokens.{headerTable}
 use Rattle.modes.specs.Records.{columnAt}
-use Rattle.macroblock.specs.Frame.{frameOf}
+use Rattle.segments.specs.Frame.{frameOf}
 use Rattle.macroblock.specs.Macroblock.{Finished, Step, no-modes, no-tokens, stepOf}
 use Rattle.picture.specs.declared.rows.Decoded.{Decoded}
 use Rattle.picture.specs.declared.rows.Decoded.the-variants as D

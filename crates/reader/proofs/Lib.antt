@@ -1,2 +1,4 @@
 pub mod Answers
 pub mod Turns
+pub mod TokenAnswers
+pub mod TokenTurns

@@ -56,7 +56,7 @@ fn times(x: u32, k: u32) -> u32
     x << k
 }
 
-// All the doublings at once, with at most one load.
+// All the doublings at once, with at most one load. Where there are none, nothing is counted: that is every other symbol.
 fn grown(s: &[u8], bit: bool, r: Reader) -> Symbol
     requires { ⌜ From 1 (now s) r ⌝ }
     ensures { λ q. ⌜ q ≡ toSymbol (grow 7 (now (s .entry)) bit r) ⌝ }
@@ -65,6 +65,9 @@ fn grown(s: &[u8], bit: bool, r: Reader) -> Symbol
     let range = r.range;
     let shifts = r.shifts;
     let window = r.window;
+    if 128 <= range {
+        return Symbol::Got(bit, r);
+    }
     let k = doublings(range);
     let wider = times(range, k);
     let n = shifts + k;
@@ -177,6 +180,20 @@ impl Reader {
         let x = split(range, prob);
         let bit = 256 * x <= window;
         grown(s, bit, part(self, x, bit))
+    }
+
+    // The same, each bit's way by itself: less work where the caller goes by the bit at once, and more code.
+    pub(crate) fn read_apart(self, s: &[u8], prob: u8) -> Symbol
+        requires { ⌜ Valid (now s) self ⌝ }
+        ensures { λ r. ⌜ r ≡ toSymbol (symbolOf (now (s .entry)) self prob) ⌝ }
+    {
+        let range = self.range;
+        let window = self.window;
+        let x = split(range, prob);
+        if 256 * x <= window {
+            return grown(s, true, part(self, x, true));
+        }
+        grown(s, false, part(self, x, false))
     }
 
     // One symbol of probability prob / 256 for a 0, and the reader after it.

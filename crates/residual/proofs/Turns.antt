@@ -14,15 +14,16 @@ use Rattle.reader.specs.Reading.{run, Within, ends}
 use Rattle.reader.specs.ReadingLaws.{Ended, run-valid}
 use Rattle.reader.specs.declared.boolean.Reader.{Reader}
 use Rattle.segments.specs.declared.quantizers.Factors.{Factors}
-use Rattle.coefficients.specs.TokenLaws.{Sixteen, fromBlock, block-within}
+use Rattle.reader.specs.TokenLaws.{Sixteen, fromBlock, block-within}
+use Rattle.reader.specs.Tokens.{block}
 use Rattle.coefficients.specs.Transform.{samplesOf, transformOf}
 use Rattle.coefficients.specs.TransformLaws.{transform-good}
-use Rattle.coefficients.specs.declared.tokens.Block.{Block}
-use Rattle.coefficients.specs.declared.tokens.Block.the-variants as B
+use Rattle.reader.specs.declared.tokens.Block.{Block}
+use Rattle.reader.specs.declared.tokens.Block.the-variants as B
 use Rattle.coefficients.specs.declared.transform.Transformed.{Transformed}
 use Rattle.residual.specs.Residual.{Model, Flags, Whole, initial, coordinates, secondKind, kindOf, flagOf, zeroOf, coded, spread, secondPlace, second, sixteenAt, stored, advance, blocksFrom, dcStage, cleared, residualOf, nothing, toCalled, callOf}
 use Rattle.residual.specs.ResidualLaws.{kind-in, initial-whole, zeros-sixteen, sixteen-in, sixteen-fit, second-within, advance-within}
-use Rattle.residual.specs.ResidualSteps.{modelOf, turnOf, Held, second-missing, second-ended, advance-missing, advance-ended, blocks-none, blocks-missing, blocks-next, residual-skip, residual-missing, residual-next, call-missing, call-handed}
+use Rattle.residual.specs.ResidualSteps.{modelOf, turnOf, Held, coded-at, second-missing, second-ended, advance-missing, advance-ended, blocks-none, blocks-missing, blocks-next, residual-skip, residual-missing, residual-next, call-missing, call-handed}
 use Rattle.residual.specs.declared.Ended.the-variants as E
 use Rattle.residual.specs.declared.Residual.{Residual}
 use Rattle.residual.specs.declared.blocks.Kind.{Kind}
@@ -36,9 +37,9 @@ after m q k p end e = record { reader = q; top = set (m .top) (p .x) (flagOf (lt
 
 module _ (s table : List ℕ) (f : Factors) (m : State) (flat : List ℤ) where
   -- ---- the second-order block
-  module _ {k : Kind} (e : k ≡ secondKind f) (x : Block) (l : List ℤ) (g : run (coded table k secondPlace (m .top) (m .left) (replicate 16 (pos 0))) s (m .reader) ≡ fromBlock l x) where
+  module _ {k : Kind} (e : k ≡ secondKind f) {ctx : ℕ} (n : ctx ≡ getD (m .top) 8 0 + getD (m .left) 8 0) (x : Block) (l : List ℤ) (g : run (block table (k .kind) (k .q0) (k .q1) ctx (k .first) (replicate 16 (pos 0))) s (m .reader) ≡ fromBlock l x) where
     asked : run (coded table (secondKind f) secondPlace (m .top) (m .left) (replicate 16 (pos 0))) s (m .reader) ≡ fromBlock l x
-    asked = rw e at g
+    asked = rw e at (coded-at s (m .reader) table k secondPlace (m .top) (m .left) (replicate 16 (pos 0)) n g)
 
     pub second-lost : fromBlock l x ≡ missing → run (second table f (modelOf m flat)) s (m .reader) ≡ missing
     second-lost h = second-missing table f s (modelOf m flat) (m .reader) (asked ∙ h)
@@ -52,9 +53,9 @@ module _ (s table : List ℕ) (f : Factors) (m : State) (flat : List ℤ) where
         rw (o, e, j, d) (second-ended table f s (modelOf m flat) (m .reader) z)
 
   -- ---- block i
-  module _ (small : Bool) (i : ℕ) {k : Kind} (e : k ≡ kindOf f small i) {p : Place} (a : p ≡ coordinates i) {old : List ℤ} (u : old ≡ sixteenAt flat (16 * i)) (x : Block) (l : List ℤ) (g : run (coded table k p (m .top) (m .left) old) s (m .reader) ≡ fromBlock l x) where
+  module _ (small : Bool) (i : ℕ) {k : Kind} (e : k ≡ kindOf f small i) {p : Place} (a : p ≡ coordinates i) {old : List ℤ} (u : old ≡ sixteenAt flat (16 * i)) {ctx : ℕ} (n : ctx ≡ getD (m .top) (p .x) 0 + getD (m .left) (p .y) 0) (x : Block) (l : List ℤ) (g : run (block table (k .kind) (k .q0) (k .q1) ctx (k .first) old) s (m .reader) ≡ fromBlock l x) where
     wanted : run (coded table (kindOf f small i) (coordinates i) (m .top) (m .left) (sixteenAt flat (16 * i))) s (m .reader) ≡ fromBlock l x
-    wanted = rw (e, a, u) at g
+    wanted = rw (e, a, u) at (coded-at s (m .reader) table k p (m .top) (m .left) old n g)
 
     pub advance-lost : fromBlock l x ≡ missing → run (advance table f small i (modelOf m flat)) s (m .reader) ≡ missing
     advance-lost h = advance-missing table f s (modelOf m flat) (m .reader) small i (wanted ∙ h)

@@ -25,12 +25,12 @@ use Rattle.segments.specs.QuantizersLaws.{segment-ready, segment-refused}
 use Rattle.segments.specs.declared.quantizers.Factors.{Factors}
 use Rattle.segments.specs.declared.quantizers.Quantizers.{Quantizers}
 use Rattle.segments.specs.declared.quantizers.Quantizers.the-variants as Q
-use Rattle.coefficients.specs.TokenLaws.{Sixteen, fromBlock, decoded}
-use Rattle.coefficients.specs.TokenSteps.{table-done}
-use Rattle.coefficients.specs.Tokens.{Coefficients, headerTable, tableOf}
-use Rattle.coefficients.specs.Tokens as tokens
-use Rattle.coefficients.specs.declared.tokens.Block.{Block}
-use Rattle.coefficients.specs.declared.tokens.Table.{Table}
+use Rattle.reader.specs.TokenLaws.{Sixteen, fromBlock, decoded}
+use Rattle.reader.specs.TokenSteps.{table-done}
+use Rattle.reader.specs.Tokens.{Coefficients, block, headerTable, tableOf}
+use Rattle.reader.specs.Tokens as tokens
+use Rattle.reader.specs.declared.tokens.Block.{Block}
+use Rattle.reader.specs.declared.tokens.Table.{Table}
 use Rattle.coefficients.specs.Transform.{samplesOf}
 use Rattle.residual.specs.Residual.{Model, Flags, Whole, initial, coordinates, secondKind, kindOf, coded, flagged, spread, secondPlace, second, sixteenAt, stored, emptyOf, advance, blocksFrom, dcStage, cleared, residualOf, nothing, toCalled, flagsOf, argumentsOf, callOf, decodeOf, decodeHeaderOf}
 use Rattle.residual.specs.declared.Ended.the-variants as E
@@ -67,11 +67,15 @@ unfolding spread
 spread-next p dc k e h = rw add-one (ap₂ (λ (x : List ℤ) (y : ℤ). set x (16 * k) y) e h)
 
 -- ---- a block that the checked call read, in the context that the code worked out
-pub coded-read : (s : List ℕ) (r : Reader) (table : List ℕ) (k : Kind) (p : Place) (top left : List ℕ) (old : List ℤ) → Valid s r → length table ≡ 1056 → (k .kind < 4) × (k .first ≤ 1) → Sixteen old
-    → {ctx : ℕ} → (ctx ≡ getD top (p .x) 0 + getD left (p .y) 0) × (ctx < 3) → {x : Block} {l : List ℤ} → record { answer = x; out = l } ≡ tokens.decodeOf s r table (k .kind) ctx (k .first) (k .q0) (k .q1) old
-    → run (coded table k p top left old) s r ≡ fromBlock l x
-coded-read s r table k p top left old v n g o {ctx} h {x} {l} e =
-    rw (← (h .0)) (decoded s r table (k .kind) ctx (k .first) (k .q0) (k .q1) old v (record { size = n; kinds = g .0; near = h .1; start = g .1; each = o .each }) e)
+pub coded-read : (s : List ℕ) (r : Reader) (table : List ℕ) (k : Kind) (ctx : ℕ) (old : List ℤ) → Valid s r → length table ≡ 1056 → (k .kind < 4) × (k .first ≤ 1) → ctx < 3 → Sixteen old
+    → {x : Block} {l : List ℤ} → record { answer = x; out = l } ≡ tokens.decodeOf s r table (k .kind) ctx (k .first) (k .q0) (k .q1) old
+    → run (block table (k .kind) (k .q0) (k .q1) ctx (k .first) old) s r ≡ fromBlock l x
+coded-read s r table k ctx old v n g h o e =
+    decoded s r table (k .kind) ctx (k .first) (k .q0) (k .q1) old v (record { size = n; kinds = g .0; near = h; start = g .1; each = o .each }) e
+
+pub coded-at : (s : List ℕ) (r : Reader) (table : List ℕ) (k : Kind) (p : Place) (top left : List ℕ) (old : List ℤ) {ctx : ℕ} → ctx ≡ getD top (p .x) 0 + getD left (p .y) 0
+    → {g : Given Coefficients} → run (block table (k .kind) (k .q0) (k .q1) ctx (k .first) old) s r ≡ g → run (coded table k p top left old) s r ≡ g
+coded-at s r table k p top left old h e = rw (← h) e
 
 module _ (table : List ℕ) (f : Factors) (s : List ℕ) (m : Model) (r : Reader) where
   -- ---- the second-order block

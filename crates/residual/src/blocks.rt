@@ -8,20 +8,21 @@ use crate::contexts::near;
 use crate::flat::sixteen;
 use crate::flat::spread;
 use crate::flat::store;
-use coefficients::tokens::Block;
-use coefficients::tokens::decode;
 use coefficients::transform::transform;
 use reader::boolean::Reader;
+use reader::tokens::Block;
+use reader::tokens::decode;
 use segments::quantizers::Factors;
 ghost use mathlib.Core.Path.{_≡_};
 ghost use mathlib.Core.Bool.{true};
-ghost use Prim.Native.Nat.{_<_, _≤_};
+ghost use Prim.Native.Nat.{_+_, _<_, _≤_};
 ghost use lib.IntN.{pos};
-ghost use lib.ListN.{length, set, replicate};
+ghost use lib.ListN.{length, getD, set, replicate};
 ghost use Rattle.reader.specs.BooleanLaws.{Valid};
 ghost use Rattle.reader.specs.Reading.{run};
-ghost use Rattle.coefficients.specs.TokenLaws.{Sixteen, fromBlock};
-ghost use Rattle.residual.specs.Residual.{Flags, cleared, secondKind, kindOf, flagOf, zeroOf, coded, second, advance, blocksFrom, dcStage, residualOf};
+ghost use Rattle.reader.specs.TokenLaws.{Sixteen, fromBlock};
+ghost use Rattle.reader.specs.Tokens.{block};
+ghost use Rattle.residual.specs.Residual.{Flags, cleared, secondKind, kindOf, flagOf, zeroOf, second, advance, blocksFrom, dcStage, residualOf};
 ghost use Rattle.residual.specs.ResidualSteps.{Held, modelOf, turnOf};
 
 // What a block's tokens go by: the kind of its probabilities, its first position, and what its numbers are multiplied by.
@@ -84,17 +85,23 @@ fn kind_of(f: Factors, small: bool, i: usize) -> Kind
     }
 }
 
-// One block in the context of its flags.
-fn read_coded(s: &[u8], table: &[u8], m: State, k: Kind, p: Place, c: &mut [i32; 16]) -> Block
-    requires { ⌜ Valid (now s) (m .reader) × (length (now table) ≡ 1056) ⌝ }
+// The context of a block: how many of its two flags are 1.
+fn context_at(m: State, p: Place) -> usize
     requires { ⌜ (Flags (m .top) × Flags (m .left)) × ((p .x < 9) × (p .y < 9)) ⌝ }
-    requires { ⌜ ((k .kind < 4) × (k .first ≤ 1)) × Sixteen (now c) ⌝ }
-    ensures { λ a. ⌜ run (coded (now (table .entry)) k p (m .top) (m .left) (now (c .entry))) (now (s .entry)) (m .reader) ≡ fromBlock (now (c .exit)) a ⌝ }
+    ensures { λ r. ⌜ (r ≡ getD (m .top) (p .x) 0 + getD (m .left) (p .y) 0) × (r < 3) ⌝ }
 {
     let top = m.top;
     let left = m.left;
-    let r = m.reader;
-    let ctx = near(top, left, p.x, p.y);
+    near(top, left, p.x, p.y)
+}
+
+// One block in its context. The state is not handed on: only its reader is needed.
+fn read_coded(s: &[u8], table: &[u8], r: Reader, k: Kind, ctx: usize, c: &mut [i32; 16]) -> Block
+    requires { ⌜ Valid (now s) r × (length (now table) ≡ 1056) ⌝ }
+    requires { ⌜ ((k .kind < 4) × (k .first ≤ 1)) × (ctx < 3) ⌝ }
+    requires { ⌜ Sixteen (now c) ⌝ }
+    ensures { λ a. ⌜ run (block (now (table .entry)) (k .kind) (k .q0) (k .q1) ctx (k .first) (now (c .entry))) (now (s .entry)) r ≡ fromBlock (now (c .exit)) a ⌝ }
+{
     decode(s, r, table, k.kind, ctx, k.first, k.q0, k.q1, c)
 }
 
@@ -122,8 +129,9 @@ fn read_second(s: &[u8], table: &[u8], f: Factors, m: State, flat: &mut [i32]) -
 {
     let k = second_kind(f);
     let p = Place { x: 8, y: 8 };
+    let ctx = context_at(m, p);
     let mut c = [0; 16];
-    let Block::Ended(end, r) = read_coded(s, table, m, k, p, &mut c) else {
+    let Block::Ended(end, r) = read_coded(s, table, m.reader, k, ctx, &mut c) else {
         return Turn {
             ended: false,
             state: m,
@@ -160,8 +168,9 @@ fn block(
 {
     let k = kind_of(f, small, i);
     let p = location(i);
+    let ctx = context_at(m, p);
     let mut c = sixteen(flat, 16 * i);
-    let Block::Ended(end, r) = read_coded(s, table, m, k, p, &mut c) else {
+    let Block::Ended(end, r) = read_coded(s, table, m.reader, k, ctx, &mut c) else {
         return Turn {
             ended: false,
             state: m,

@@ -3,3 +3,5 @@ pub mod Quantizers
 pub mod QuantizersLaws
 pub mod Levels
 pub mod LevelsLaws
+pub mod Frame
+pub mod FrameLaws

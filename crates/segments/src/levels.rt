@@ -39,7 +39,7 @@ fn shifted(level: u8, by: i32) -> u8
     clamp_to(level as i32 + by, 63)
 }
 
-fn leveled(h: &[i32], segment: usize, small: bool) -> u8
+pub(crate) fn leveled(h: &[i32], segment: usize, small: bool) -> u8
     requires { ⌜ (length (now h) ≡ 1096) × (segment < 4) ⌝ }
     requires { ⌜ Each (negsuc 254) (pos 255) (now h) ⌝ }
     ensures { λ r. ⌜ r ≡ levelOf (now (h .entry)) segment small ⌝ }

@@ -351,7 +351,7 @@ fn base(h: &[i32], segment: usize) -> u8
     clamp_to(segmented(h, 31, 6 + segment), 127)
 }
 
-fn six(h: &[i32], segment: usize) -> Factors
+pub(crate) fn six(h: &[i32], segment: usize) -> Factors
     requires { ⌜ (length (now h) ≡ 1096) × (segment < 4) ⌝ }
     requires { ⌜ Each (negsuc 254) (pos 255) (now h) ⌝ }
     ensures { λ r. ⌜ r ≡ factorsOf (now (h .entry)) segment ⌝ }

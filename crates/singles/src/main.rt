@@ -1,9 +1,6 @@
 // Decodes single macroblocks and prints what each gives: the answer's number, the sums of the three planes, the strengths, the
 // modes, what is left for the macroblocks around it, and where the readers stand. Standard input is a header and a list of cases;
 // tools/singles.py, which also made the expected lines, says how.
-use coefficients::tokens::probabilities;
-use macroblock::frame::Frame;
-use macroblock::frame::take;
 use macroblock::strengths::Strength;
 use macroblock::whole::Finish;
 use macroblock::whole::Whole;
@@ -14,6 +11,9 @@ use modes::columns::read_column;
 use reader::boolean::Opened;
 use reader::boolean::Reader;
 use reader::boolean::open;
+use reader::tokens::probabilities;
+use segments::frame::Frame;
+use segments::frame::take;
 ghost use mathlib.Core.Path.{_≡_};
 ghost use Prim.Native.Nat.{_+_, _*_, _<_, _≤_};
 ghost use lib.IntN.{pos, negsuc};

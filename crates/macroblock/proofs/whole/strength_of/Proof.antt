@@ -2,7 +2,7 @@ use Prim.Native.Nat.{ℕ}
 use mathlib.Core.Path.{_∙_, ap}
 use mathlib.Core.Bool.{not, _||_}
 use Rattle.macroblock.specs.Strengths.{strengthOf}
-use Rattle.macroblock.specs.Macroblock.{levelAt}
+use Rattle.segments.specs.Frame.{levelAt}
 use borrow.Author.Needs.{needs}
 use Rattle.macroblock.proofs.whole.strength_of.Statement.{statement}
 use Rattle.macroblock.proofs.whole.strength_of.Tie as tie

@@ -8,7 +8,7 @@ use Rattle.segments.specs.declared.quantizers.Factors.{Factors}
 use Rattle.modes.specs.Answers.{macroblockOf}
 use Rattle.residual.specs.Residual.{residualOf}
 use Rattle.residual.specs.ResidualLaws.{fromResidual, fromEnded, decoded, decode-ends}
-use Rattle.macroblock.specs.Macroblock.{factorsAt}
+use Rattle.segments.specs.Frame.{factorsAt}
 use Rattle.macroblock.specs.MacroblockLaws.{tokens-missing, tokens-done, painting}
 use Rattle.residual.proofs.Answers.{not-done}
 use borrow.Author.Needs.{needs}

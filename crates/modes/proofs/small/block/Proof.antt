@@ -3,7 +3,6 @@ use mathlib.Core.Path.{refl, ap, _∙_}
 use mathlib.Core.List.{List}
 use borrow.Author.Needs.{needs}
 use Rattle.reader.specs.Reading.{run}
-use Rattle.modes.specs.Table.{rfcTable}
 use Rattle.modes.specs.TableLaws.{part-is}
 use Rattle.modes.specs.Modes.{tree, bTree}
 use Rattle.modes.specs.Answers.{toMode}
@@ -28,16 +27,14 @@ part-small-mode-end c = search needs
 small-mode-requires : tie.Need-small-mode-requires
 small-mode-requires c κs = search needs
 
--- the first `refl` is the test of the code's whole table: each of the 900 numbers is the RFC's, with both modes renumbered
 returns : tie.Need-returns
-unfolding rfcTable
 returns c =
-    let p = c .before .before .before in
-    let d = p .before .before in
+    let p = c .before .before in
+    let d = p .before .before .before in
     let a = d .args in
     c .small-mode .ensures
     ∙ ap (λ (ps : List ℕ). toMode (run (tree ps bTree) (a .s .now) (a .r)))
-    (part-is (a .top) (a .left) _ refl refl (d .pre .1 .0) (d .pre .1 .1) (p .place .result) (p .place .result + 9) (p .place .ensures .0) refl)
+    (part-is (a .top) (a .left) (d .pre .1 .1) (d .pre .1 .0 .0) (d .pre .1 .0 .1) (p .place .result) (p .place .result + 9) (p .place .ensures .0) refl)
 
 pub block-spec : {M : Type 1} → statement M
 block-spec =

@@ -22,12 +22,18 @@ returns-3 c = block-left _ _ _ _ (c .if3 .taken)
 good : (c : tie.Else1) → (let a = c .before .before .before .args in Valid (a .s .now) (a .r))
 good c = valid-fact _ _ (sym (c .before .valid .ensures) ∙ not-false _ (c .if1 .left))
 
+all-probabilities-requires : tie.Need-all-probabilities-requires
+all-probabilities-requires c κs = search needs
+
+slice-aggregate-block : tie.Need-slice-aggregate-block
+slice-aggregate-block c = search needs
+
 block-requires : tie.Need-block-requires
-block-requires c κs = (good (c .before .before), (c .before .if2 .left, c .if3 .left))
+block-requires c κs = let b = c .before .before in (good (b .before .before), ((b .before .if2 .left, b .if3 .left), c .before .all-probabilities .ensures))
 
 returns-4 : tie.Need-returns-4
-returns-4 c = let b = c .before in c .block .ensures ∙ sym (block-good _ _ _ _ (good (b .before .before)) (b .before .if2 .left) (b .if3 .left))
+returns-4 c = let b = c .before .before .before in c .block .ensures ∙ sym (block-good _ _ _ _ (good (b .before .before)) (b .before .if2 .left) (b .if3 .left))
 
 pub block-mode-spec : {M : Type 1} → statement M
 block-mode-spec =
-    tie.close (tie.spec valid-requires returns returns-2 returns-3 block-requires returns-4)
+    tie.close (tie.spec valid-requires returns returns-2 returns-3 all-probabilities-requires slice-aggregate-block block-requires returns-4)

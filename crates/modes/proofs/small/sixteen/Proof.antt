@@ -13,13 +13,16 @@ use Rattle.modes.proofs.small.sixteen.Statement.{statement}
 use Rattle.modes.proofs.small.sixteen.Tie as tie
 
 abbrev Inv-loop : tie.InvT-loop
-Inv-loop s top left modes₀ t₀ i₀ modes t i = Going s top left (run (smallModes top left) s t₀) i t modes
+Inv-loop s top left all₀ modes₀ t₀ i₀ modes t i = Going s top left (run (smallModes top left) s t₀) i t modes
 
 abbrev μ-loop : tie.MeasureT-loop
-μ-loop s top left modes₀ t₀ i₀ modes t i = 16 - i
+μ-loop s top left all₀ modes₀ t₀ i₀ modes t i = 16 - i
+
+all-probabilities-requires : tie.Need-all-probabilities-requires Inv-loop μ-loop
+all-probabilities-requires c κs = search needs
 
 loop-holds : tie.Need-loop-holds Inv-loop μ-loop
-loop-holds c = going-start _ _ (c .before .pre .0)
+loop-holds c = going-start _ _ (c .before .before .pre .0)
 
 above-requires : tie.Need-above-requires Inv-loop μ-loop
 above-requires c κs = omega arith
@@ -27,20 +30,25 @@ above-requires c κs = omega arith
 beside-requires : tie.Need-beside-requires Inv-loop μ-loop
 beside-requires c κs = omega arith
 
+slice-aggregate-block : tie.Need-slice-aggregate-block Inv-loop μ-loop
+slice-aggregate-block c = search needs
+
 block-requires : tie.Need-block-requires Inv-loop μ-loop
-block-requires c κs = let l = c .before .before .before .before .before .loop in
-    let p = c .before .before .before .before .before .before .before .pre in
-    let u : c .before .before .above .result < 10 = rw (c .before .before .above .ensures) (above-mode _ _ _ (p .1 .0) (l .inv .each)) in
-    let v : c .beside .result < 10 = rw (c .beside .ensures) (left-mode _ _ _ (p .1 .1) (l .inv .each)) in
-    (l .inv .valid, (omega arith, omega arith))
+block-requires c κs =
+    let l = c .before .before .before .before .before .before in
+    let a = l .before in
+    let p = a .before .before .pre in
+    let u : c .before .before .before .above .result < 10 = rw (c .before .before .before .above .ensures) (above-mode _ _ _ (p .1 .0) (l .loop .inv .each)) in
+    let v : c .before .beside .result < 10 = rw (c .before .beside .ensures) (left-mode _ _ _ (p .1 .1) (l .loop .inv .each)) in
+    (l .loop .inv .valid, ((omega arith, omega arith), a .all-probabilities .ensures))
 
 enum-known-m : tie.Need-enum-known-m Inv-loop μ-loop
 enum-known-m c = search needs
 
 returns : tie.Need-returns Inv-loop μ-loop
 returns c = let b = c .before in
-    let a = b .before .before .before in
-    sym (ap (toSixteen zeros) (going-missing (a .before .before .before .loop .inv) (a .above .ensures) (b .before .beside .ensures) (b .block .ensures) (a .before .before .loop-test .taken) (not-mode (b .block .result) (c .match .keys2))))
+    let a = b .before .before .before .before in
+    sym (ap (toSixteen zeros) (going-missing (a .before .before .before .loop .inv) (a .above .ensures) (b .before .before .beside .ensures) (b .block .ensures) (a .before .before .loop-test .taken) (not-mode (b .block .result) (c .match .keys2))))
 
 array-write-modes : tie.Need-array-write-modes Inv-loop μ-loop
 array-write-modes c = omega arith
@@ -53,9 +61,9 @@ loop-less c = omega arith
 
 loop-again : tie.Need-loop-again Inv-loop μ-loop
 loop-again c = let b = c .before .before .before in
-    let a = b .before .before .before in
+    let a = b .before .before .before .before in
     let i = a .before .before in
-    going-next (i .before .loop .inv) (a .above .ensures) (b .before .beside .ensures) (b .block .ensures) (i .loop-test .taken) (λ k. i .before .before .shared-slice-known .given k .fits) (ap fromMode (c .before .m .given .1))
+    going-next (i .before .loop .inv) (a .above .ensures) (b .before .before .beside .ensures) (b .block .ensures) (i .loop-test .taken) (λ k. i .before .before .before .shared-slice-known .given k .fits) (ap fromMode (c .before .m .given .1))
 
 returns-2 : tie.Need-returns-2 Inv-loop μ-loop
 returns-2 c = sym (ap (toSixteen zeros) (going-end (c .before .loop .inv) (c .loop-test .left)))
@@ -66,9 +74,11 @@ sixteen-spec =
     (tie.spec
     Inv-loop
     μ-loop
+    all-probabilities-requires
     loop-holds
     above-requires
     beside-requires
+    slice-aggregate-block
     block-requires
     enum-known-m
     returns

@@ -4,7 +4,7 @@ use lib.IntN.{pos}
 use lib.ListN.{getD}
 use mir.Syntax.{w32}
 use Rattle.numbers.specs.Hand.{back}
-use Rattle.coefficients.proofs.TokenAnswers.{not-ended}
+use Rattle.reader.proofs.TokenAnswers.{not-ended}
 use Rattle.residual.specs.Residual.{zeroOf}
 use Rattle.residual.proofs.Turns.{kind-fine, sixteen-fine, advance-lost, advance-read}
 use borrow.Author.Needs.{needs}
@@ -23,19 +23,20 @@ mul-sixteen c = search needs
 sixteen-requires : tie.Need-sixteen-requires
 sixteen-requires c κs = search needs
 
+context-at-requires : tie.Need-context-at-requires
+context-at-requires c κs =
+    let h = c .before .before .before .before .pre .0 in
+    let q = c .location .ensures .1 in
+    ((h .whole .top, h .whole .left), (omega (arith, q .0), omega (arith, q .1)))
+
 read-coded-requires : tie.Need-read-coded-requires
 read-coded-requires c κs =
-    let p = c .before .before .before in
+    let n = c .before .before .before in
+    let p = n .before in
     let b = p .before .before .before .before in
     let a = b .args in
     let h = b .pre .0 in
-    let q = p .location .ensures .1 in (
-      (h .reader, h .size),
-      (
-        ((h .whole .top, h .whole .left), (omega (arith, q .0), omega (arith, q .1))),
-        (kind-fine (a .f) (a .small) (a .i) (p .before .kind-of .ensures), sixteen-fine _ (c .before .sixteen .ensures) (h .whole .each)),
-      ),
-    )
+    ((h .reader, h .size), ((kind-fine (a .f) (a .small) (a .i) (p .before .kind-of .ensures), n .context-at .ensures .1), sixteen-fine _ (c .before .sixteen .ensures) (h .whole .each)))
 
 enum-known-end : tie.Need-enum-known-end
 enum-known-end c = search needs
@@ -46,16 +47,17 @@ same-length c = search needs
 returns : tie.Need-returns
 returns c =
     let x = c .before in
-    let p = x .before .before .before .before in
+    let n = x .before .before .before .before in
+    let p = n .before in
     let a = p .before .before .before .before .args in
     advance-lost (a .s .now) (a .table .now) (a .f) (a .m) (a .flat .now) (a .small) (a .i) (p .before .kind-of .ensures) (p .location .ensures .0) (x .before .before .sixteen .ensures)
-    (x .read-coded .result) (x .read-coded .last .1 .1 .1 .1 .1 .0) (x .read-coded .ensures) (not-ended _ (x .read-coded .result) (c .match .keys2))
+    (n .context-at .ensures .0) (x .read-coded .result) (x .read-coded .last .1 .1 .1 .1 .1 .0) (x .read-coded .ensures) (not-ended _ (x .read-coded .result) (c .match .keys2))
 
 mul-store : tie.Need-mul-store
 mul-store c = search needs
 
 store-requires : tie.Need-store-requires
-store-requires c κs = omega (arith, c .before .before .before .before .before .before .before .before .before .before .before .before .before .pre .0 .whole .long, c .before .before .before .before .before .before .before .before .before .before .before .before .before .pre .1)
+store-requires c κs = let b = c .before .before .before .before .before .before .before .before .before .before .before .before .before .before .pre in omega (arith, b .0 .whole .long, b .1)
 
 array-copy-out-zero : tie.Need-array-copy-out-zero
 array-copy-out-zero c = search needs
@@ -64,7 +66,7 @@ zero-requires : tie.Need-zero-requires
 zero-requires c κs = search needs
 
 passed-requires : tie.Need-passed-requires
-passed-requires c κs = search needs
+passed-requires c κs = let q = c .before .before .before .before .before .before .before .before .before .before .before .before .before .before .before .before .location .ensures .1 in (omega (arith, q .0), omega (arith, q .1))
 
 same-length-2 : tie.Need-same-length-2
 same-length-2 c = search needs
@@ -75,10 +77,11 @@ returns-2 c =
     let d = z .before .before .before in
     let x = d .before .before .before .before .before .before in
     let l = x .read-coded .last .1 .1 .1 .1 .1 .0 in
-    let p = x .before .before .before .before in
+    let n = x .before .before .before .before in
+    let p = n .before in
     let a = p .before .before .before .before .args in
     advance-read (a .s .now) (a .table .now) (a .f) (a .m) (a .flat .now) (a .small) (a .i) (p .before .kind-of .ensures) (p .location .ensures .0) (x .before .before .sixteen .ensures)
-    (x .read-coded .result) l (x .read-coded .ensures) (d .before .before .before .before .end .given .1) (d .store .ensures)
+    (n .context-at .ensures .0) (x .read-coded .result) l (x .read-coded .ensures) (d .before .before .before .before .end .given .1) (d .store .ensures)
     (z .zero .ensures ∙ ap zeroOf (back w32 {z = getD l 0 (pos 0)} (z .before .zero-arg .given))) (c .passed .ensures)
 
 pub block-spec : {M : Type 1} → statement M
@@ -87,6 +90,7 @@ block-spec =
     (tie.spec
     kind-of-requires
     location-requires
+    context-at-requires
     mul-sixteen
     sixteen-requires
     read-coded-requires

@@ -1,4 +1,4 @@
-use Rattle.coefficients.proofs.TokenAnswers.{not-ended}
+use Rattle.reader.proofs.TokenAnswers.{not-ended}
 use Rattle.residual.proofs.Turns.{second-fine, second-lost, second-read}
 use borrow.Author.Needs.{needs}
 use native.Mathlib.Omega.{arith}
@@ -9,11 +9,14 @@ use Rattle.residual.proofs.blocks.read_second.Tie as tie
 second-kind-requires : tie.Need-second-kind-requires
 second-kind-requires c κs = search needs
 
+context-at-requires : tie.Need-context-at-requires
+context-at-requires c κs = let h = c .before .before .before .pre in ((h .whole .top, h .whole .left), (omega arith, omega arith))
+
 read-coded-requires : tie.Need-read-coded-requires
 read-coded-requires c κs =
-    let b = c .before .before .before .before in
-    let h = b .pre in
-    ((h .reader, h .size), (((h .whole .top, h .whole .left), (omega arith, omega arith)), (second-fine (b .args .f) (c .before .second-kind .ensures), zeros-sixteen)))
+    let n = c .before in
+    let b = n .before .before .before .before in
+    ((b .pre .reader, b .pre .size), ((second-fine (b .args .f) (n .before .second-kind .ensures), n .context-at .ensures .1), zeros-sixteen))
 
 enum-known-end : tie.Need-enum-known-end
 enum-known-end c = search needs
@@ -21,10 +24,11 @@ enum-known-end c = search needs
 returns : tie.Need-returns
 returns c =
     let x = c .before in
-    let k = x .before .before in
+    let n = x .before .before in
+    let k = n .before in
     let a = k .before .before .before .args in
     second-lost (a .s .now) (a .table .now) (a .f) (a .m) (a .flat .now) (k .second-kind .ensures)
-    (x .read-coded .result) (x .read-coded .last .1 .1 .1 .1 .1 .0) (x .read-coded .ensures) (not-ended _ (x .read-coded .result) (c .match .keys2))
+    (n .context-at .ensures .0) (x .read-coded .result) (x .read-coded .last .1 .1 .1 .1 .1 .0) (x .read-coded .ensures) (not-ended _ (x .read-coded .result) (c .match .keys2))
 
 transform-requires : tie.Need-transform-requires
 transform-requires c κs = search needs
@@ -43,11 +47,12 @@ returns-2 c =
     let d = c .before .before .before in
     let t = d .before .before .before .before in
     let x = t .before .before .before .before .before in
-    let k = x .before .before in
+    let n = x .before .before in
+    let k = n .before in
     let b = k .before .before .before in
     let a = b .args in
     second-read (a .s .now) (a .table .now) (a .f) (a .m) (a .flat .now) (k .second-kind .ensures)
-    (x .read-coded .result) (x .read-coded .last .1 .1 .1 .1 .1 .0) (x .read-coded .ensures) (b .pre .reader) (λ i. k .before .before .shared-slice-known .given i .fits) (λ i. k .before .shared-slice-known2 .given i .fits)
+    (n .context-at .ensures .0) (x .read-coded .result) (x .read-coded .last .1 .1 .1 .1 .1 .0) (x .read-coded .ensures) (b .pre .reader) (λ i. k .before .before .shared-slice-known .given i .fits) (λ i. k .before .shared-slice-known2 .given i .fits)
     (t .before .before .before .end .given .1) (t .transform .ensures) (d .spread .ensures) (c .passed .ensures)
 
 pub read-second-spec : {M : Type 1} → statement M
@@ -55,6 +60,7 @@ read-second-spec =
     tie.close
     (tie.spec
     second-kind-requires
+    context-at-requires
     read-coded-requires
     enum-known-end
     returns

@@ -1,2 +1,0 @@
-pub mod TokenAnswers
-pub mod TokenTurns
