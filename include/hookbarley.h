@@ -38,12 +38,24 @@ enum hookbarley_number {
  *                  byte (2..first_length), range 128..255, shifts since a byte came in 0..7, window below 65536 and a multiple of
  *                  2^shifts. For a first partition that holds modes alone: 2, 255, 0, first byte * 256 + second byte.
  * count            token partitions, 1..8; macroblock row r reads partition r mod count
- * header           1096 entries, see docs (segment map 3, probabilities 38..1093, quantizers, filter levels, ..)
+ * header           the frame header (RFC 6386, sections 9.3 to 9.11) as 1096 entries, each in -255..255; a flag is on where it is not 0,
+ *                  a probability is its entry modulo 256:
+ *                    2 segments on, 3 a segment map in the modes, 5 the segments' values are absolute (else added to the frame's),
+ *                    6..9 the segments' quantizers, 10..13 their filter levels, 14..16 the map's probabilities,
+ *                    18 the frame's filter level, 19 sharpness, 20 filter deltas on, 22 delta of every macroblock of a key frame
+ *                    (ref_frame 0), 26 delta more where modes are small (B_PRED),
+ *                    31 the frame's quantizer, 32..36 what is added to it for Y DC, Y2 DC, Y2 AC, UV DC, UV AC,
+ *                    38..1093 the coefficient probabilities, at 38 + ((kind * 8 + band) * 3 + context) * 11 + j,
+ *                    1094 macroblocks may be skipped, 1095 the probability of that.
+ *                  The others are not looked at.
  * width, height    in samples, multiples of 16
- * y, u, v          lent: width*height, (width/2)*(height/2) twice
- * columns          lent: 13 bytes a macroblock column (4 modes, 9 flags), left as after the last finished macroblock
- * modes            lent: 20 bytes a macroblock (segment, skip, small, 16 luma modes, chroma mode)
- * strengths        lent: 4 bytes a macroblock (limit, inner, threshold, inside)
+ * y, u, v          lent: width*height, (width/2)*(height/2) twice; row after row, without padding; the samples before the loop filter
+ * columns          lent: 13 bytes a macroblock column (4 modes, 9 flags: what the row below reads), left as after the last finished
+ *                  macroblock
+ * modes            lent: 20 bytes a macroblock (segment, skip, small, 16 luma modes, chroma mode). Modes: 0 DC, 1 TM, 2 V, 3 H, all
+ *                  sixteen alike; where small is 1 each is 0 DC, 1 TM, 2 VE, 3 HE, 4 RD, 5 VR, 6 LD, 7 VL, 8 HD or 9 HU
+ * strengths        lent: 4 bytes a macroblock for the loop filter (limit 0..189, inner 0..63, threshold 0..2, inside 1 where the inner
+ *                  edges are filtered)
  * finished         the macroblocks finished
  */
 uint32_t hookbarley_decode(const uint8_t *bytes, size_t bytes_len,

@@ -54,6 +54,18 @@ else
     bad example "does not build"
 fi
 
+# The call as the README shows it compiles.
+{
+    echo '#include "hookbarley.h"'
+    echo '#include <stdlib.h>'
+    echo 'void draw(uint8_t *, uint8_t *, uint8_t *, size_t), report(uint32_t);'
+    echo 'void tile(const uint8_t *bytes, size_t length, size_t first_start, size_t first_length, const size_t *token_starts,'
+    echo '          const size_t *token_lengths, size_t count, const int32_t *header, size_t w, size_t h) {'
+    awk '/^```c$/ {on = 1; next} /^```$/ {if (on) exit} on' README.md
+    echo '}'
+} >$out/readme.c
+$X86CC -std=gnu11 -Wall -Wextra -Werror -Iinclude -c -o $out/readme.o $out/readme.c || bad readme "its call does not compile"
+
 # 2. Damaged inputs between guard pages.
 if build damaged tests/outside/damaged.c && $X86RUN $out/damaged $cases/real "$N" "$SEED" >$out/damaged.log 2>&1; then
     sed 's/^/           /' $out/damaged.log
