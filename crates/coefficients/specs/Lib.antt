@@ -1,3 +1,7 @@
+-- tokens: definitions, the steps of a block, laws that callers cite
+pub mod Tokens
+pub mod TokenSteps
+pub mod TokenLaws
 -- the two inverse transforms: definitions, how far their numbers go, laws that callers cite, and the source's own definitions
 pub mod Transform
 pub mod TransformBounds

@@ -1,3 +1,4 @@
-// What becomes of a block's coefficients: the two inverse transforms (RFC 6386, sections 14.3 and 14.4). How they are read is
-// `reader::tokens`.
+// The coefficients of a block: what its tokens stand for (tokens, RFC 6386 section 13), and what becomes of them (transform,
+// sections 14.3 and 14.4).
+pub mod tokens;
 pub mod transform;

@@ -8,9 +8,9 @@ use lib.ListN.{length, getD, replicate, length-replicate}
 use Rattle.reader.specs.declared.boolean.Reader.{Reader}
 use Rattle.reader.specs.Boolean.{noReader}
 use Rattle.reader.specs.BooleanLaws.{Bytes}
-use Rattle.reader.specs.declared.tokens.Table.{Table}
-use Rattle.reader.specs.Tokens.{headerTable, tableOf}
-use Rattle.reader.specs.TokenSteps.{table-done}
+use Rattle.coefficients.specs.declared.tokens.Table.{Table}
+use Rattle.coefficients.specs.Tokens.{headerTable, tableOf}
+use Rattle.coefficients.specs.TokenSteps.{table-done}
 use Rattle.modes.specs.Records.{emptyContext}
 use Rattle.modes.specs.RecordsLaws.{columns-empty}
 use Rattle.segments.specs.declared.frame.Framed.{Framed}

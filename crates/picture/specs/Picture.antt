@@ -7,7 +7,7 @@ use lib.IntN.{ℤ}
 use lib.ListN.{getD, set}
 use Rattle.reader.specs.declared.boolean.Reader.{Reader}
 use Rattle.reader.specs.Boolean.{noReader}
-use Rattle.reader.specs.Tokens.{headerTable}
+use Rattle.coefficients.specs.Tokens.{headerTable}
 use Rattle.modes.specs.declared.columns.Context.{Context}
 use Rattle.modes.specs.Answers.{kindsOf}
 use Rattle.modes.specs.Records.{columnAt, columnSet, modeSet, emptyContext}

@@ -13,8 +13,8 @@ use Rattle.numbers.specs.Tests.{eq-or, both-left, both-right}
 use Rattle.reader.specs.declared.boolean.Reader.{Reader}
 use Rattle.reader.specs.Boolean.{noReader}
 use Rattle.reader.specs.BooleanLaws.{Bytes, Valid}
-use Rattle.reader.specs.Tokens.{headerTable}
-use Rattle.reader.specs.TokenLaws.{length-header, header-bytes}
+use Rattle.coefficients.specs.Tokens.{headerTable}
+use Rattle.coefficients.specs.TokenLaws.{length-header, header-bytes}
 use Rattle.modes.specs.declared.columns.Context.{Context}
 use Rattle.modes.specs.Records.{columnAt, columnSet, modeSet, contextFine, emptyContext}
 use Rattle.modes.specs.RecordsLaws.{Sized, Columns, columns-set, column-set-length, mode-set-length, column-sized, contexts-fine}

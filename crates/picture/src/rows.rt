@@ -9,7 +9,7 @@ use segments::frame::Frame;
 ghost use mathlib.Core.Path.{_≡_};
 ghost use Prim.Native.Nat.{ℕ, _<_, _*_};
 ghost use lib.ListN.{length, getD};
-ghost use Rattle.reader.specs.Tokens.{headerTable};
+ghost use Rattle.coefficients.specs.Tokens.{headerTable};
 ghost use Rattle.modes.specs.Records.{emptyContext};
 ghost use Rattle.segments.specs.Frame.{frameOf};
 ghost use Rattle.macroblock.specs.Macroblock.{finishNumberOf};

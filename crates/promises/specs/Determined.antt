@@ -10,13 +10,14 @@ use Rattle.numbers.specs.Wrap.{wrap16Of}
 use Rattle.reader.specs.Boolean.{validOf, openAnswer, symbolAnswer}
 use Rattle.reader.specs.Extra.{extraAnswer}
 use Rattle.reader.specs.Header.{presentOf, probabilityOf, entriesOf, headerOf}
+use Rattle.reader.specs.Token.{tokenAnswer}
 use Rattle.reader.specs.Trees.{walkAnswer}
 use Rattle.reader.specs.declared.boolean.Reader.{Reader}
 use Rattle.segments.specs.Levels.{levelAnswer}
 use Rattle.segments.specs.Quantizers.{quantizersOf}
 use Rattle.segments.specs.declared.quantizers.Factors.{Factors}
-use Rattle.reader.specs.Tokens as Tokens
-use Rattle.reader.specs.Tokens.{numberAnswer, signedAnswer, tableOf}
+use Rattle.coefficients.specs.Tokens as Tokens
+use Rattle.coefficients.specs.Tokens.{numberAnswer, signedAnswer, tableOf}
 use Rattle.coefficients.specs.Transform.{transformOf}
 use Rattle.kernel.specs.Kernel.{filterOf, pixelOf}
 use Rattle.modes.specs.Answers.{prefixAnswer, mainAnswer, blockAnswer, smallAnswer, modesAnswer}
@@ -93,20 +94,8 @@ reader-entries-fine h = determined (entriesOf h)
 pub reader-header-fine : (h : List ℤ) → One (λ x. x ≡ headerOf h)
 reader-header-fine h = determined (headerOf h)
 
-pub reader-number : (s : List ℕ) (token : ℕ) (r : Reader) → One (λ x. x ≡ numberAnswer s token r)
-reader-number s token r = determined (numberAnswer s token r)
-
-pub reader-dequant : (s : List ℕ) (token q : ℕ) (r : Reader) → One (λ x. x ≡ signedAnswer s token q r)
-reader-dequant s token q r = determined (signedAnswer s token q r)
-
-pub reader-probabilities : (h : List ℤ) → One (λ x. x ≡ tableOf h)
-reader-probabilities h = determined (tableOf h)
-
-pub reader-decode : (s : List ℕ) (r : Reader) (table : List ℕ) (kind ctx first q0 q1 : ℕ) (out : List ℤ) → One (λ x. x ≡ Tokens.decodeOf s r table kind ctx first q0 q1 out)
-reader-decode s r table kind ctx first q0 q1 out = determined (Tokens.decodeOf s r table kind ctx first q0 q1 out)
-
-pub reader-decode-header : (s : List ℕ) (r : Reader) (h : List ℤ) (kind ctx first q0 q1 : ℕ) (out : List ℤ) → One (λ x. x ≡ Tokens.decodeHeaderOf s r h kind ctx first q0 q1 out)
-reader-decode-header s r h kind ctx first q0 q1 out = determined (Tokens.decodeHeaderOf s r h kind ctx first q0 q1 out)
+pub reader-walk-token : (s table : List ℕ) (at : ℕ) (zero : Bool) (r : Reader) → One (λ x. x ≡ tokenAnswer s table at zero r)
+reader-walk-token s table at zero r = determined (tokenAnswer s table at zero r)
 
 -- ---- segments
 pub segments-for-segment : (h : List ℤ) (segment : ℕ) → One (λ x. x ≡ quantizersOf h segment)
@@ -119,6 +108,21 @@ pub segments-take : (h : List ℤ) → One (λ x. x ≡ framedOf h)
 segments-take h = determined (framedOf h)
 
 -- ---- coefficients
+pub coefficients-number : (s : List ℕ) (token : ℕ) (r : Reader) → One (λ x. x ≡ numberAnswer s token r)
+coefficients-number s token r = determined (numberAnswer s token r)
+
+pub coefficients-dequant : (s : List ℕ) (token q : ℕ) (r : Reader) → One (λ x. x ≡ signedAnswer s token q r)
+coefficients-dequant s token q r = determined (signedAnswer s token q r)
+
+pub coefficients-probabilities : (h : List ℤ) → One (λ x. x ≡ tableOf h)
+coefficients-probabilities h = determined (tableOf h)
+
+pub coefficients-decode : (s : List ℕ) (r : Reader) (table : List ℕ) (kind ctx first q0 q1 : ℕ) (out : List ℤ) → One (λ x. x ≡ Tokens.decodeOf s r table kind ctx first q0 q1 out)
+coefficients-decode s r table kind ctx first q0 q1 out = determined (Tokens.decodeOf s r table kind ctx first q0 q1 out)
+
+pub coefficients-decode-header : (s : List ℕ) (r : Reader) (h : List ℤ) (kind ctx first q0 q1 : ℕ) (out : List ℤ) → One (λ x. x ≡ Tokens.decodeHeaderOf s r h kind ctx first q0 q1 out)
+coefficients-decode-header s r h kind ctx first q0 q1 out = determined (Tokens.decodeHeaderOf s r h kind ctx first q0 q1 out)
+
 pub coefficients-transform : (c : List ℤ) (walsh : Bool) → One (λ x. x ≡ transformOf c walsh)
 coefficients-transform c walsh = determined (transformOf c walsh)
 

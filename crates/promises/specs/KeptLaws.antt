@@ -7,8 +7,8 @@ use lib.ListN.{getD}
 use Rattle.numbers.specs.Runs.{Off}
 use Rattle.reader.specs.Boolean.{noReader}
 use Rattle.reader.specs.BooleanLaws.{Bytes}
-use Rattle.reader.specs.Tokens.{headerTable}
-use Rattle.reader.specs.TokenLaws.{header-bytes}
+use Rattle.coefficients.specs.Tokens.{headerTable}
+use Rattle.coefficients.specs.TokenLaws.{header-bytes}
 use Rattle.modes.specs.Answers.{kindsOf}
 use Rattle.modes.specs.Records.{columnAt}
 use Rattle.modes.specs.RecordsLaws.{mode-set-off}

@@ -5,7 +5,7 @@ use lib.ListN.{getD}
 use Rattle.reader.specs.declared.boolean.Reader.{Reader}
 use Rattle.reader.specs.Boolean.{Given, given, missing, noReader}
 use Rattle.reader.specs.Reading.{run}
-use Rattle.reader.specs.Tokens.{headerTable}
+use Rattle.coefficients.specs.Tokens.{headerTable}
 use Rattle.modes.specs.declared.columns.Context.{Context}
 use Rattle.modes.specs.Modes.{Macroblock, modesOf}
 use Rattle.modes.specs.Records.{columnAt}

@@ -7,7 +7,7 @@ use mathlib.Core.Logic.{_⊎_, inl, inr}
 use Rattle.numbers.specs.Tests.{lt-or}
 use Rattle.reader.specs.declared.boolean.Reader.{Reader}
 use Rattle.reader.specs.Boolean.{given, missing, noReader}
-use Rattle.reader.specs.Tokens.{headerTable}
+use Rattle.coefficients.specs.Tokens.{headerTable}
 use Rattle.modes.specs.Modes.{Macroblock}
 use Rattle.segments.specs.Frame.{frameOf}
 use Rattle.macroblock.specs.Macroblock.{Finished, Step, finished, no-modes, no-tokens}

@@ -6,7 +6,7 @@ use native.Mathlib.Omega.{arith}
 use lib.ListN.{getD}
 use Rattle.numbers.specs.Tests.{eq-or}
 use Rattle.reader.specs.Boolean.{noReader}
-use Rattle.reader.specs.Tokens.{headerTable}
+use Rattle.coefficients.specs.Tokens.{headerTable}
 use Rattle.modes.specs.declared.columns.Context.{Context}
 use Rattle.modes.specs.Answers.{kindsOf}
 use Rattle.modes.specs.Records.{columnAt, columnSet, modeSet}

@@ -7,7 +7,7 @@ use lib.ListN.{length, getD, set, length-set}
 use lib.Seq.{getD-set-same, getD-set-other}
 use Rattle.numbers.specs.Tests.{lt-or, eq-or}
 use Rattle.reader.specs.Boolean.{noReader}
-use Rattle.reader.specs.Tokens.{headerTable}
+use Rattle.coefficients.specs.Tokens.{headerTable}
 use Rattle.modes.specs.Records.{columnAt}
 use Rattle.segments.specs.Frame.{frameOf}
 use Rattle.macroblock.specs.Macroblock.{Finished, Step, no-modes, no-tokens, stepOf}

@@ -8,7 +8,7 @@ use lib.IntN.{ℤ, pos, negsuc}
 use Rattle.numbers.specs.Clamp.{clampZ, upTo}
 use Rattle.numbers.specs.Lists.{build}
 use Rattle.numbers.specs.Wrap.{wrapZ, turns}
-use Rattle.reader.specs.Tokens.{signOf}
+use Rattle.coefficients.specs.Tokens.{signOf}
 use Rattle.coefficients.specs.Transform.{gridOf, transposeOf, columnOf, scaledOf, passOf, rowsOf, verticalOf, horizontalOf, resultsOf, samplesOf}
 use Rattle.kernel.specs.Kernel.{filterOf, movedOf, stepsOf, noSteps, commonSteps, macroblockSteps, innerSteps, sides, part, half, eighth, tapped, across, ruleOf, highVariance, roughAt, smooth, firstFalse, withinLimit}
 

@@ -1,4 +1,2 @@
 pub mod Answers
 pub mod Turns
-pub mod TokenAnswers
-pub mod TokenTurns

@@ -78,10 +78,7 @@ module _ (s ps : List ℕ) (r : Reader) where
   pub extra-many : 16 < length ps → N.Refused ≡ extraAnswer s ps r
   extra-many h = refused (both-false (validOf s r) (lt-leb _ _ h))
 
-  -- THE LAW for callers of `read_extra`, and of `extra_bits`
-  pub extra-read : {x : Number} → x ≡ extraOf s ps r → run (extra ps) s r ≡ fromNumber x
-  unfolding extraOf
-  extra-read f = from-number (run (extra ps) s r) ∙ ap fromNumber (sym f)
-
+  -- THE LAW for callers of `extra_bits`
   pub numbered : Valid s r → length ps ≤ 16 → {x : Number} → x ≡ extraAnswer s ps r → run (extra ps) s r ≡ fromNumber x
-  numbered v h f = extra-read (f ∙ extra-good v h)
+  unfolding extraOf
+  numbered v h f = from-number (run (extra ps) s r) ∙ ap fromNumber (sym (f ∙ extra-good v h))

@@ -9,7 +9,5 @@ pub mod Trees
 pub mod TreesLaws
 pub mod Extra
 pub mod ExtraLaws
--- tokens: definitions, how one token is read node by node, laws that callers cite
-pub mod Tokens
-pub mod TokenSteps
+pub mod Token
 pub mod TokenLaws

@@ -1,43 +1,89 @@
--- The laws of tokens and blocks that another crate cites.
-use Prim.Native.Nat.{ℕ, zero, suc, _+_, _-_, _*_, _/_, _%_, _≤_, _<_, _^_}
+-- The walk of coeff_tree: one node at a time, as the code asks it, and the laws that callers of `walk_token` cite.
+use Prim.Native.Nat.{ℕ, suc, _+_, _≤_, _<_}
 use native.Mathlib.Omega.{arith}
 use mathlib.Core.Bool.{Bool, true, false, _&&_}
-use mathlib.Core.List.{List, []}
-use mathlib.Core.Logic.{inl, inr, ⊎-elim}
+use mathlib.Core.List.{List}
+use mathlib.Core.Logic.{⊎-elim}
 use mathlib.Core.Path.{_≡_, refl, sym, _∙_, ap}
 use lib.Dec.{ltb, leb, lit<, lit≤}
-use lib.IntN.{ℤ, pos, negsuc, _+ℤ_, _*ℤ_}
-use lib.ListN.{length, getD, take, drop, set, length-take, length-set, List·getD-eq-default}
-use lib.Signed.{shrZ}
-use borrow.Author.Tests.{ltb-true, leb-true, lt-ltb, le-ltb, le-leb, eq-eqb, ne-eqb}
-use Rattle.numbers.specs.Bounds.{each-set}
-use Rattle.numbers.specs.In.{In, Each}
-use Rattle.numbers.specs.Lists.{length-build, getD-build}
-use Rattle.numbers.specs.Parts.{le-true, of-eq, add-parts, up-times, dn-times}
-use Rattle.numbers.specs.Tables.{allOf, allBelow, all-of-any, all-below}
-use Rattle.numbers.specs.Tests.{lt-or, eq-or, both-left, both-right, both-true}
-use Rattle.numbers.specs.WrapLaws.{wrap-in}
-use Rattle.reader.specs.Boolean.{Given, given, missing, validOf}
+use lib.ListN.{length, getD, take, drop, length-take, length-drop, List·getD-eq-default}
+use lib.Seq.{getD-take, getD-drop, length-take-le}
+use borrow.Author.Tests.{le-leb, lt-leb}
+use Rattle.numbers.specs.Tests.{lt-or, both-true, both-false}
+use Rattle.reader.specs.Boolean.{Given, given, missing, symbolOf, toSymbol, validOf}
 use Rattle.reader.specs.BooleanLaws.{Bytes, Valid, valid-test}
-use Rattle.reader.specs.Header.{entry, probabilityOf}
-use Rattle.reader.specs.HeaderLaws.{probability-below}
-use Rattle.reader.specs.Extra.{toNumber}
-use Rattle.reader.specs.ExtraLaws.{extra-within, fromNumber}
-use Rattle.reader.specs.Reading.{run, Within, ends}
-use Rattle.reader.specs.ReadingLaws.{never-both, within-symbol, within-bind, within-more}
-use Rattle.reader.specs.TreesLaws.{reachOf, walk-below}
+use Rattle.reader.specs.Reading.{symbol, run, Within}
+use Rattle.reader.specs.ReadingLaws.{answered, fromSymbol, run-valid, within-symbol}
+use Rattle.reader.specs.Token.{tokenTree, startOf, token, elevenAt, toToken, tokenOf, tokenAnswer}
+use Rattle.reader.specs.Trees.{walk, branchAt, treeOf}
+use Rattle.reader.specs.TreesLaws.{chain-missing, chain-leaf, chain-node, reachOf, tree-fixed, walk-below, walk-limit}
 use Rattle.reader.specs.declared.boolean.Reader.{Reader}
-use Rattle.reader.specs.declared.extra.Number.{Number}
-use Rattle.reader.specs.TokenSteps.{eleven-at, place-below, decode-passed, decode-refused, table-refused, table-done}
-use Rattle.reader.specs.Tokens.{tokenTree, startOf, token, categories, bases, category, magnitude, signOf, signedValue, zigzag, elevenAt, quantizerAt, contextAfter, toSigned, magnitudeOf, signedOf, numericOf, numberAnswer, signedAnswer, headerTable, probabilitiesAt, placeOf, Coefficients, blockFrom, block, Called, toCalled, blockOf, smallOf, argumentsOf, decodeOf, tableOf}
-use Rattle.reader.specs.declared.tokens.Block.{Block}
-use Rattle.reader.specs.declared.tokens.Block.the-variants as K
-use Rattle.reader.specs.declared.tokens.Signed.{Signed}
-use Rattle.reader.specs.declared.tokens.Signed.the-variants as G
-use Rattle.reader.specs.declared.tokens.Table.{Table}
-use Rattle.reader.specs.declared.tokens.Taken.the-variants as H
+use Rattle.reader.specs.declared.boolean.Symbol.{Symbol}
+use Rattle.reader.specs.declared.boolean.Symbol.the-variants as S
+use Rattle.reader.specs.declared.trees.Branch.the-variants as B
+use Rattle.reader.specs.declared.token.Token.{Token}
+use Rattle.reader.specs.declared.token.Token.the-variants as T
 
--- ---- what each grammar gives, and how much it asks
+-- ---- one node of the tree of tokens, as the code asks it
+-- a walk from node i, its eleven probabilities from `at` on in the table
+unfoldable pub tokenFrom : ℕ → List ℕ → List ℕ → ℕ → ℕ → Reader → Token
+tokenFrom n s table at i r = toToken (run (walk n (elevenAt table at) tokenTree i) s r)
+
+pub eleven-at : (table : List ℕ) (at i : ℕ) → i < 11 → getD (elevenAt table at) i 0 ≡ getD table (at + i) 0
+unfolding elevenAt
+eleven-at table at i h = rw (getD-take 11 (drop at table) i 0 h, getD-drop at table i 0)
+
+-- the answer x that the code had at node i
+pub record Node (s table : List ℕ) (at i : ℕ) (r : Reader) (x : Symbol) : Type 0 where
+  pub valid : Valid s r
+  pub bytes : Bytes s
+  pub byte : getD (elevenAt table at) i 0 < 256
+  pub same : run (symbol (getD (elevenAt table at) i 0)) s r ≡ fromSymbol x
+
+pub node : {s table : List ℕ} {at i : ℕ} {r : Reader} {x : Symbol} {p : ℕ} → Valid s r → Bytes s → Bytes table → i < 11 → p ≡ getD table (at + i) 0 → x ≡ toSymbol (symbolOf s r p) → Node s table at i r x
+node {s} {table} {at} {i} {r} {x} {p} v y z l g e =
+    record {
+      valid = v;
+      bytes = y;
+      byte = rw (eleven-at table at i l) (z (at + i));
+      same = rw (eleven-at table at i l, ← g) (answered s r p e);
+    }
+
+module _ {s table : List ℕ} {at i : ℕ} {r : Reader} {x : Symbol} (a : Node s table at i r x) where
+  pub node-missing : (n : ℕ) → fromSymbol x ≡ missing → T.Missing ≡ tokenFrom (suc n) s table at i r
+  unfolding tokenFrom
+  node-missing n f = sym (ap toToken (chain-missing s (elevenAt table at) tokenTree i r n (a .same ∙ f)))
+
+  module _ {b : Bool} {q : Reader} (f : x ≡ S.Got b q) where
+    pub node-valid : Valid s q
+    node-valid = run-valid (within-symbol (a .byte)) (a .bytes) (a .valid) (a .same ∙ ap fromSymbol f) .valid
+
+    module _ (n : ℕ) {c : Bool} (k : b ≡ c) where
+      pub node-leaf : {t : ℕ} → branchAt tokenTree i c ≡ B.Leaf t → T.Read t q ≡ tokenFrom (suc n) s table at i r
+      unfolding tokenFrom
+      node-leaf h = sym (ap toToken (chain-leaf s (elevenAt table at) tokenTree i r n c h (a .same ∙ ap fromSymbol (rw k at f))))
+
+      pub node-on : {j : ℕ} → branchAt tokenTree i c ≡ B.Node j → tokenFrom n s table at j q ≡ tokenFrom (suc n) s table at i r
+      unfolding tokenFrom
+      node-on h = sym (ap toToken (chain-node s (elevenAt table at) tokenTree i r n c h (a .same ∙ ap fromSymbol (rw k at f))))
+
+-- after a zero the walk starts at node 1 with its whole limit, of which one step more or less changes nothing
+length-eleven : (table : List ℕ) (at : ℕ) → at + 11 ≤ length table → length (elevenAt table at) ≡ 11
+unfolding elevenAt
+length-eleven table at h = length-take-le 11 (drop at table) (rw length-drop (omega arith))
+
+eleven-tree : (table : List ℕ) (at : ℕ) → at + 11 ≤ length table → treeOf (elevenAt table at) tokenTree 1 ≡ true
+eleven-tree table at h = tree-fixed (elevenAt table at) tokenTree 1 (rw (length-eleven table at h) (lit≤ tt)) refl
+
+pub token-after-zero : (s table : List ℕ) (at : ℕ) (r : Reader) → at + 11 ≤ length table → tokenFrom 31 s table at 1 r ≡ tokenOf s (elevenAt table at) true r
+unfolding tokenFrom tokenOf
+token-after-zero s table at r h = sym (ap (λ m. toToken (run m s r)) (walk-limit (elevenAt table at) tokenTree 1 (eleven-tree table at h) 1))
+
+pub token-first : (s table : List ℕ) (at : ℕ) (r : Reader) → tokenFrom 32 s table at 0 r ≡ tokenOf s (elevenAt table at) false r
+unfolding tokenFrom tokenOf
+token-first s table at r = refl
+
+-- ---- what the grammar gives, and how much it asks
 -- seven symbols at most, and a token 0..11
 token-reach : (z : Bool) → reachOf 7 (λ t. ltb t 12) tokenTree (startOf z) ≡ true
 token-reach true = refl
@@ -45,44 +91,6 @@ token-reach false = refl
 
 pub token-within : (ps : List ℕ) (z : Bool) → Bytes ps → Within (λ t. t < 12) 7 (token ps z)
 token-within ps z y = walk-below 7 32 12 ps tokenTree (startOf z) (lit≤ tt) y (token-reach z)
-
--- the categories' tables: bytes, few of them, and every number from 1 to 2114
-abbrev fineOf : ℕ → List ℕ → Bool
-fineOf base ps = leb 1 base && (leb (base + 2 ^ length ps) 2115 && (leb (length ps) 11 && allOf (λ p. ltb p 256) ps))
-
-categories-fine : allBelow 6 (λ c. fineOf (getD bases c 0) (getD categories c [])) ≡ true
-unfolding categories bases
-categories-fine = refl
-
--- a token's number is 1..2114, and at most eleven symbols
-abbrev pub Magnitude : ℕ → Type 0
-Magnitude v = (1 ≤ v) × (v ≤ 2114)
-
-category-within : (base : ℕ) (ps : List ℕ) → fineOf base ps ≡ true → Within Magnitude 11 (category base ps)
-category-within base ps e =
-    let e1 = both-right (leb 1 base) _ e in
-    let e2 = both-right (leb (base + 2 ^ length ps) 2115) _ e1 in
-    let l : 1 ≤ base = leb-true _ _ (both-left _ _ e) in
-    let h : base + 2 ^ length ps ≤ 2115 = leb-true _ _ (both-left _ _ e1) in
-    let k : length ps ≤ 11 = leb-true _ _ (both-left _ _ e2) in
-    let y : Bytes ps = λ i. ltb-true _ _ (all-of-any (λ p. ltb p 256) ps 0 refl (both-right (leb (length ps) 11) _ e2) i) in
-    within-more (omega arith) (within-bind {k = 0} (extra-within ps y) (λ v g. ends (omega arith, omega arith)))
-
-pub magnitude-within : (t : ℕ) → 2 ≤ t → t ≤ 11 → Within Magnitude 11 (magnitude t)
-unfolding magnitude
-magnitude-within t l h =
-    ⊎-elim
-    (λ (k : t < 6). rw (lt-ltb t 6 k, magnitude) (ends {a = t - 1} (omega arith, omega arith)))
-    (λ (k : 6 ≤ t). rw (le-ltb t 6 k, magnitude) (category-within _ _ (all-below (λ c. fineOf (getD bases c 0) (getD categories c [])) 6 categories-fine (t - 6) (omega arith))))
-    (lt-or t 6)
-
-abbrev pub Small : ℤ → Type 0
-Small z = In (negsuc 32767) (pos 32767) z
-
-pub signed-within : (t q : ℕ) → 2 ≤ t → t ≤ 11 → Within Small 12 (signedValue t q)
-unfolding signedValue
-signed-within t q l h =
-    within-bind {k = 1} (magnitude-within t l h) (λ v g. within-bind {k = 0} (within-symbol (lit< tt)) (λ b u. ends (wrap-in (signOf b (v * q)))))
 
 eleven-bytes : (table : List ℕ) (at : ℕ) → Bytes table → Bytes (elevenAt table at)
 unfolding elevenAt
@@ -95,165 +103,33 @@ eleven-bytes table at y i =
 pub token-fits : (table : List ℕ) (at : ℕ) (z : Bool) → Bytes table → Within (λ t. t < 12) 7 (token (elevenAt table at) z)
 token-fits table at z y = token-within (elevenAt table at) z (eleven-bytes table at y)
 
--- sixteen numbers of 16 bits
-pub record Sixteen (values : List ℤ) : Type 0 where
-  pub long : length values ≡ 16
-  pub each : Each (negsuc 32767) (pos 32767) values
+-- ---- the public call
+-- what its answer says of the grammar
+abbrev pub fromToken : Token → Given ℕ
+fromToken (T.Read t r) = given t r
+fromToken T.Missing = missing
+fromToken T.Refused = missing
 
-pub record Fine (first : ℕ) (x : Coefficients) : Type 0 where
-  pub low : first ≤ x .end
-  pub high : x .end ≤ 16
-  pub values : Sixteen (x .values)
+module _ (s table : List ℕ) (at : ℕ) (z : Bool) (r : Reader) where
+  pub token-good : Valid s r → at + 11 ≤ length table → tokenAnswer s table at z r ≡ tokenOf s (elevenAt table at) z r
+  unfolding tokenAnswer
+  token-good v l = rw (both-true (valid-test s r v) (le-leb _ _ l), tokenAnswer)
 
-pub set-sixteen : {values : List ℤ} {v : ℤ} (i : ℕ) → Sixteen values → Small v → Sixteen (set values i v)
-set-sixteen {values} {v} i x h = record { long = length-set values i v ∙ x .long; each = each-set values i (x .each) h }
+  refused : validOf s r && leb (at + 11) (length table) ≡ false → T.Refused ≡ tokenAnswer s table at z r
+  unfolding tokenAnswer
+  refused e = rw (e, tokenAnswer)
 
-module _ (table : List ℕ) (kind q0 q1 : ℕ) (y : Bytes table) (first : ℕ) where
-  from-within : (left n ctx : ℕ) (z : Bool) (values : List ℤ) → first ≤ n → n + left ≡ 16 → Sixteen values → Within (Fine first) (left * 19) (blockFrom table kind q0 q1 left n ctx z values)
-  unfolding blockFrom
-  from-within zero n ctx z values l e x = ends (record { low = l; high = omega arith; values = x })
-  from-within (suc left) n ctx z values l e x =
-      within-more (omega arith) (within-bind {k = 12 + left * 19} (token-fits table (placeOf kind n ctx) z y) (λ t h.
-      ⊎-elim
-      (λ (a : t ≡ 0). rw (eq-eqb t 0 a) (ends (record { low = l; high = omega arith; values = x })))
-      (λ (a : t ≡ 0 → ⊥).
-      ⊎-elim
-      (λ (b : t ≡ 1). rw (ne-eqb t 0 a, eq-eqb t 1 b) (within-more (omega arith) (from-within left (n + 1) 0 true values (omega arith) (omega arith) x)))
-      (λ (b : t ≡ 1 → ⊥). rw (ne-eqb t 0 a, ne-eqb t 1 b) (within-bind {k = left * 19} (signed-within t (quantizerAt n q0 q1) (omega arith) (omega arith)) (λ v i. from-within left (n + 1) (contextAfter t) false (set values (getD zigzag n 0) v) (omega arith) (omega arith) (set-sixteen (getD zigzag n 0) x i))))
-      (eq-or t 1))
-      (eq-or t 0)))
+  pub token-reader : validOf s r ≡ false → T.Refused ≡ tokenAnswer s table at z r
+  token-reader e = refused (rw e)
 
-  -- at most 19 symbols a position: 7 of the tree, 11 extra bits, 1 sign
-  pub block-within : (ctx : ℕ) (values : List ℤ) → first ≤ 1 → Sixteen values → Within (Fine first) (19 * (16 - first)) (block table kind q0 q1 ctx first values)
-  block-within ctx values l x = within-more (omega arith) (from-within (16 - first) first ctx false values (omega arith) (omega arith) x)
+  pub token-place : length table < at + 11 → T.Refused ≡ tokenAnswer s table at z r
+  token-place l = refused (both-false (validOf s r) (lt-leb _ _ l))
 
--- ---- the public calls of a token: what an answer says of the grammar
-pub magnituded : (s : List ℕ) (t : ℕ) (r : Reader) {x : Number} → x ≡ magnitudeOf s t r → run (magnitude t) s r ≡ fromNumber x
-unfolding magnitudeOf
-magnituded s t r e = from (run (magnitude t) s r) ∙ ap fromNumber (sym e)
-  where
-    from : (g : Given ℕ) → g ≡ fromNumber (toNumber g)
-    from (given v q) = refl
-    from missing = refl
-
-abbrev pub fromSigned : Signed → Given ℤ
-fromSigned (G.Value v r) = given v r
-fromSigned G.Missing = missing
-fromSigned G.Refused = missing
-
-module _ (s : List ℕ) (t q : ℕ) (r : Reader) where
-  pub signeded : {x : Signed} → x ≡ signedOf s t q r → run (signedValue t q) s r ≡ fromSigned x
-  unfolding signedOf
-  signeded e = from (run (signedValue t q) s r) ∙ ap fromSigned (sym e)
+  -- THE LAW for callers of `walk_token`
+  pub tokened : Valid s r → at + 11 ≤ length table → {x : Token} → x ≡ tokenAnswer s table at z r → run (token (elevenAt table at) z) s r ≡ fromToken x
+  unfolding tokenOf
+  tokened v l e = from (run (token (elevenAt table at) z) s r) ∙ ap fromToken (sym (e ∙ token-good v l))
     where
-      from : (g : Given ℤ) → g ≡ fromSigned (toSigned g)
-      from (given v q) = refl
+      from : (g : Given ℕ) → g ≡ fromToken (toToken g)
+      from (given t q) = refl
       from missing = refl
-
-numeric : {t : ℕ} → 2 ≤ t → t ≤ 11 → numericOf t ≡ true
-numeric l h = both-true (le-leb _ _ l) (le-leb _ _ h)
-
-module _ (s : List ℕ) (t : ℕ) (r : Reader) where
-  pub number-good : Valid s r → 2 ≤ t → t ≤ 11 → magnitudeOf s t r ≡ numberAnswer s t r
-  unfolding numberAnswer
-  number-good v l h = rw (both-true (valid-test s r v) (numeric l h), numberAnswer)
-
-  -- THE LAW for callers of `number`
-  pub number-answered : Valid s r → 2 ≤ t → t ≤ 11 → {x : Number} → x ≡ numberAnswer s t r → run (magnitude t) s r ≡ fromNumber x
-  number-answered v l h e = magnituded s t r (e ∙ sym (number-good v l h))
-
-  module _ (q : ℕ) where
-    pub signed-good : Valid s r → 2 ≤ t → t ≤ 11 → signedOf s t q r ≡ signedAnswer s t q r
-    unfolding signedAnswer
-    signed-good v l h = rw (both-true (valid-test s r v) (numeric l h), signedAnswer)
-
-    -- THE LAW for callers of `dequant`
-    pub signed-answered : Valid s r → 2 ≤ t → t ≤ 11 → {x : Signed} → x ≡ signedAnswer s t q r → run (signedValue t q) s r ≡ fromSigned x
-    signed-answered v l h e = signeded s t q r (e ∙ sym (signed-good v l h))
-
--- ---- the public call of a block
--- what it asks of its arguments besides the reader
-pub record Good (table : List ℕ) (kind ctx first : ℕ) (old : List ℤ) : Type 0 where
-  pub size : length table ≡ 1056
-  pub kinds : kind < 4
-  pub near : ctx < 3
-  pub start : first ≤ 1
-  pub each : Each (negsuc 32767) (pos 32767) old
-
-small-test : (l : List ℤ) → Each (negsuc 32767) (pos 32767) l → (n : ℕ) → smallOf l n ≡ true
-unfolding smallOf
-small-test l e zero = refl
-small-test l e (suc n) = both-true (small-test l e n) (both-true (le-true (e .at n .low)) (le-true (e .at n .high)))
-
--- what an answer, with the numbers behind it, says of the grammar
-abbrev pub fromBlock : List ℤ → Block → Given Coefficients
-fromBlock l (K.Ended n r) = given (record { end = n; values = l }) r
-fromBlock l K.Missing = missing
-fromBlock l K.Refused = missing
-
-abbrev fromCalled : Called → Given Coefficients
-fromCalled c = fromBlock (c .out) (c .answer)
-
-from-called : (old : List ℤ) (g : Given Coefficients) → g ≡ fromCalled (toCalled old g)
-from-called old (given x r) = refl
-from-called old missing = refl
-
-module _ (s : List ℕ) (r : Reader) (table : List ℕ) (kind ctx first q0 q1 : ℕ) (old : List ℤ) where
-  -- with good arguments it is the inner definition
-  pub decode-good : Valid s r → Good table kind ctx first old → blockOf s r table kind ctx first q0 q1 old ≡ decodeOf s r table kind ctx first q0 q1 old
-  decode-good v g =
-      decode-passed s r table kind ctx first q0 q1 old (valid-test s r v)
-      (both-true (eq-eqb _ _ (g .size)) (both-true (lt-ltb _ _ (g .kinds)) (both-true (lt-ltb _ _ (g .near)) (le-leb _ _ (g .start)))))
-      (small-test old (g .each) 16)
-
-  -- THE LAW for callers of `decode`
-  pub decoded : Valid s r → Good table kind ctx first old → {x : Block} {l : List ℤ} → record { answer = x; out = l } ≡ decodeOf s r table kind ctx first q0 q1 old → run (block table kind q0 q1 ctx first old) s r ≡ fromBlock l x
-  unfolding blockOf
-  decoded v g e = from-called old (run (block table kind q0 q1 ctx first old) s r) ∙ ap fromCalled (decode-good v g ∙ sym e)
-
-  -- an answer that is no end leaves the numbers as they were, whatever the arguments
-  pub decode-kept : {x : Block} {l : List ℤ} → record { answer = x; out = l } ≡ decodeOf s r table kind ctx first q0 q1 old → fromBlock l x ≡ missing → l ≡ old
-  unfolding decodeOf blockOf
-  decode-kept {x} {l} e m = ap (λ (c : Called). c .out) e ∙ go (validOf s r && (argumentsOf table kind ctx first && smallOf old 16)) refl
-    where
-      given-not : (g : Given Coefficients) → fromCalled (toCalled old g) ≡ missing → toCalled old g .out ≡ old
-      given-not (given x r) f = absurd (never-both refl f)
-      given-not missing f = refl
-
-      go : (b : Bool) → validOf s r && (argumentsOf table kind ctx first && smallOf old 16) ≡ b → decodeOf s r table kind ctx first q0 q1 old .out ≡ old
-      go true k =
-          let w : decodeOf s r table kind ctx first q0 q1 old ≡ toCalled old (run (block table kind q0 q1 ctx first old) s r) = rw (k, decodeOf) in
-          ap (λ (c : Called). c .out) w ∙ given-not (run (block table kind q0 q1 ctx first old) s r) (sym (ap fromCalled (e ∙ w)) ∙ m)
-      go false k = ap (λ (c : Called). c .out) (sym (decode-refused s r table kind ctx first q0 q1 old k))
-
--- ---- a header's table
-pub length-header : (h : List ℤ) → length (headerTable h) ≡ 1056
-unfolding headerTable
-length-header h = length-build 1056 _
-
-pub header-at : (h : List ℤ) (i : ℕ) → i < 1056 → getD (headerTable h) i 0 ≡ probabilityOf (entry h (38 + i))
-unfolding headerTable
-header-at h i l = getD-build 1056 _ i 0 l
-
-pub header-bytes : (h : List ℤ) → Bytes (headerTable h)
-header-bytes h i =
-    ⊎-elim
-    (λ (l : i < 1056). rw (header-at h i l) (probability-below (entry h (38 + i))))
-    (λ (l : 1056 ≤ i). rw (List·getD-eq-default (headerTable h) 0 {n = i} (rw (length-header h) l)) (lit< tt))
-    (lt-or i 1056)
-
--- the eleven probabilities of a position are the header's, from entry 38 + ((kind * 8 + band) * 3 + ctx) * 11 on
-pub header-probability : (h : List ℤ) (kind n ctx j : ℕ) → kind < 4 → ctx < 3 → j < 11 → getD (probabilitiesAt (headerTable h) kind n ctx) j 0 ≡ probabilityOf (entry h (38 + (placeOf kind n ctx + j)))
-header-probability h kind n ctx j k c l = eleven-at (headerTable h) (placeOf kind n ctx) j l ∙ header-at h (placeOf kind n ctx + j) (omega (arith, place-below kind n ctx k c))
-
--- what the table of an answer is
-module _ (h : List ℤ) {x : Table} (e : x ≡ tableOf h) where
-  pub table-taken : x .answer ≡ H.Done → (length h ≡ 1096) × (x .bytes ≡ headerTable h)
-  table-taken f =
-      elim (eq-or (length h) 1096) [
-        | inl k ↦ let g : x ≡ record { answer = H.Done; bytes = headerTable h } = e ∙ sym (table-done h k refl) in (k, ap (λ (y : Table). y .bytes) g)
-        | inr k ↦ let g : x .answer ≡ H.Refused = ap (λ (y : Table). y .answer) (e ∙ sym (table-refused h k)) in absurd (let z : _≡_ {A = ℕ} 0 1 = cc in omega arith)
-      ]
-
-  pub table-not : x .answer ≡ H.Refused → length h ≡ 1096 → ⊥
-  table-not f k = let g : x .answer ≡ H.Done = ap (λ (y : Table). y .answer) (e ∙ sym (table-done h k refl)) in let z : _≡_ {A = ℕ} 0 1 = cc in omega arith

@@ -120,12 +120,12 @@ fn part(r: Reader, x: u32, bit: bool) -> Reader
     }
 }
 
+// Whether the window is a multiple of 2^shifts.
 fn whole(window: u32, shifts: u32) -> bool
     requires { ⌜ shifts < 8 ⌝ }
     ensures { λ r. ⌜ r ≡ eqb (window % 2 ^ shifts) 0 ⌝ }
 {
-    let unit: u32 = 1 << shifts;
-    window % unit == 0
+    shifts <= u32::trailing_zeros(window)
 }
 
 // Whether a reader is in range over s: what every call checks of its reader.

@@ -23,7 +23,7 @@ fn bit_value(bit: bool) -> u32
     if bit { 1 } else { 0 }
 }
 
-pub(crate) fn read_extra(s: &[u8], r: Reader, probs: &[u8]) -> Number
+fn read_extra(s: &[u8], r: Reader, probs: &[u8]) -> Number
     requires { ⌜ Valid (now s) r ⌝ }
     requires { ⌜ length (now probs) ≤ 16 ⌝ }
     ensures { λ q. ⌜ q ≡ extraOf (now (s .entry)) (now (probs .entry)) r ⌝ }

@@ -14,12 +14,12 @@ use Rattle.reader.specs.Reading.{run, Within, ends}
 use Rattle.reader.specs.ReadingLaws.{Ended, run-valid}
 use Rattle.reader.specs.declared.boolean.Reader.{Reader}
 use Rattle.segments.specs.declared.quantizers.Factors.{Factors}
-use Rattle.reader.specs.TokenLaws.{Sixteen, fromBlock, block-within}
-use Rattle.reader.specs.Tokens.{block}
+use Rattle.coefficients.specs.TokenLaws.{Sixteen, fromBlock, block-within}
+use Rattle.coefficients.specs.Tokens.{block}
 use Rattle.coefficients.specs.Transform.{samplesOf, transformOf}
 use Rattle.coefficients.specs.TransformLaws.{transform-good}
-use Rattle.reader.specs.declared.tokens.Block.{Block}
-use Rattle.reader.specs.declared.tokens.Block.the-variants as B
+use Rattle.coefficients.specs.declared.tokens.Block.{Block}
+use Rattle.coefficients.specs.declared.tokens.Block.the-variants as B
 use Rattle.coefficients.specs.declared.transform.Transformed.{Transformed}
 use Rattle.residual.specs.Residual.{Model, Flags, Whole, initial, coordinates, secondKind, kindOf, flagOf, zeroOf, coded, spread, secondPlace, second, sixteenAt, stored, advance, blocksFrom, dcStage, cleared, residualOf, nothing, toCalled, callOf}
 use Rattle.residual.specs.ResidualLaws.{kind-in, initial-whole, zeros-sixteen, sixteen-in, sixteen-fit, second-within, advance-within}

@@ -17,7 +17,7 @@ use Rattle.reader.specs.Reading.{Reading, done, run, _>>=_}
 use Rattle.reader.specs.declared.boolean.Reader.{Reader}
 use Rattle.segments.specs.Quantizers.{factorsOf}
 use Rattle.segments.specs.declared.quantizers.Factors.{Factors}
-use Rattle.reader.specs.Tokens.{Coefficients, block, headerTable}
+use Rattle.coefficients.specs.Tokens.{Coefficients, block, headerTable}
 use Rattle.coefficients.specs.Transform.{samplesOf}
 use Rattle.residual.specs.declared.Ended.{Ended}
 use Rattle.residual.specs.declared.Ended.the-variants as E

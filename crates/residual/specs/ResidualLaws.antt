@@ -25,8 +25,8 @@ use Rattle.reader.specs.ReadingLaws.{never-both, run-valid, within-bind, within
 use Rattle.reader.specs.declared.boolean.Reader.{Reader}
 use Rattle.segments.specs.Quantizers.{factorsOf}
 use Rattle.segments.specs.declared.quantizers.Factors.{Factors}
-use Rattle.reader.specs.TokenLaws.{Small, Sixteen, block-within}
-use Rattle.reader.specs.Tokens.{headerTable}
+use Rattle.coefficients.specs.TokenLaws.{Small, Sixteen, block-within}
+use Rattle.coefficients.specs.Tokens.{headerTable}
 use Rattle.coefficients.specs.Transform.{samplesOf}
 use Rattle.coefficients.specs.TransformLaws.{Coefficients, transform-good, transform-walsh-in}
 use Rattle.residual.specs.Residual.{Model, Flags, Whole, initial, coordinates, secondKind, lumaKind, kindOf, flagOf, flagged, spread, secondPlace, second, sixteenAt, emptyOf, advance, blocksFrom, cleared, residualOf, Called, toCalled, argumentsOf, callOf, decodeOf, decodeHeaderOf}

@@ -19,7 +19,7 @@ use Rattle.reader.specs.Reading.{Reading, done, run, _>>=_}
 use Rattle.reader.specs.ReadingLaws.{run-done, run-then, run-stops}
 use Rattle.reader.specs.declared.boolean.Reader.{Reader}
 use Rattle.segments.specs.declared.quantizers.Factors.{Factors}
-use Rattle.reader.specs.Tokens.{Coefficients}
+use Rattle.coefficients.specs.Tokens.{Coefficients}
 use Rattle.coefficients.specs.Transform.{samplesOf}
 use Rattle.residual.specs.Residual.{Model, initial, coordinates, secondKind, kindOf, flagOf, coded, flagged, spread, secondPlace, second, sixteenAt, stored, emptyOf, blocksFrom, cleared, residualOf}
 use Rattle.residual.specs.ResidualLaws.{length-spread}

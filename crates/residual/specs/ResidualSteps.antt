@@ -25,12 +25,12 @@ use Rattle.segments.specs.QuantizersLaws.{segment-ready, segment-refused}
 use Rattle.segments.specs.declared.quantizers.Factors.{Factors}
 use Rattle.segments.specs.declared.quantizers.Quantizers.{Quantizers}
 use Rattle.segments.specs.declared.quantizers.Quantizers.the-variants as Q
-use Rattle.reader.specs.TokenLaws.{Sixteen, fromBlock, decoded}
-use Rattle.reader.specs.TokenSteps.{table-done}
-use Rattle.reader.specs.Tokens.{Coefficients, block, headerTable, tableOf}
-use Rattle.reader.specs.Tokens as tokens
-use Rattle.reader.specs.declared.tokens.Block.{Block}
-use Rattle.reader.specs.declared.tokens.Table.{Table}
+use Rattle.coefficients.specs.TokenLaws.{Sixteen, fromBlock, decoded}
+use Rattle.coefficients.specs.TokenSteps.{table-done}
+use Rattle.coefficients.specs.Tokens.{Coefficients, block, headerTable, tableOf}
+use Rattle.coefficients.specs.Tokens as tokens
+use Rattle.coefficients.specs.declared.tokens.Block.{Block}
+use Rattle.coefficients.specs.declared.tokens.Table.{Table}
 use Rattle.coefficients.specs.Transform.{samplesOf}
 use Rattle.residual.specs.Residual.{Model, Flags, Whole, initial, coordinates, secondKind, kindOf, coded, flagged, spread, secondPlace, second, sixteenAt, stored, emptyOf, advance, blocksFrom, dcStage, cleared, residualOf, nothing, toCalled, flagsOf, argumentsOf, callOf, decodeOf, decodeHeaderOf}
 use Rattle.residual.specs.declared.Ended.the-variants as E

@@ -2,9 +2,9 @@
 use crate::blocks::read;
 use crate::contexts::flags_fine;
 use crate::flat::hand_over;
+use coefficients::tokens::probabilities;
 use reader::boolean::Reader;
 use reader::boolean::valid;
-use reader::tokens::probabilities;
 use segments::quantizers::Factors;
 use segments::quantizers::Quantizers;
 use segments::quantizers::for_segment;

@@ -1,6 +1,7 @@
 // Decodes single macroblocks and prints what each gives: the answer's number, the sums of the three planes, the strengths, the
 // modes, what is left for the macroblocks around it, and where the readers stand. Standard input is a header and a list of cases;
 // tools/singles.py, which also made the expected lines, says how.
+use coefficients::tokens::probabilities;
 use macroblock::strengths::Strength;
 use macroblock::whole::Finish;
 use macroblock::whole::Whole;
@@ -11,7 +12,6 @@ use modes::columns::read_column;
 use reader::boolean::Opened;
 use reader::boolean::Reader;
 use reader::boolean::open;
-use reader::tokens::probabilities;
 use segments::frame::Frame;
 use segments::frame::take;
 ghost use mathlib.Core.Path.{_≡_};

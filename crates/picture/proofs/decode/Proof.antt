@@ -9,7 +9,7 @@ use Rattle.picture.proofs.decode.Statement.{statement}
 use Rattle.picture.proofs.decode.Tie as tie
 use Rattle.picture.proofs.decode.Reads as reads
 use Rattle.picture.proofs.decode.Lts as lts
-use Rattle.reader.proofs.tokens.probabilities.Reads as probabilities-reads
+use Rattle.coefficients.proofs.tokens.probabilities.Reads as probabilities-reads
 use Rattle.segments.proofs.frame.take.Reads as take-reads
 use Rattle.picture.proofs.checks.refusal.Reads as refusal-reads
 use Rattle.picture.proofs.memory.blank.Reads as blank-reads

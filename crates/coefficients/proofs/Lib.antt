@@ -1,0 +1,2 @@
+pub mod TokenAnswers
+pub mod TokenTurns

@@ -1,0 +1,23 @@
+-- `raster` meets its contract: the table lent is the definition's, and its entries are below 16.
+use Prim.Native.Nat.{_<_}
+use native.Mathlib.Omega.{arith}
+use lib.ListN.{getD}
+use borrow.Author.Needs.{needs}
+use Rattle.coefficients.specs.TokenSteps.{zigzag-below}
+use Rattle.coefficients.proofs.tokens.raster.Statement.{statement}
+use Rattle.coefficients.proofs.tokens.raster.Tie as tie
+
+element-copy-out-result : tie.Need-element-copy-out-result
+element-copy-out-result c = search needs
+
+below : (c : tie.After-result) → getD (c .before .args .table .now) (c .before .args .n) 0 < 16
+below c = rw (c .before .pre .0) (zigzag-below (c .before .args .n))
+
+cast-result : tie.Need-cast-result
+cast-result c = record { fits = omega (arith, below c) }
+
+returns : tie.Need-returns
+returns c = (rw (c .before .pre .0), below c)
+
+pub raster-spec : {M : Type 1} → statement M
+raster-spec = tie.close (tie.spec element-copy-out-result cast-result returns)

@@ -1,0 +1,64 @@
+-- One token of a block (RFC 6386, section 13.2): coeff_tree and its walk.
+use Prim.Native.Nat.{ℕ, _+_}
+use mathlib.Core.Bool.{Bool, true, false, _&&_}
+use mathlib.Core.List.{List, [], _∷_}
+use lib.Dec.{leb}
+use lib.IntN.{ℤ, pos, negsuc}
+use lib.ListN.{length, take, drop}
+use Rattle.reader.specs.Boolean.{Given, given, missing, validOf, noReader}
+use Rattle.reader.specs.Reading.{Reading, run}
+use Rattle.reader.specs.Trees.{walk}
+use Rattle.reader.specs.declared.boolean.Reader.{Reader}
+use Rattle.reader.specs.declared.token.Token.{Token}
+use Rattle.reader.specs.declared.token.Token.the-variants as T
+
+-- 0 ends the block, 1 is a zero, 2..5 are one to four, 6..11 the six categories. The RFC's coeff_tree, two entries a node: positive
+-- names a node, zero or less a token.
+abbrev pub tokenTree : List ℤ
+tokenTree =
+    pos 0 ∷ pos 1  -- node 0: the end
+    ∷ negsuc 0 ∷ pos 2  -- 1: a zero
+    ∷ negsuc 1 ∷ pos 3  -- 2: one
+    ∷ pos 4 ∷ pos 6  -- 3: at most four, or a category
+    ∷ negsuc 2 ∷ pos 5  -- 4: two
+    ∷ negsuc 3 ∷ negsuc 4  -- 5: three, four
+    ∷ pos 7 ∷ pos 8  -- 6: the first two categories, or a later one
+    ∷ negsuc 5 ∷ negsuc 6  -- 7: categories 1, 2
+    ∷ pos 9 ∷ pos 10  -- 8
+    ∷ negsuc 7 ∷ negsuc 8  -- 9: categories 3, 4
+    ∷ negsuc 9 ∷ negsuc 10  -- 10: categories 5, 6
+    ∷ []
+
+-- a block never ends after a zero: there the walk starts at node 1
+abbrev pub startOf : Bool → ℕ
+startOf true = 1
+startOf false = 0
+
+abbrev pub token : List ℕ → Bool → Reading ℕ
+token ps z = walk 32 ps tokenTree (startOf z)
+
+-- its eleven probabilities, from `at` on in a table
+unfoldable pub elevenAt : List ℕ → ℕ → List ℕ
+elevenAt table at = take 11 (drop at table)
+
+abbrev pub toToken : Given ℕ → Token
+toToken (given t r) = T.Read t r
+toToken missing = T.Missing
+
+unfoldable pub tokenOf : List ℕ → List ℕ → Bool → Reader → Token
+tokenOf s ps z r = toToken (run (token ps z) s r)
+
+-- `walk_token`: refused where the reader is out of range or the table has not eleven probabilities from `at` on
+unfoldable pub tokenAnswer : List ℕ → List ℕ → ℕ → Bool → Reader → Token
+tokenAnswer s table at z r = elim (validOf s r && leb (at + 11) (length table)) [ true ↦ tokenOf s (elevenAt table at) z r | false ↦ T.Refused ]
+
+-- the answer as a number and values: `short` is the number that the layer above gives a missing byte
+abbrev pub tokenNumberOf : ℕ → Token → ℕ
+tokenNumberOf short (T.Read t r) = 0
+tokenNumberOf short T.Missing = short
+tokenNumberOf short T.Refused = 9
+
+abbrev pub tokenValuesOf : Token → ℕ × Reader
+tokenValuesOf (T.Read t r) = (t, r)
+tokenValuesOf T.Missing = (0, noReader)
+tokenValuesOf T.Refused = (0, noReader)
