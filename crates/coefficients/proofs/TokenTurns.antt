@@ -20,7 +20,7 @@ use Rattle.coefficients.specs.Tokens.{signedValue, zigzag, placeOf, prob
 use Rattle.coefficients.specs.declared.tokens.Block.the-variants as K
 use Rattle.coefficients.specs.declared.tokens.Signed.{Signed}
 use Rattle.coefficients.specs.declared.tokens.Signed.the-variants as G
-use Rattle.reader.specs.Token.{token, elevenAt, tokenAnswer}
+use Rattle.reader.specs.Token.{token, tokenAnswer}
 use Rattle.reader.specs.TokenLaws.{fromToken, tokened, token-fits}
 use Rattle.reader.specs.declared.token.Token.{Token}
 use Rattle.reader.specs.declared.token.Token.the-variants as T

@@ -1,19 +1,18 @@
 -- The laws of tokens and blocks that another crate cites.
-use Prim.Native.Nat.{ℕ, zero, suc, _+_, _-_, _*_, _/_, _%_, _≤_, _<_, _^_}
+use Prim.Native.Nat.{ℕ, zero, suc, _+_, _-_, _*_, _≤_, _<_, _^_}
 use native.Mathlib.Omega.{arith}
 use mathlib.Core.Bool.{Bool, true, false, _&&_}
 use mathlib.Core.List.{List, []}
 use mathlib.Core.Logic.{inl, inr, ⊎-elim}
 use mathlib.Core.Path.{_≡_, refl, sym, _∙_, ap}
-use lib.Dec.{ltb, leb, lit<, lit≤}
-use lib.IntN.{ℤ, pos, negsuc, _+ℤ_, _*ℤ_}
-use lib.ListN.{length, getD, take, drop, set, length-take, length-set, List·getD-eq-default}
-use lib.Signed.{shrZ}
+use lib.Dec.{ltb, leb, lit<}
+use lib.IntN.{ℤ, pos, negsuc}
+use lib.ListN.{length, getD, set, length-set, List·getD-eq-default}
 use borrow.Author.Tests.{ltb-true, leb-true, lt-ltb, le-ltb, le-leb, eq-eqb, ne-eqb}
 use Rattle.numbers.specs.Bounds.{each-set}
 use Rattle.numbers.specs.In.{In, Each}
 use Rattle.numbers.specs.Lists.{length-build, getD-build}
-use Rattle.numbers.specs.Parts.{le-true, of-eq, add-parts, up-times, dn-times}
+use Rattle.numbers.specs.Parts.{le-true}
 use Rattle.numbers.specs.Tables.{allOf, allBelow, all-of-any, all-below}
 use Rattle.numbers.specs.Tests.{lt-or, eq-or, both-left, both-right, both-true}
 use Rattle.numbers.specs.WrapLaws.{wrap-in}
@@ -25,7 +24,7 @@ use Rattle.reader.specs.Extra.{toNumber}
 use Rattle.reader.specs.ExtraLaws.{extra-within, fromNumber}
 use Rattle.reader.specs.Reading.{run, Within, ends}
 use Rattle.reader.specs.ReadingLaws.{never-both, within-symbol, within-bind, within-more}
-use Rattle.reader.specs.Token.{token, elevenAt}
+use Rattle.reader.specs.Token.{token}
 use Rattle.reader.specs.TokenLaws.{eleven-at, token-fits}
 use Rattle.reader.specs.declared.boolean.Reader.{Reader}
 use Rattle.reader.specs.declared.extra.Number.{Number}

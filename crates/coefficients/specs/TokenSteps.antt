@@ -13,7 +13,7 @@ use borrow.Author.Tests.{ltb-true, leb-true, eqb-true, lt-ltb, eq-eqb, ne-eqb}
 use Rattle.numbers.specs.Tables.{all-of-any}
 use Rattle.numbers.specs.Tests.{both-left, both-right, both-true, both-false}
 use Rattle.numbers.specs.Wrap.{wrapZ}
-use Rattle.reader.specs.Boolean.{Given, given, missing, validOf}
+use Rattle.reader.specs.Boolean.{given, missing, validOf}
 use Rattle.reader.specs.Extra.{extra, toNumber}
 use Rattle.reader.specs.Reading.{done, symbol, run}
 use Rattle.reader.specs.Token.{token}

@@ -12,8 +12,6 @@ use Rattle.reader.specs.Boolean.{Given, given, missing, validOf}
 use Rattle.reader.specs.BooleanLaws.{Valid}
 use Rattle.reader.specs.Reading.{run}
 use Rattle.reader.specs.declared.boolean.Reader.{Reader}
-use Rattle.segments.specs.declared.quantizers.Factors.{Factors}
-use Rattle.segments.specs.Quantizers.{noFactors}
 use Rattle.modes.specs.declared.columns.Context.{Context}
 use Rattle.modes.specs.Modes.{Macroblock, modesOf, bottomOf, rightOf}
 use Rattle.modes.specs.Answers.{kindsOf, contextsOf}

@@ -13,7 +13,6 @@ use Rattle.segments.specs.Quantizers.{factorsOf, noFactors}
 use Rattle.segments.specs.Levels.{levelOf}
 use Rattle.segments.specs.LevelsLaws.{level-in}
 use Rattle.segments.specs.declared.frame.Frame.{Frame}
-use Rattle.segments.specs.declared.frame.Framed.{Framed}
 use Rattle.segments.specs.declared.frame.Taken.the-variants as T
 use Rattle.segments.specs.Frame.{levelsOf, frameOf, noFrame, factorsAt, levelAt, framedOf}
 

@@ -1,6 +1,5 @@
 -- `all_probabilities` meets its contract: the first `refl` is the test of the code's whole table.
 use mathlib.Core.Path.{refl}
-use borrow.Author.Needs.{needs}
 use Rattle.modes.specs.Table.{rfcTable}
 use Rattle.modes.proofs.small.all_probabilities.Statement.{statement}
 use Rattle.modes.proofs.small.all_probabilities.Tie as tie

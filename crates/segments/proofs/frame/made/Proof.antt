@@ -1,4 +1,3 @@
-use native.Mathlib.Omega.{arith}
 use mathlib.Core.Path.{_∙_, ap}
 use mir.Syntax.{w32}
 use Rattle.numbers.specs.Hand.{back}

@@ -3,7 +3,6 @@ use mathlib.Core.Bool.{true}
 use borrow.Author.Tests.{not-true, not-false}
 use Rattle.reader.specs.Header.{headerOf}
 use Rattle.reader.specs.HeaderLaws.{header-length, header-each}
-use Rattle.segments.specs.declared.frame.Framed.{Framed}
 use Rattle.segments.specs.declared.frame.Taken.the-variants as T
 use Rattle.segments.specs.FrameLaws.{frame-good, frame-refused}
 use borrow.Author.Needs.{needs}
