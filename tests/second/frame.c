@@ -1,8 +1,9 @@
 /* Decodes the key frames of a .webp (simple lossy) or .ivf file with the archive and writes their planes, cut to the true size, one after
- * the other on standard output, as ffmpeg -f rawvideo -pix_fmt yuv420p does. The frame header (RFC 6386, sections 9 and 19.2), which the
+ * the other on standard output, as ffmpeg -f rawvideo -pix_fmt yuv420p does: frame FILE, or frame FILE filtered for the pictures after the
+ * loop filter, each edge by the archive's kernel with the strengths that the picture call left. The frame header (RFC 6386, sections 9 and 19.2), which the
  * archive does not read yet, is read here, by a boolean decoder of its own; where it ends, the archive's reader starts, in the middle of the first
  * partition. Each partition is copied with zero bytes behind it, since other decoders read zeros past its end.
- * A line a frame goes to standard error: number, macroblocks finished, size, partitions, segments, filter level. */
+ * A line a frame goes to standard error: number, macroblocks finished, size, partitions, segments, filter level and kind. */
 #include "hookbarley.h"
 #include "tables.h"
 #include <stdio.h>
@@ -47,7 +48,7 @@ static int signed_literal(struct reader *r, int bits) {
 static int optional(struct reader *r, int bits) { return flag(r) ? signed_literal(r, bits) : 0; }
 
 /* Section 19.2: the header's entries as include/hookbarley.h lists them; the number of token partitions is returned. */
-static size_t header_of(struct reader *r, int32_t *h) {
+static size_t header_of(struct reader *r, int32_t *h, int *simple) {
     memset(h, 0, 1096 * sizeof *h);
     flag(r); /* color_space */
     flag(r); /* clamping_type */
@@ -61,7 +62,7 @@ static size_t header_of(struct reader *r, int32_t *h) {
         }
         if (h[3]) for (int i = 0; i < 3; i++) h[14 + i] = flag(r) ? literal(r, 8) : 255;
     }
-    flag(r); /* filter_type */
+    *simple = flag(r);
     h[18] = literal(r, 6);
     h[19] = literal(r, 3);
     if ((h[20] = flag(r)) && flag(r)) for (int i = 0; i < 8; i++) h[22 + i] = optional(r, 6);
@@ -72,6 +73,36 @@ static size_t header_of(struct reader *r, int32_t *h) {
     for (int i = 0; i < 1056; i++) h[38 + i] = symbol(r, coeff_update_probs[i]) ? literal(r, 8) : default_coeff_probs[i];
     if ((h[1094] = flag(r))) h[1095] = literal(r, 8);
     return count;
+}
+
+/* Section 15: `lines` samples of an edge of plane p, from p[at] on, `along` from line to line and `across` over the edge. */
+static void edge(uint8_t *p, size_t at, size_t across, size_t along, int lines, int simple, int whole, unsigned limit, const uint8_t *strength) {
+    for (; lines--; at += along) {
+        uint8_t e[8];
+        for (size_t i = 0; i < 8; i++) e[i] = p[at + i * across - 4 * across];
+        if (hookbarley_filter(e, 8, (uint8_t)simple, (uint8_t)whole, (uint8_t)limit, strength[1], strength[2])) exit(2);
+        for (size_t i = 0; i < 8; i++) p[at + i * across - 4 * across] = e[i];
+    }
+}
+
+/* The edges of one square of a macroblock: left, inner vertical, top, inner horizontal. */
+static void edges(uint8_t *p, size_t stride, size_t column, size_t row, size_t size, int simple, const uint8_t *strength) {
+    size_t at = row * size * stride + column * size;
+    if (column) edge(p, at, 1, stride, (int)size, simple, 1, strength[0] + 4u, strength);
+    for (size_t i = 4; strength[3] && i < size; i += 4) edge(p, at + i, 1, stride, (int)size, simple, 0, strength[0], strength);
+    if (row) edge(p, at, stride, 1, (int)size, simple, 1, strength[0] + 4u, strength);
+    for (size_t i = 4; strength[3] && i < size; i += 4) edge(p, at + i * stride, stride, 1, (int)size, simple, 0, strength[0], strength);
+}
+
+static void filtered(uint8_t *y, uint8_t *u, uint8_t *v, size_t w, size_t h, int simple, const uint8_t *strengths) {
+    for (size_t row = 0; row < h / 16; row++)
+        for (size_t column = 0; column < w / 16; column++, strengths += 4) {
+            if (!strengths[0]) continue;
+            edges(y, w, column, row, 16, simple, strengths);
+            if (simple) continue;
+            edges(u, w / 2, column, row, 8, 0, strengths);
+            edges(v, w / 2, column, row, 8, 0, strengths);
+        }
 }
 
 static void *lent(size_t n) {
@@ -90,13 +121,14 @@ static int bad(const char *why) {
     return 1;
 }
 
-static int frame(const uint8_t *f, size_t n) {
+static int frame(const uint8_t *f, size_t n, int filter) {
     if (n < 10 || f[0] & 1 || f[3] != 0x9d || f[4] != 0x01 || f[5] != 0x2a) return bad("not a key frame");
     size_t first = (size_t)(f[0] | f[1] << 8 | f[2] << 16) >> 5, width = (size_t)(f[6] | f[7] << 8) & 16383, height = (size_t)(f[8] | f[9] << 8) & 16383;
     if (n - 10 < first || first < 2) return bad("the first partition is past the end");
     static int32_t header[1096];
     struct reader r = {f + 10, first, 2, 255, 0, (uint32_t)(f[10] << 8 | f[11])};
-    size_t count = header_of(&r, header);
+    int simple;
+    size_t count = header_of(&r, header, &simple);
     size_t w = (width + 15) / 16 * 16, h = (height + 15) / 16 * 16, blocks = w / 16 * (h / 16), k = 0;
     /* the partitions, each with zeros behind it */
     uint8_t *bytes = calloc(1, n + (count + 1) * PAD);
@@ -117,7 +149,8 @@ static int frame(const uint8_t *f, size_t n) {
     uint8_t *y = lent(w * h), *u = lent(w * h / 4), *v = lent(w * h / 4), *columns = lent(13 * (w / 16)), *modes = lent(20 * blocks), *strengths = lent(4 * blocks);
     uint32_t number = hookbarley_decode(bytes, at, 0, first + PAD, starts, 8, lengths, 8, r.at, r.range, r.shifts, r.window, count, header, 1096, w, h,
                                         y, w * h, u, w * h / 4, v, w * h / 4, columns, 13 * (w / 16), modes, 20 * blocks, strengths, 4 * blocks, &k);
-    fprintf(stderr, "%u %zu %zux%zu partitions %zu segments %d level %d\n", number, k, width, height, count, header[2], header[18]);
+    fprintf(stderr, "%u %zu %zux%zu partitions %zu segments %d level %d simple %d\n", number, k, width, height, count, header[2], header[18], simple);
+    if (filter && header[18]) filtered(y, u, v, w, h, simple, strengths); /* a frame of level 0 is not filtered at all */
     put(y, w, width, height);
     put(u, w / 2, (width + 1) / 2, (height + 1) / 2);
     put(v, w / 2, (width + 1) / 2, (height + 1) / 2);
@@ -132,14 +165,15 @@ static size_t le(const uint8_t *p, int n) {
 }
 
 int main(int argc, char **argv) {
-    FILE *in = argc == 2 ? fopen(argv[1], "rb") : NULL;
-    if (!in) return bad("usage: frame FILE");
+    int filter = argc == 3 && !strcmp(argv[2], "filtered");
+    FILE *in = argc == 2 || filter ? fopen(argv[1], "rb") : NULL;
+    if (!in) return bad("usage: frame FILE [filtered]");
     static uint8_t file[1 << 24];
     size_t n = fread(file, 1, sizeof file, in);
     fclose(in);
-    if (n > 20 && !memcmp(file, "RIFF", 4) && !memcmp(file + 8, "WEBPVP8 ", 8)) return frame(file + 20, le(file + 16, 4));
+    if (n > 20 && !memcmp(file, "RIFF", 4) && !memcmp(file + 8, "WEBPVP8 ", 8)) return frame(file + 20, le(file + 16, 4), filter);
     if (n < 32 || memcmp(file, "DKIF", 4)) return bad("neither simple lossy WebP nor IVF");
     int status = 0;
-    for (size_t at = 32; at + 12 <= n; at += 12 + le(file + at, 4)) status |= frame(file + at + 12, le(file + at, 4));
+    for (size_t at = 32; at + 12 <= n; at += 12 + le(file + at, 4)) status |= frame(file + at + 12, le(file + at, 4), filter);
     return status;
 }

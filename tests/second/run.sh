@@ -1,7 +1,7 @@
 #!/usr/bin/env bash
 # The archive beside a second decoder: tests/second/run.sh [COUNT [SEED]]. Makes COUNT pictures (100), encodes each with cwebp and, four
 # key frames long, with vpxenc, with options drawn by SEED (else from the clock, printed), decodes the files with the archive (frame.c)
-# and with ffmpeg, both without loop filter, and compares every sample. Installs what is missing (Debian's ffmpeg, webp, vpx-tools).
+# and with ffmpeg, before and after the loop filter, and compares every sample. Installs what is missing (Debian's ffmpeg, webp, vpx-tools).
 set -u
 cd "$(dirname "$0")/../.." || exit 1
 count=${1:-100}
@@ -22,23 +22,28 @@ pick() { echo $(($1 + RANDOM % ($2 - $1 + 1))); }
 files=0
 frames=0
 failed=0
-compare() { # compare FILE: both decoders, every sample
-    $X86RUN $out/frame "$1" >$out/ours.yuv 2>$out/ours.log || { echo "$1: $(tail -n 1 $out/ours.log)"; failed=1; return; }
-    ffmpeg -nostdin -v error -y -skip_loop_filter all -i "$1" -fps_mode passthrough -f rawvideo -pix_fmt yuv420p $out/theirs.yuv || { echo "$1: ffmpeg fails"; failed=1; return; }
-    cmp -s $out/ours.yuv $out/theirs.yuv || { echo "$1: samples differ"; failed=1; return; }
+same() { # same FILE KIND FFMPEG-OPTIONS..: both decoders, every sample
+    local file=$1 kind=$2
+    shift 2
+    $X86RUN $out/frame "$file" $kind >$out/ours.yuv 2>$out/ours.log || { echo "$file: $(tail -n 1 $out/ours.log)"; return 1; }
+    ffmpeg -nostdin -v error -y "$@" -i "$file" -fps_mode passthrough -f rawvideo -pix_fmt yuv420p $out/theirs.yuv || { echo "$file: ffmpeg fails"; return 1; }
+    cmp -s $out/ours.yuv $out/theirs.yuv || { echo "$file: samples differ $kind"; return 1; }
+}
+compare() {
+    same "$1" "" -skip_loop_filter all && same "$1" filtered || { failed=1; return; }
     files=$((files + 1))
     frames=$((frames + $(grep -c . $out/ours.log)))
     cat $out/ours.log >>$out/all.log
 }
 while read -r name w h; do
     cwebp -quiet -q "$(pick 0 100)" -m "$(pick 0 6)" -segments "$(pick 1 4)" -partition_limit "$(pick 0 100)" -sns "$(pick 0 100)" \
-        -f "$(pick 0 100)" -sharpness "$(pick 0 7)" -pass "$(pick 1 3)" $out/$name.ppm -o $out/$name.webp || { failed=1; continue; }
+        -f "$(pick 0 100)" -sharpness "$(pick 0 7)" -pass "$(pick 1 3)" "$(pick 0 1 | sed 's/0/-strong/; s/1/-nostrong/')" $out/$name.ppm -o $out/$name.webp || { failed=1; continue; }
     compare $out/$name.webp
     lo=$(pick 0 50)
-    vpxenc --codec=vp8 --i420 -w "$w" -h "$h" --ivf --quiet --kf-min-dist=0 --kf-max-dist=0 --token-parts="$(pick 0 3)" --min-q="$lo" \
+    vpxenc --codec=vp8 --i420 -w "$w" -h "$h" --ivf --quiet --kf-min-dist=0 --kf-max-dist=0 --profile="$(pick 0 3)" --token-parts="$(pick 0 3)" --min-q="$lo" \
         --max-q=$((lo + $(pick 8 13))) --sharpness="$(pick 0 7)" --cpu-used="$(pick 0 5)" --static-thresh="$(pick 0 1000)" -o $out/$name.ivf $out/$name.i420 </dev/null 2>$out/vpxenc.log || { cat $out/vpxenc.log; failed=1; continue; }
     compare $out/$name.ivf
 done <$out/list
-echo "partitions: $(grep -o 'partitions [0-9]' $out/all.log | sort | uniq -c | awk '{printf "%s of %s, ", $1, $3}' | sed 's/, $//'); with segments: $(grep -c 'segments 1' $out/all.log)"
-if [ $failed -eq 0 ]; then echo "second: $files files, $frames key frames, every sample the same, seed $seed"; else echo "second: FAILED, seed $seed"; fi
+echo "partitions: $(grep -o 'partitions [0-9]' $out/all.log | sort | uniq -c | awk '{printf "%s of %s, ", $1, $3}' | sed 's/, $//'); with segments: $(grep -c 'segments 1' $out/all.log); filtered: $(grep -c 'level [1-9]' $out/all.log), simple $(grep -c 'level [1-9].*simple 1' $out/all.log)"
+if [ $failed -eq 0 ]; then echo "second: $files files, $frames key frames, every sample the same before and after the loop filter, seed $seed"; else echo "second: FAILED, seed $seed"; fi
 exit $failed
