@@ -1,4 +1,5 @@
--- One step of the code at a time: laws that only this crate's proofs cite. What another crate cites stands in TokenLaws.
+-- One step of the code at a time: laws that this crate's proofs cite, and `table-done`, which callers of `probabilities` cite. What else
+-- another crate cites stands in TokenLaws.
 use Prim.Native.Nat.{ℕ, suc, _+_, _-_, _*_, _≤_, _<_}
 use native.Mathlib.Numerals.{add-one}
 use native.Mathlib.Omega.{arith}

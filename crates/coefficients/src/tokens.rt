@@ -11,7 +11,7 @@ use reader::header::probability;
 use reader::token::Token;
 use reader::token::walk_token;
 ghost use mathlib.Core.Path.{_≡_};
-ghost use Prim.Native.Nat.{_+_, _*_, _<_, _≤_};
+ghost use Prim.Native.Nat.{ℕ, _+_, _*_, _<_, _≤_};
 ghost use lib.ListN.{length, getD};
 ghost use lib.IntN.{pos, negsuc};
 ghost use Rattle.numbers.specs.In.{In};
@@ -144,9 +144,11 @@ pub(crate) fn read_signed(s: &[u8], r: Reader, token: u8, q: u16) -> Signed
 
 // ---- a block
 
-fn band(table: &[u8; 16], n: usize) -> usize
-    requires { ⌜ (now table ≡ bands) × (n < 16) ⌝ }
-    ensures { λ r. ⌜ (r ≡ getD bands n 0) × (r < 8) ⌝ }
+// What a table of the sixteen positions has for one of them.
+fn entry(table: &[u8; 16], n: usize) -> usize
+    requires { ⌜ n < 16 ⌝ }
+    requires { ⌜ ((k : ℕ) → getD (now table) k 0 < 16) ⌝ }
+    ensures { λ r. ⌜ (r ≡ getD (now (table .entry)) n 0) × (r < 16) ⌝ }
 {
     table[n] as usize
 }
@@ -157,14 +159,7 @@ fn place(table: &[u8; 16], kind: usize, n: usize, ctx: usize) -> usize
     requires { ⌜ (kind < 4) × ((n < 16) × (ctx < 3)) ⌝ }
     ensures { λ r. ⌜ (r ≡ placeOf kind n ctx) × (r + 11 ≤ 1056) ⌝ }
 {
-    ((kind * 8 + band(table, n)) * 3 + ctx) * 11
-}
-
-fn raster(table: &[u8; 16], n: usize) -> usize
-    requires { ⌜ (now table ≡ zigzag) × (n < 16) ⌝ }
-    ensures { λ r. ⌜ (r ≡ getD zigzag n 0) × (r < 16) ⌝ }
-{
-    table[n] as usize
+    ((kind * 8 + entry(table, n)) * 3 + ctx) * 11
 }
 
 fn quantizer(n: usize, q0: u16, q1: u16) -> u16
@@ -220,7 +215,7 @@ pub(crate) fn read_block(
             let Signed::Value(v, last) = read_signed(s, after, token, quantizer(n, q0, q1)) else {
                 return Block::Missing;
             };
-            let z = raster(&zigzag, n);
+            let z = entry(&zigzag, n);
             values[z] = v;
             near = context(token);
             zero = false;

@@ -1,33 +1,44 @@
 -- `place` meets its contract: eleven more stay within the table.
+use Prim.Native.Nat.{_<_}
 use native.Mathlib.Omega.{arith}
+use mathlib.Core.Path.{_≡_}
+use lib.ListN.{getD}
 use borrow.Author.Needs.{needs}
-use Rattle.coefficients.specs.Tokens.{placeOf}
+use Rattle.coefficients.specs.TokenSteps.{band-below}
+use Rattle.coefficients.specs.Tokens.{bands, placeOf}
 use Rattle.coefficients.proofs.tokens.place.Statement.{statement}
 use Rattle.coefficients.proofs.tokens.place.Tie as tie
 
 mul-result : tie.Need-mul-result
 mul-result c = search needs
 
-band-requires : tie.Need-band-requires
-band-requires c κs = search needs
+entry-requires : tie.Need-entry-requires
+entry-requires c κs = (c .pre .1 .1 .0, λ k. rw (c .pre .0) (omega (arith, band-below k)))
+
+-- the band, and that it is below 8
+is-band : (c : tie.After-entry) → c .entry .result ≡ getD bands (c .before .args .n) 0
+is-band c = rw (c .before .pre .0) at (c .entry .ensures .0)
+
+below : (c : tie.After-entry) → c .entry .result < 8
+below c = rw (is-band c) (band-below (c .before .args .n))
 
 add-result : tie.Need-add-result
-add-result c = search needs
+add-result c = record { fits = omega (arith, below c, c .before .pre .1) }
 
 mul-result-2 : tie.Need-mul-result-2
-mul-result-2 c = search needs
+mul-result-2 c = record { fits = omega (arith, below c, c .before .pre .1) }
 
 add-result-2 : tie.Need-add-result-2
-add-result-2 c = search needs
+add-result-2 c = record { fits = omega (arith, below c, c .before .pre .1) }
 
 mul-result-3 : tie.Need-mul-result-3
-mul-result-3 c = search needs
+mul-result-3 c = record { fits = omega (arith, below c, c .before .pre .1) }
 
 returns : tie.Need-returns
 unfolding placeOf
-returns c = (rw (c .band .ensures .0), omega (arith, c .band .ensures .1))
+returns c = (rw (is-band c), omega (arith, below c, c .before .pre .1))
 
 pub place-spec : {M : Type 1} → statement M
 place-spec =
     tie.close
-    (tie.spec mul-result band-requires add-result mul-result-2 add-result-2 mul-result-3 returns)
+    (tie.spec mul-result entry-requires add-result mul-result-2 add-result-2 mul-result-3 returns)

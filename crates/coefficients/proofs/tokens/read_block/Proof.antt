@@ -5,6 +5,7 @@ use mathlib.Core.Path.{_≡_, refl}
 use borrow.Author.Needs.{needs}
 use Rattle.reader.specs.Reading.{run}
 use Rattle.coefficients.specs.Tokens.{bands, zigzag, blockOf, block}
+use Rattle.coefficients.specs.TokenSteps.{zigzag-below}
 use Rattle.reader.proofs.Answers.{not-token}
 use Rattle.coefficients.proofs.TokenAnswers.{not-signed}
 use Rattle.coefficients.proofs.TokenTurns.{Going, going-start, going-end, Turn, turn, turn-missing, token-read, turn-ended, turn-zero, turn-lost, turn-number, called-missing, called-ended}
@@ -70,15 +71,15 @@ returns-3 : tie.Need-returns-3 Inv-loop μ-loop
 unfolding blockOf
 returns-3 c = let a = c .before in called-missing (a .before .before .before .before .before .before .before .before .before .before .before .loop .inv .1) (turn-lost (turn-at (a .before .before .before .before .before .before .before)) (a .before .before .before .before .before .token .given .1) (two (a .before .before)) (a .before .quantizer .ensures) (a .read-signed .ensures) (not-signed (a .read-signed .result) (c .match2 .keys2)))
 
-raster-requires : tie.Need-raster-requires Inv-loop μ-loop
+entry-requires : tie.Need-entry-requires Inv-loop μ-loop
 unfolding zigzag
-raster-requires c κs = (refl, omega arith)
+entry-requires c κs = (omega arith, zigzag-below)
 
 mul-values : tie.Need-mul-values Inv-loop μ-loop
-mul-values c = omega (arith, c .raster .ensures .1)
+mul-values c = omega (arith, c .entry .ensures .1)
 
 array-set-from-values : tie.Need-array-set-from-values Inv-loop μ-loop
-array-set-from-values c = c .raster .ensures .1
+array-set-from-values c = c .entry .ensures .1
 
 context-requires : tie.Need-context-requires Inv-loop μ-loop
 context-requires c κs = tt
@@ -90,7 +91,8 @@ loop-less-2 : tie.Need-loop-less-2 Inv-loop μ-loop
 loop-less-2 c = omega arith
 
 loop-again-2 : tie.Need-loop-again-2 Inv-loop μ-loop
-loop-again-2 c = let a = c .before .before .before .before .before .before in (turn-number (turn-at (a .before .before .before .before .before .before .before)) (a .before .before .before .before .before .token .given .1) (two (a .before .before)) (a .before .quantizer .ensures) (a .read-signed .ensures) (c .before .before .before .before .v .given .1) (c .context .ensures) (c .before .raster .ensures .0), a .before .before .before .before .before .before .before .before .before .before .before .loop .inv .1)
+unfolding zigzag
+loop-again-2 c = let a = c .before .before .before .before .before .before in (turn-number (turn-at (a .before .before .before .before .before .before .before)) (a .before .before .before .before .before .token .given .1) (two (a .before .before)) (a .before .quantizer .ensures) (a .read-signed .ensures) (c .before .before .before .before .v .given .1) (c .context .ensures) (c .before .entry .ensures .0), a .before .before .before .before .before .before .before .before .before .before .before .loop .inv .1)
 
 returns-4 : tie.Need-returns-4 Inv-loop μ-loop
 unfolding blockOf
@@ -115,7 +117,7 @@ read-block-spec =
     read-signed-requires
     enum-known-v
     returns-3
-    raster-requires
+    entry-requires
     mul-values
     array-set-from-values
     context-requires
