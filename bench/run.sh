@@ -1,6 +1,6 @@
 #!/usr/bin/env bash
 # Counts instructions a luma sample: bench/run.sh [ARCHIVE]. Prints markdown tables: the three bench tiles beside libwebp 1.2.4
-# (scalar, its loop filter bypassed, both in this run), and the growth with macroblocks and with bytes.
+# (scalar, its loop filter bypassed and on, all in this run), and the growth with macroblocks and with bytes.
 # Counted by qemu's plugin insncount.c, which counts the same everywhere. A count is of some decodes more less that of one,
 # so starting the program and reading the file is not in it.
 set -eu
@@ -42,30 +42,39 @@ if [ ! -f $out/libwebpdec.a ]; then
 fi
 $X86CC -O2 -I$out/$webp -o $out/webp bench/webp.c $out/libwebpdec.a -lm -lpthread
 
-# count PROGRAM FILE TIMES: instructions of so many decodes
+# count PROGRAM FILE TIMES [deblock]: instructions of so many decodes
 count() {
     local few many
-    few=$($qemu -plugin $out/insncount.so "$1" "$2" 1 2>&1 >/dev/null | sed -n 's/^instructions //p')
-    many=$($qemu -plugin $out/insncount.so "$1" "$2" $((1 + $3)) 2>&1 >/dev/null | sed -n 's/^instructions //p')
+    few=$($qemu -plugin $out/insncount.so "$1" "$2" 1 ${4:+"$4"} 2>&1 >/dev/null | sed -n 's/^instructions //p')
+    many=$($qemu -plugin $out/insncount.so "$1" "$2" $((1 + $3)) ${4:+"$4"} 2>&1 >/dev/null | sed -n 's/^instructions //p')
     echo $((many - few))
 }
 
 # a FIXED-POINT quotient: div A B DIGITS
 div() { python3 -c "print(f'{$1 / $2:.$3f}')"; }
 
-echo "Instructions a luma sample, 256 by 256 samples:"
-echo
-echo "| tile | bytes | hookbarley | libwebp 1.2.4 scalar | ratio |"
-echo "|---|---|---|---|---|"
-for q in 50 75 90; do
-    f=bench/tile-q$q
-    ours=$($qemu $out/bench $f.case 1)
-    theirs=$($qemu $out/webp $f.webp 1)
-    [ "$ours" = "$theirs" ] || { echo "tile-q$q: $ours, libwebp $theirs" >&2; exit 1; }
-    a=$(count $out/bench $f.case 10)
-    b=$(count $out/webp $f.webp 10)
-    echo "| tile-q$q | $(($(stat -c %s $f.case) - 2210)) | $(div "$a" 655360 1) | $(div "$b" 655360 1) | $(div "$a" "$b" 2) |"
-done
+# beside HEADING [deblock]: the three tiles, ours and libwebp's
+beside() {
+    local heading=$1
+    shift
+    echo "$heading"
+    echo
+    echo "| tile | bytes | hookbarley | libwebp 1.2.4 scalar | ratio |"
+    echo "|---|---|---|---|---|"
+    for q in 50 75 90; do
+        f=bench/tile-q$q
+        ours=$($qemu $out/bench $f.case 1 "$@")
+        theirs=$($qemu $out/webp $f.webp 1 "$@")
+        [ "$ours" = "$theirs" ] || { echo "tile-q$q: $ours, libwebp $theirs" >&2; exit 1; }
+        a=$(count $out/bench $f.case 10 "$@")
+        b=$(count $out/webp $f.webp 10 "$@")
+        echo "| tile-q$q | $(($(stat -c %s $f.case) - 2210)) | $(div "$a" 655360 1) | $(div "$b" 655360 1) | $(div "$a" "$b" 2) |"
+    done
+    echo
+}
+
+beside "Instructions a luma sample, 256 by 256 samples, before the loop filter:"
+beside "The same with the loop filter (the picture call, then deblocking, the normal kind):" deblock
 
 $X86CC -O2 -Iinclude -o $out/needed bench/needed.c "$ARCHIVE"
 rm -rf $out/grow
@@ -73,7 +82,6 @@ python3 bench/grow.py make $out/grow
 for f in $out/grow/*.case; do
     echo "$(basename "$f" .case) $($qemu $out/needed "$f") $(($(count $out/bench "$f" 2) / 2))"
 done >$out/grow.txt
-echo
 echo "Growth with macroblocks and with bytes, instructions of one decode:"
 echo
 python3 bench/grow.py table $out/grow.txt
@@ -81,7 +89,7 @@ python3 bench/grow.py table $out/grow.txt
 gcc -shared -fPIC -O2 -o $out/profile.so bench/profile.c
 $X86CC -O2 -static -no-pie -Iinclude -o $out/bench-static examples/c/bench.c "$ARCHIVE"
 for q in 50 75 90; do
-    $qemu -plugin $out/profile.so $out/bench-static bench/tile-q$q.case 10 2>$out/tile-q$q.counts >/dev/null
+    $qemu -plugin $out/profile.so $out/bench-static bench/tile-q$q.case 10 deblock 2>$out/tile-q$q.counts >/dev/null
 done
 echo
 echo "Where the instructions go (functions of the archive; what the compiler drew into a function counts as its own):"

@@ -1,5 +1,5 @@
-/* Decodes a .webp again and again with libwebp, its loop filter bypassed, into YUV planes: webp FILE TIMES. For counting
- * instructions beside examples/c/bench.c, which prints the same line. */
+/* Decodes a .webp again and again with libwebp into YUV planes: webp FILE TIMES [deblock]; without `deblock` its loop filter is bypassed.
+ * For counting instructions beside examples/c/bench.c, which prints the same line. */
 #include "src/webp/decode.h"
 #include <stdio.h>
 #include <stdlib.h>
@@ -17,7 +17,7 @@ int main(int argc, char **argv) {
     for (int i = 0, times = atoi(argv[2]); i < times; i++) {
         WebPDecoderConfig c;
         if (!WebPInitDecoderConfig(&c)) return 2;
-        c.options.bypass_filtering = 1;
+        c.options.bypass_filtering = argc < 4;
         c.output.colorspace = MODE_YUV;
         status = WebPDecode(file, n, &c);
         const WebPYUVABuffer *b = &c.output.u.YUVA;

@@ -14,7 +14,7 @@
 extern "C" {
 #endif
 
-/* What hookbarley_decode returns. */
+/* What the calls return. */
 enum hookbarley_number {
     HOOKBARLEY_WHOLE = 0,     /* every macroblock is finished */
     HOOKBARLEY_SIZE = 1,      /* width or height is not a multiple of 16 in 16..16384 */
@@ -24,7 +24,8 @@ enum hookbarley_number {
     HOOKBARLEY_PARTITION = 5, /* a partition is outside the bytes or has under 2; the starting reader is out of range */
     HOOKBARLEY_NO_MODES = 6,  /* the first partition ran out in macroblock *finished */
     HOOKBARLEY_NO_TOKENS = 7, /* a token partition ran out in macroblock *finished */
-    HOOKBARLEY_ARGUMENT = 9   /* not eight starts, not eight lengths; of hookbarley_filter: not eight samples */
+    HOOKBARLEY_ARGUMENT = 9,  /* not eight starts, not eight lengths; of hookbarley_filter: not eight samples */
+    HOOKBARLEY_LIMIT = 11     /* of hookbarley_deblock: a strength record's limit is above 189 */
 };
 
 /* Decodes one picture. Checks are made in the order of the numbers above (9 first), and after 1 to 5 and 9 nothing lent has changed
@@ -73,6 +74,25 @@ uint32_t hookbarley_decode(const uint8_t *bytes, size_t bytes_len,
                            uint8_t *modes, size_t modes_len,
                            uint8_t *strengths, size_t strengths_len,
                            size_t *finished);
+
+/* Deblocks a picture in place (RFC 6386, section 15): macroblocks in raster order, in each the left edge unless column 0, inner vertical
+ * edges, the top edge unless row 0, inner horizontal edges. What hookbarley_decode left is never refused. Checks are made in this
+ * order, and after a refusal nothing has changed: 1 width or height, 4 a length, 11 a limit above 189 in any record. After a decoding
+ * that stopped (6, 7) no sample of an unfinished macroblock moves: grey stays grey.
+ *
+ * y, u, v          lent: as hookbarley_decode left them
+ * strengths        4 bytes a macroblock: limit (0: nothing is filtered; the macroblock's own edges use limit + 4), inner, threshold,
+ *                  inside (inner edges are filtered where it is 1). Only read
+ * width, height    in samples, multiples of 16
+ * simple           not 0: the simple filter, which touches luma only. The frame header's filter_type says which
+ *
+ * Other decoders filter nothing where the frame's level (header entry 18) is 0, whatever its segments say: skip the call then.
+ */
+uint32_t hookbarley_deblock(uint8_t *y, size_t y_len,
+                            uint8_t *u, size_t u_len,
+                            uint8_t *v, size_t v_len,
+                            const uint8_t *strengths, size_t strengths_len,
+                            size_t width, size_t height, uint32_t simple);
 
 /* The loop filter's kernel (RFC 6386, section 15) on eight samples across an edge, p3 p2 p1 p0 q0 q1 q2 q3, in place. `simple` picks
  * the simple filter, `edge` a macroblock edge (else an inner one); both are true where they are not 0. 0, or 9 and nothing

@@ -6,7 +6,8 @@ import struct
 import subprocess
 import sys
 import tempfile
-import zlib
+
+from png import png
 
 
 SHARE = 0.53  # of the token partition: it stops inside a row
@@ -30,15 +31,6 @@ def luma(case, decode, folder, name):
     w, h = map(int, size.split())
     assert magic == b"P5" and top == b"255" and len(samples) == w * h
     return w, h, samples
-
-
-def png(path, w, h, rows):
-    def chunk(kind, data):
-        return struct.pack(">I", len(data)) + kind + data + struct.pack(">I", zlib.crc32(kind + data))
-
-    with open(path, "wb") as f:
-        f.write(b"\x89PNG\r\n\x1a\n" + chunk(b"IHDR", struct.pack(">IIBBBBB", w, h, 8, 0, 0, 0, 0)))
-        f.write(chunk(b"IDAT", zlib.compress(b"".join(b"\0" + r for r in rows), 9)) + chunk(b"IEND", b""))
 
 
 def main():

@@ -1,5 +1,5 @@
-/* Decodes a case file again and again into the same lent memory: bench FILE TIMES. For counting instructions (docs/SPEED.md): count
- * TIMES and TIMES + 10, and take the difference. */
+/* Decodes a case file again and again into the same lent memory: bench FILE TIMES [deblock]; with `deblock` each picture is deblocked
+ * (the normal kind). For counting instructions (docs/SPEED.md): count TIMES and TIMES + 10, and take the difference. */
 #include "hookbarley.h"
 #include <stdio.h>
 #include <stdlib.h>
@@ -28,9 +28,11 @@ int main(int argc, char **argv) {
     }
     size_t luma = w * h, chroma = (w / 2) * (h / 2), blocks = (w / 16) * (h / 16), k = 0;
     uint32_t number = 0;
-    for (int i = 0; i < atoi(argv[2]); i++)
+    for (int i = 0; i < atoi(argv[2]); i++) {
         number = hookbarley_decode(file, n, places, first, starts, 8, lengths, 8, 2, 255, 0, (uint32_t)be(file + places, 2), count, header, 1096, w, h,
                                    y, luma, u, chroma, v, chroma, columns, 13 * (w / 16), modes, 20 * blocks, strengths, 4 * blocks, &k);
+        if (argc > 3 && hookbarley_deblock(y, luma, u, chroma, v, chroma, strengths, 4 * blocks, w, h, 0)) return 2;
+    }
     unsigned long sums[3] = {0};
     for (size_t i = 0; i < luma; i++) sums[0] += y[i];
     for (size_t i = 0; i < chroma; i++) sums[1] += u[i], sums[2] += v[i];

@@ -1,5 +1,6 @@
-/* Decodes a case file and writes its planes as PGM pictures: decode_case FILE [PREFIX] writes PREFIX-y.pgm, -u.pgm, -v.pgm and
- * prints the answer's number, the macroblocks finished and the sums of the planes. Lengths in a case file are big-endian: version
+/* Decodes a case file and writes its planes as PGM pictures: decode_case [-d | -s] FILE [PREFIX] writes PREFIX-y.pgm, -u.pgm, -v.pgm and
+ * prints the answer's number, the macroblocks finished and the sums of the planes. With -d the planes are deblocked, with -s by the simple
+ * kind, and behind each sum stands the plane's FNV-1a hash. Lengths in a case file are big-endian: version
  * (1 byte), length of the rest (4), width, height (2 each), count (1), 1096 header entries (2 each, signed), the lengths of the
  * first partition and of the token partitions (4 each), their bytes. */
 #include "hookbarley.h"
@@ -26,6 +27,12 @@ static unsigned long sum(const uint8_t *p, size_t n) {
     return s;
 }
 
+static unsigned long long fnv(const uint8_t *p, size_t n) {
+    unsigned long long h = 0xcbf29ce484222325ull;
+    while (n--) h = (h ^ *p++) * 0x100000001b3ull;
+    return h;
+}
+
 static void pgm(const char *prefix, const char *plane, const uint8_t *p, size_t w, size_t h) {
     char name[4096];
     snprintf(name, sizeof name, "%s-%s.pgm", prefix, plane);
@@ -37,7 +44,9 @@ static void pgm(const char *prefix, const char *plane, const uint8_t *p, size_t 
 }
 
 int main(int argc, char **argv) {
-    if (argc < 2) { fprintf(stderr, "usage: %s FILE [PREFIX]\n", argv[0]); return 2; }
+    int simple = argc > 1 && !strcmp(argv[1], "-s"), deblock = simple || (argc > 1 && !strcmp(argv[1], "-d"));
+    argc -= deblock, argv += deblock;
+    if (argc < 2) { fprintf(stderr, "usage: decode_case [-d | -s] FILE [PREFIX]\n"); return 2; }
     FILE *f = fopen(argv[1], "rb");
     if (!f) { perror(argv[1]); return 2; }
     static uint8_t file[1 << 22];
@@ -62,7 +71,13 @@ int main(int argc, char **argv) {
     uint32_t number = hookbarley_decode(file, n, places, first, starts, 8, lengths, 8, 2, 255, 0, window, count, header, 1096, w, h,
                                         y, luma, u, chroma, v, chroma, columns, 13 * (lw / 16), modes, 20 * blocks, strengths, 4 * blocks, &k);
     int written = number == 0 || number == 6 || number == 7;
-    printf("%u %zu %lu %lu %lu\n", number, k, written ? sum(y, luma) : 0, written ? sum(u, chroma) : 0, written ? sum(v, chroma) : 0);
+    if (deblock) {
+        if (written && hookbarley_deblock(y, luma, u, chroma, v, chroma, strengths, 4 * blocks, w, h, (uint32_t)simple)) return 2;
+        printf("%u %zu", number, k);
+        if (written) printf(" %lu %016llx %lu %016llx %lu %016llx", sum(y, luma), fnv(y, luma), sum(u, chroma), fnv(u, chroma), sum(v, chroma), fnv(v, chroma));
+        printf("\n");
+    } else
+        printf("%u %zu %lu %lu %lu\n", number, k, written ? sum(y, luma) : 0, written ? sum(u, chroma) : 0, written ? sum(v, chroma) : 0);
     if (argc > 2 && written) {
         pgm(argv[2], "y", y, w, h);
         pgm(argv[2], "u", u, w / 2, h / 2);

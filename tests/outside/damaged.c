@@ -10,7 +10,9 @@
  *   random  N inputs made from SEED, valid, damaged and absurd: the number is the one this file works out (1 to 5, 9) or 0, 6, 7,
  *           refusals leave the poison, both runs agree, the rest is 128 and 0, a further cut keeps what is finished;
  *   refused every set of reasons to refuse: the number is that of the first check, nothing is written;
- *   kernel  the edge kernel: numbers of the scope, other lengths answer 9 and change nothing.
+ *   kernel  the edge kernel: numbers of the scope, other lengths answer 9 and change nothing;
+ *   deblock after each answer above, both kinds: what a plain filter of this file makes of the planes, strengths in memory that may only be
+ *           read, grey stays grey; with N drawn pictures, sizes, lengths and strengths too: 1, 4 and 11 in this order, nothing written.
  * With `random` the cuts are left out. A fault or a difference ends the run with status 1 and says where. */
 #define _GNU_SOURCE
 #include "hookbarley.h"
@@ -224,6 +226,99 @@ static uint32_t both(const struct call *c, struct result *r, struct result *spar
     return want;
 }
 
+static uint64_t state;
+
+static uint64_t draw(void) {
+    uint64_t z = state += 0x9e3779b97f4a7c15ull;
+    z = (z ^ z >> 30) * 0xbf58476d1ce4e5b9ull;
+    z = (z ^ z >> 27) * 0x94d049bb133111ebull;
+    return z ^ z >> 31;
+}
+
+static size_t below(size_t n) { return n ? draw() % n : 0; }
+
+/* Deblocking, by a plain filter of this file (RFC 6386, section 15, on signed samples). */
+static int s8(int x) { return x < -128 ? -128 : x > 127 ? 127 : x; }
+
+static int gap(const uint8_t *p, ptrdiff_t i, ptrdiff_t j) { return abs(p[i] - p[j]); }
+
+static void position(uint8_t *p, ptrdiff_t d, int simple, int outer, int limit, int inner, int threshold) {
+    if (4 * gap(p, -d, 0) + gap(p, -2 * d, d) > 2 * limit + 1) return;
+    for (ptrdiff_t i = 0; i < 3 && !simple; i++)
+        if (gap(p, (i - 4) * d, (i - 3) * d) > inner || gap(p, (3 - i) * d, (2 - i) * d) > inner) return;
+    int x[8];
+    for (int i = 0; i < 8; i++) x[i] = simple && (i < 2 || i > 5) ? 0 : p[(i - 4) * d] - 128;
+    int variance = gap(p, -2 * d, -d) > threshold || gap(p, d, 0) > threshold, taps = simple || variance || outer;
+    int a = s8((taps ? s8(x[2] - x[5]) : 0) + 3 * (x[4] - x[3]));
+    if (outer && !simple && !variance) {
+        for (int i = 0; i < 3; i++) {
+            int step = s8(((27 - 9 * i) * a + 63) >> 7);
+            p[i * d] = (uint8_t)(s8(x[4 + i] - step) + 128);
+            p[(-1 - i) * d] = (uint8_t)(s8(x[3 - i] + step) + 128);
+        }
+        return;
+    }
+    int f = s8(a + 4) >> 3, g = s8(a + 3) >> 3;
+    p[0] = (uint8_t)(s8(x[4] - f) + 128);
+    p[-d] = (uint8_t)(s8(x[3] + g) + 128);
+    if (simple || variance) return;
+    f = (f + 1) >> 1;
+    p[d] = (uint8_t)(s8(x[5] - f) + 128);
+    p[-2 * d] = (uint8_t)(s8(x[2] + f) + 128);
+}
+
+static void plain_plane(uint8_t *p, size_t w, size_t h, size_t side, int simple, const uint8_t *t) {
+    for (size_t row = 0; row < h / side; row++)
+        for (size_t column = 0; column < w / side; column++, t += 4)
+            for (int way = 0; t[0] && way < 2; way++)
+                for (size_t e = 0; e < side; e += 4) {
+                    if (e ? t[3] != 1 : !(way ? row : column)) continue;
+                    for (size_t i = 0; i < side; i++)
+                        position(p + (row * side + (way ? e : i)) * w + column * side + (way ? i : e), way ? (ptrdiff_t)w : 1, simple, !e, t[0] + 4 * !e, t[1], t[2]);
+                }
+}
+
+static size_t deblockings[12];
+
+/* The call on planes and strengths of these lengths, at both guards; r's planes become what it leaves, which must be what `want` says. */
+static void deblocking(struct result *r, const size_t *lent, const uint8_t *strengths, size_t strengths_len, size_t w, size_t h, int simple, uint32_t want) {
+    static uint8_t plain[3][1 << 18];
+    size_t size;
+    for (int b = Y; b <= V; b++) memcpy(plain[b], r->mem[b], lent[b]);
+    if (!want) {
+        plain_plane(plain[Y], w, h, 16, simple, strengths);
+        for (int b = U; b <= V && !simple; b++) plain_plane(plain[b], w / 2, h / 2, 8, 0, strengths);
+    }
+    for (int end = 0; end < 2; end++) {
+        uint8_t *m[3];
+        for (int b = Y; b <= V; b++) {
+            m[b] = buffers[b].seen + offset(b, lent[b], end);
+            memcpy(m[b], r->mem[b], lent[b]);
+            uint8_t *beside = slack(b, lent[b], end, &size);
+            memset(beside, 0x3C, size);
+        }
+        const uint8_t *t = lay(BYTES, strengths, strengths_len, end);
+        uint32_t number = hookbarley_deblock(m[Y], lent[Y], m[U], lent[U], m[V], lent[V], t, strengths_len, w, h, simple ? 1u << draw() % 32 : 0);
+        if (number != want) fail("deblocking answers %u, should be %u", number, want);
+        for (int b = Y; b <= V; b++) {
+            if (memcmp(m[b], plain[b], lent[b])) fail("%s deblocked with answer %u is not as the plain filter leaves it", names[b], want);
+            const uint8_t *beside = slack(b, lent[b], end, &size);
+            if (!all(beside, size, 0x3C)) fail("deblocking: a byte beside %s was written", names[b]);
+        }
+    }
+    for (int b = Y; b <= V; b++) memcpy(r->mem[b], plain[b], lent[b]);
+    deblockings[want]++;
+}
+
+/* Deblocks what a call left. */
+static void deblocked(const struct call *c, struct result *r, int simple) {
+    if (r->number != 0 && r->number != 6 && r->number != 7) return;
+    deblocking(r, c->lent, r->mem[STRENGTHS], c->lent[STRENGTHS], c->w, c->h, simple, 0);
+    plane_rest("y deblocked", r->mem[Y], c->w, c->h, 16, r->k);
+    plane_rest("u deblocked", r->mem[U], c->w / 2, c->h / 2, 8, r->k);
+    plane_rest("v deblocked", r->mem[V], c->w / 2, c->h / 2, 8, r->k);
+}
+
 static size_t be(const uint8_t *p, int n) {
     size_t x = 0;
     while (n--) x = x << 8 | *p++;
@@ -340,23 +435,13 @@ static void cut(struct result *r, struct result *spare, struct result *full) {
                 columns_after(&c, r);
                 if (r->k > full->k || r->k < last) fail("k %zu after %zu, whole %zu", r->k, last, full->k);
                 last = r->k;
+                if (cuts % 8 == 0) deblocked(&c, r, cuts % 16 == 0);
             }
             *length = from;
         }
     }
     printf("cut: %zu cuts of %zu tiles\n", cuts, tiles_len);
 }
-
-static uint64_t state;
-
-static uint64_t draw(void) {
-    uint64_t z = state += 0x9e3779b97f4a7c15ull;
-    z = (z ^ z >> 30) * 0xbf58476d1ce4e5b9ull;
-    z = (z ^ z >> 27) * 0x94d049bb133111ebull;
-    return z ^ z >> 31;
-}
-
-static size_t below(size_t n) { return n ? draw() % n : 0; }
 
 static void fill(uint8_t *p, size_t n) {
     switch (below(5)) {
@@ -376,6 +461,24 @@ static int alone(const struct call *c, size_t p) {
     return 1;
 }
 
+/* After deblocking too, but for the lowest three sample rows. */
+static void after_apart(const struct call *c, size_t p, const struct result *before, const struct result *after, int simple) {
+    static struct result a, b;
+    if (!a.mem[0]) a = new_result(), b = new_result();
+    const struct result *from[] = {before, after};
+    struct result *to[] = {&a, &b};
+    for (int i = 0; i < 2; i++) {
+        to[i]->number = from[i]->number, to[i]->k = from[i]->k;
+        for (int m = 0; m < LENT; m++) memcpy(to[i]->mem[m], from[i]->mem[m], c->lent[m]);
+        deblocked(c, to[i], simple);
+    }
+    for (int m = Y; m <= V; m++) {
+        size_t side = m == Y ? 16 : 8, w = c->w * side / 16, h = c->h * side / 16, rows = p * side < 3 ? 0 : p * side - 3;
+        if (p * side >= h) rows = h;
+        if (memcmp(a.mem[m], b.mem[m], w * rows)) fail("partition %zu: %s deblocked differs above the lowest three rows", p, names[m]);
+    }
+}
+
 /* Another content of partition p leaves the macroblock rows above row p alone. */
 static void apart(struct call *c, size_t p, const struct result *before, struct result *r, struct result *spare) {
     static uint8_t old[1 << 17];
@@ -391,6 +494,7 @@ static void apart(struct call *c, size_t p, const struct result *before, struct 
     same(c, before, r, k);
     size_t both_k = before->k < r->k ? before->k : r->k;
     if (memcmp(before->mem[MODES], r->mem[MODES], 20 * both_k)) fail("modes depend on token partition %zu", p);
+    for (int simple = 0; simple < 2; simple++) after_apart(c, p, before, r, simple);
     if (above == blocks && (before->number != r->number || memcmp(before->mem[COLUMNS], r->mem[COLUMNS], c->lent[COLUMNS])))
         fail("partition %zu is not read, and the answer differs", p);
 }
@@ -590,6 +694,33 @@ static void refused(size_t times, struct result *r, struct result *spare) {
     printf("refused: %zu inputs with every set of seven reasons\n", times);
 }
 
+/* Drawn planes and strengths; wrong sizes, lengths and limits. */
+static void deblocks(size_t times, struct result *r) {
+    static uint8_t strengths[1 << 12];
+    static const size_t sides[] = {0, 8, 17, 16400, SIZE_MAX, SIZE_MAX - 15, ((size_t)1 << 32) + 16, (size_t)1 << 60};
+    for (size_t t = 0; t < times; t++) {
+        snprintf(where, sizeof where, "deblock %zu", t);
+        size_t w = 16 * (1 + below(5)), h = 16 * (1 + below(5)), lent[LENT], spread = 1 + below(below(3) ? 20 : 256);
+        lengths_of(w, h, lent);
+        size_t blocks = lent[STRENGTHS] / 4, tops[] = {below(4) ? 190 : 60, below(2) ? 64 : 256, below(2) ? 3 : 256, below(4) ? 2 : 256};
+        for (size_t i = 0; i < lent[STRENGTHS]; i++) strengths[i] = (uint8_t)below(tops[i % 4]);
+        for (int b = Y; b <= V; b++) {
+            uint8_t base = (uint8_t)draw();
+            for (size_t i = 0; i < lent[b]; i++) r->mem[b][i] = (uint8_t)(base + below(spread));
+        }
+        size_t why = below(3) ? 0 : below(8), strengths_len = lent[STRENGTHS];
+        uint32_t want = why & 1 ? 1 : why & 2 ? 4 : why & 4 ? 11 : 0;
+        if (why & 4) strengths[4 * below(blocks)] = (uint8_t)(190 + below(66));
+        if (why & 2) {
+            size_t *length = (size_t *[]){&lent[Y], &lent[U], &lent[V], &strengths_len}[below(4)];
+            *length = below(3) ? *length - 1 : below(2) ? 0 : *length + 1;
+        }
+        if (why & 1) *(below(2) ? &w : &h) = sides[below(sizeof sides / sizeof *sides)];
+        deblocking(r, lent, strengths, strengths_len, w, h, (int)below(2), want);
+    }
+    printf("deblock: %zu deblocked, refused with 1: %zu, 4: %zu, 11: %zu\n", deblockings[0], deblockings[1], deblockings[4], deblockings[11]);
+}
+
 static void kernel(size_t times) {
     static const uint8_t flat[8] = {100, 100, 100, 100, 110, 110, 110, 110};
     static const struct { uint8_t simple, edge, limit, to[8]; } worked[] = {
@@ -642,6 +773,7 @@ int main(int argc, char **argv) {
     struct result r = new_result(), spare = new_result(), full = new_result();
     whole(argv[1], &r, &spare);
     kernel(times);
+    deblocks(times / 4, &r);
     all_apart(&r, &spare, &full);
     random_calls(times, &r, &spare, &full);
     refused(1280, &r, &spare);

@@ -1,5 +1,5 @@
-/* The outside test's own test: the picture call with one fault, chosen when compiling (-DFAULT=n) and put before the archive's by the
- * linker (--wrap=hookbarley_decode). damaged.c must fail with every one of them. */
+/* The outside test's own test: the picture call or the deblocking call with one fault, chosen when compiling (-DFAULT=n) and put before
+ * the archive's by the linker (--wrap=hookbarley_decode, --wrap=hookbarley_deblock). damaged.c must fail with every one of them. */
 #include "hookbarley.h"
 
 #define PARAMETERS const uint8_t *bytes, size_t bytes_len, size_t first_start, size_t first_length, const size_t *starts, size_t starts_len, const size_t *lengths, size_t lengths_len, size_t at, uint32_t range, uint32_t shifts, uint32_t window, size_t count, const int32_t *header, size_t header_len, size_t width, size_t height, uint8_t *y, size_t y_len, uint8_t *u, size_t u_len, uint8_t *v, size_t v_len, uint8_t *columns, size_t columns_len, uint8_t *modes, size_t modes_len, uint8_t *strengths, size_t strengths_len, size_t *finished
@@ -38,6 +38,25 @@ uint32_t __wrap_hookbarley_decode(PARAMETERS) {
     if (n == 6 || n == 7) for (size_t i = 0; i < columns_len; i++) columns[i] = 0;
 #elif FAULT == 12 /* row 0 depends on the last partition */
     if (n == 0 && count > 1 && lengths[count - 1] > 8) y[3] ^= bytes[starts[count - 1] + 5] & 1;
+#endif
+    return n;
+}
+
+#define PLANES uint8_t *y, size_t y_len, uint8_t *u, size_t u_len, uint8_t *v, size_t v_len, const uint8_t *strengths, size_t strengths_len, size_t width, size_t height, uint32_t simple
+
+uint32_t __real_hookbarley_deblock(PLANES);
+uint32_t __wrap_hookbarley_deblock(PLANES);
+
+uint32_t __wrap_hookbarley_deblock(PLANES) {
+    uint32_t n = __real_hookbarley_deblock(y, y_len, u, u_len, v, v_len, strengths, strengths_len, width, height, simple);
+#if FAULT == 13 /* a refusal with 11 writes */
+    if (n == 11) v[v_len - 1] ^= 1;
+#elif FAULT == 14 /* the simple kind touches chroma */
+    if (n == 0 && simple) u[u_len / 2] ^= 1;
+#elif FAULT == 15 /* writes into the strengths */
+    if (n == 0) ((uint8_t *)strengths)[3] = 1;
+#elif FAULT == 16 /* a sample of an unfinished macroblock moves */
+    if (n == 0 && strengths_len > 4 && strengths[strengths_len - 4] == 0) y[y_len - 1] ^= 1;
 #endif
     return n;
 }

@@ -50,6 +50,23 @@ tile-q75 0 256 7862718 1870044 2222860
 tile-q90 0 256 7861994 1870584 2223410
 END
     [ $failed -eq 0 ] && say example "$tried case files as expected, the worked tile: 0 1 32960 8192 8192"
+    # deblocked, both kinds, every set: sums and hashes; a malformed file is 10 0
+    tried=0
+    for set in named real fuzz; do
+        for kind in d: s:-simple; do
+            i=0
+            while read -r want; do
+                f=$(printf '%s/%s/%04d.case' $cases $set $i)
+                i=$((i + 1))
+                case $set/$((i - 1)) in named/13 | named/14 | named/15 | named/35) continue ;; esac # beyond the case program's limits
+                line=$($X86RUN $out/decode_case -${kind%:*} "$f")
+                [ "$line" = "$want" ] || [ "$line" = "$want 0 0 0" ] || bad deblocked "$f gives $line, should be $want"
+                tried=$((tried + 1))
+            done <$cases/$set/expected-deblocked${kind#*:}.txt
+        done
+    done
+    [ $tried -ge 294 ] || bad deblocked "only $tried case files"
+    [ $failed -eq 0 ] && say deblocked "$tried case files as expected, both kinds"
 else
     bad example "does not build"
 fi
@@ -86,19 +103,19 @@ for t in 3 10 15 26; do
     sed -n "$((t + 1))p" $cases/real/expected-memory.txt >>$few/expected-memory.txt
     i=$((i + 1))
 done
-for fault in 0 1 2 3 4 5 6 7 8 9 10 11 12; do
-    build mutant -DFAULT=$fault -Wl,--wrap=hookbarley_decode tests/outside/damaged.c tests/outside/mutants.c || { bad faults "fault $fault does not build"; continue; }
+for fault in 0 1 2 3 4 5 6 7 8 9 10 11 12 13 14 15 16; do
+    build mutant -DFAULT=$fault -Wl,--wrap=hookbarley_decode,--wrap=hookbarley_deblock tests/outside/damaged.c tests/outside/mutants.c || { bad faults "fault $fault does not build"; continue; }
     $X86RUN $out/mutant $few 300 1 >$out/mutant-$fault.log 2>&1
     status=$?
     if [ $fault -eq 0 ]; then
-        [ $status -eq 0 ] || bad faults "the call without a fault fails"
+        [ $status -eq 0 ] || bad faults "the calls without a fault fail"
     elif [ $status -eq 1 ] && grep -q '^FAILED at' $out/mutant-$fault.log; then
         found=$((found + 1))
     else
         bad faults "fault $fault was not found (status $status)"
     fi
 done
-say faults "$found of 12 found"
+say faults "$found of 16 found"
 
 # 4. The Rust wrapper.
 if tests/outside/rust.sh "$ARCHIVE" >$out/rust.log 2>&1; then

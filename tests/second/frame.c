@@ -1,8 +1,8 @@
 /* Decodes the key frames of a .webp (simple lossy) or .ivf file with the archive and writes their planes, cut to the true size, one after
  * the other on standard output, as ffmpeg -f rawvideo -pix_fmt yuv420p does: frame FILE, or frame FILE filtered for the pictures after the
- * loop filter, each edge by the archive's kernel with the strengths that the picture call left. The frame header (RFC 6386, sections 9 and 19.2), which the
- * archive does not read yet, is read here, by a boolean decoder of its own; where it ends, the archive's reader starts, in the middle of the first
- * partition. Each partition is copied with zero bytes behind it, since other decoders read zeros past its end.
+ * loop filter, which is the archive's deblocking call with the strengths that the picture call left. The frame header (RFC 6386, sections
+ * 9 and 19.2), which the archive does not read yet, is read here, by a boolean decoder of its own; where it ends, the archive's reader
+ * starts, in the middle of the first partition. Each partition is copied with zero bytes behind it, since other decoders read zeros past its end.
  * A line a frame goes to standard error: number, macroblocks finished, size, partitions, segments, filter level and kind. */
 #include "hookbarley.h"
 #include "tables.h"
@@ -75,36 +75,6 @@ static size_t header_of(struct reader *r, int32_t *h, int *simple) {
     return count;
 }
 
-/* Section 15: `lines` samples of an edge of plane p, from p[at] on, `along` from line to line and `across` over the edge. */
-static void edge(uint8_t *p, size_t at, size_t across, size_t along, int lines, int simple, int whole, unsigned limit, const uint8_t *strength) {
-    for (; lines--; at += along) {
-        uint8_t e[8];
-        for (size_t i = 0; i < 8; i++) e[i] = p[at + i * across - 4 * across];
-        if (hookbarley_filter(e, 8, (uint8_t)simple, (uint8_t)whole, (uint8_t)limit, strength[1], strength[2])) exit(2);
-        for (size_t i = 0; i < 8; i++) p[at + i * across - 4 * across] = e[i];
-    }
-}
-
-/* The edges of one square of a macroblock: left, inner vertical, top, inner horizontal. */
-static void edges(uint8_t *p, size_t stride, size_t column, size_t row, size_t size, int simple, const uint8_t *strength) {
-    size_t at = row * size * stride + column * size;
-    if (column) edge(p, at, 1, stride, (int)size, simple, 1, strength[0] + 4u, strength);
-    for (size_t i = 4; strength[3] && i < size; i += 4) edge(p, at + i, 1, stride, (int)size, simple, 0, strength[0], strength);
-    if (row) edge(p, at, stride, 1, (int)size, simple, 1, strength[0] + 4u, strength);
-    for (size_t i = 4; strength[3] && i < size; i += 4) edge(p, at + i * stride, stride, 1, (int)size, simple, 0, strength[0], strength);
-}
-
-static void filtered(uint8_t *y, uint8_t *u, uint8_t *v, size_t w, size_t h, int simple, const uint8_t *strengths) {
-    for (size_t row = 0; row < h / 16; row++)
-        for (size_t column = 0; column < w / 16; column++, strengths += 4) {
-            if (!strengths[0]) continue;
-            edges(y, w, column, row, 16, simple, strengths);
-            if (simple) continue;
-            edges(u, w / 2, column, row, 8, 0, strengths);
-            edges(v, w / 2, column, row, 8, 0, strengths);
-        }
-}
-
 static void *lent(size_t n) {
     uint8_t *p = malloc(n);
     if (!p) exit(2);
@@ -150,7 +120,8 @@ static int frame(const uint8_t *f, size_t n, int filter) {
     uint32_t number = hookbarley_decode(bytes, at, 0, first + PAD, starts, 8, lengths, 8, r.at, r.range, r.shifts, r.window, count, header, 1096, w, h,
                                         y, w * h, u, w * h / 4, v, w * h / 4, columns, 13 * (w / 16), modes, 20 * blocks, strengths, 4 * blocks, &k);
     fprintf(stderr, "%u %zu %zux%zu partitions %zu segments %d level %d simple %d\n", number, k, width, height, count, header[2], header[18], simple);
-    if (filter && header[18]) filtered(y, u, v, w, h, simple, strengths); /* a frame of level 0 is not filtered at all */
+    /* a frame of level 0 is not filtered at all */
+    if (filter && header[18] && hookbarley_deblock(y, w * h, u, w * h / 4, v, w * h / 4, strengths, 4 * blocks, w, h, (uint32_t)simple)) return bad("deblocking is refused");
     put(y, w, width, height);
     put(u, w / 2, (width + 1) / 2, (height + 1) / 2);
     put(v, w / 2, (width + 1) / 2, (height + 1) / 2);

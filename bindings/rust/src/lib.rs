@@ -19,6 +19,13 @@ extern "C" {
         strengths: *mut u8, strengths_len: usize,
         finished: *mut usize,
     ) -> u32;
+    fn hookbarley_deblock(
+        y: *mut u8, y_len: usize,
+        u: *mut u8, u_len: usize,
+        v: *mut u8, v_len: usize,
+        strengths: *const u8, strengths_len: usize,
+        width: usize, height: usize, simple: u32,
+    ) -> u32;
     fn hookbarley_filter(samples: *mut u8, samples_len: usize, simple: u8, edge: u8, limit: u8, inner: u8, threshold: u8) -> u32;
 }
 
@@ -120,6 +127,33 @@ pub fn decode(tile: &Tile, mem: &mut Memory) -> Decoded {
         6 => Decoded::NoModes(k),
         7 => Decoded::NoTokens(k),
         n => Decoded::Refused(n),
+    }
+}
+
+/// How deblocking ended.
+#[derive(Clone, Copy, Debug, PartialEq, Eq)]
+pub enum Deblocked {
+    /// The planes are deblocked.
+    Done,
+    /// An argument was refused: 1 the size, 4 a length, 11 a strength record's limit above 189; nothing lent has changed.
+    Refused(u32),
+}
+
+/// Deblocks the planes in place by the strengths that `decode` left; what it left is never refused. The simple kind touches luma only.
+pub fn deblock(mem: &mut Memory, width: usize, height: usize, simple: bool) -> Deblocked {
+    // Safe: each pointer and length is of a slice, and the lent ones are three different vectors.
+    let number = unsafe {
+        hookbarley_deblock(
+            mem.y.as_mut_ptr(), mem.y.len(),
+            mem.u.as_mut_ptr(), mem.u.len(),
+            mem.v.as_mut_ptr(), mem.v.len(),
+            mem.strengths.as_ptr(), mem.strengths.len(),
+            width, height, simple as u32,
+        )
+    };
+    match number {
+        0 => Deblocked::Done,
+        n => Deblocked::Refused(n),
     }
 }
 

@@ -1,5 +1,5 @@
 //! The archive called from Rust: the worked tile, refusals, cut partitions, memory lent again and again.
-use hookbarley::{decode, filter, Decoded, Memory, Reader, Tile};
+use hookbarley::{deblock, decode, filter, Deblocked, Decoded, Memory, Reader, Tile};
 
 /// The worked tile: 16 by 16, header 0 but 128 in 38..1093, both partitions zero bytes.
 fn tile<'a>(bytes: &'a [u8], first: usize, tokens: usize, header: &'a [i32]) -> Tile<'a> {
@@ -217,4 +217,54 @@ fn kernel() {
     assert_eq!(e, [100, 100, 100, 100, 110, 110, 110, 110]);
     filter(&mut e, false, true, 25, 0, 0);
     assert_eq!(e, [100, 101, 103, 104, 106, 107, 109, 110]);
+}
+
+#[test]
+fn deblocks_an_edge() {
+    // two macroblocks, 100 and 110: the worked numbers of a macroblock edge with limit 21 + 4, level by level
+    let mut mem = Memory::new(32, 16, 0);
+    for (i, x) in mem.y.iter_mut().enumerate() {
+        *x = if i % 32 < 16 { 100 } else { 110 };
+    }
+    mem.strengths = vec![21, 0, 0, 0, 21, 0, 0, 0];
+    let before = mem.clone();
+    assert_eq!(deblock(&mut mem, 32, 16, false), Deblocked::Done);
+    for row in mem.y.chunks(32) {
+        assert_eq!(&row[12..20], &[100, 101, 103, 104, 106, 107, 109, 110]);
+    }
+    let mut simple = before.clone();
+    assert_eq!(deblock(&mut simple, 32, 16, true), Deblocked::Done);
+    assert_eq!(&simple.y[12..20], &[100, 100, 100, 102, 107, 110, 110, 110]);
+    // limit 0: nothing
+    let mut still = before.clone();
+    still.strengths = vec![0; 8];
+    assert_eq!(deblock(&mut still, 32, 16, false), Deblocked::Done);
+    assert_eq!((&still.y, &still.u, &still.v), (&before.y, &before.u, &before.v));
+}
+
+#[test]
+fn deblocking_refuses_and_changes_nothing() {
+    let good = Memory::new(32, 16, 100);
+    let mut limit = good.clone();
+    limit.strengths[4] = 190;
+    let mut short = limit.clone();
+    short.v.pop();
+    for (number, mem, width) in [(11, &limit, 32), (4, &short, 32), (1, &short, 33), (4, &good, 16)] {
+        let mut m = mem.clone();
+        assert_eq!(deblock(&mut m, width, 16, false), Deblocked::Refused(number));
+        assert_eq!(&m, mem);
+    }
+}
+
+#[test]
+fn a_cut_tile_stays_grey() {
+    let mut h = header();
+    h[18] = 63;
+    let bytes = [0u8; 64];
+    let mut mem = Memory::new(16, 16, 0xA5);
+    assert_eq!(decode(&tile(&bytes, 32, 2, &h), &mut mem), Decoded::NoTokens(0));
+    for simple in [false, true] {
+        assert_eq!(deblock(&mut mem, 16, 16, simple), Deblocked::Done);
+        assert_eq!((sum(&mem.y), sum(&mem.u), sum(&mem.v)), (32768, 8192, 8192));
+    }
 }

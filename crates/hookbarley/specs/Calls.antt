@@ -5,6 +5,9 @@ use mathlib.Core.List.{List}
 use lib.Dec.{eqb}
 use lib.ListN.{length}
 use Rattle.kernel.specs.Kernel.{filterOf}
+use Rattle.macroblock.specs.Macroblock.{Planes}
+use Rattle.deblock.specs.Deblock as Deblock
+use Rattle.deblock.specs.Deblock.{Outcome, deblockOf}
 use Rattle.picture.specs.Memory.{Memory}
 use Rattle.picture.specs.Checks.{Tile}
 use Rattle.picture.specs.Picture.{Ended, numberOf, valuesOf, pictureOf}
@@ -25,13 +28,25 @@ calledOf t m =
       | false ↦ record { number = 9; finished = 0; mem = m }
     ]
 
--- eight samples, else 9; a flag is true where its byte is not 0
+-- a flag is true where its number is not 0
+abbrev pub flagOf : ℕ → Bool
+flagOf n = not (eqb n 0)
+
+-- deblocking: its number and the planes
+pub record DeblockCalled : Type 0 where
+  pub number : ℕ
+  pub planes : Planes
+
+abbrev pub toDeblockCalled : Outcome → DeblockCalled
+toDeblockCalled o = record { number = Deblock.numberOf (o .answer); planes = o .planes }
+
+unfoldable pub deblockCalledOf : Planes → (strengths : List ℕ) → (w h simple : ℕ) → DeblockCalled
+deblockCalledOf d strengths w h simple = toDeblockCalled (deblockOf d strengths w h (flagOf simple))
+
+-- eight samples, else 9
 pub record Filtered : Type 0 where
   pub number : ℕ
   pub samples : List ℕ
-
-abbrev pub flagOf : ℕ → Bool
-flagOf n = not (eqb n 0)
 
 unfoldable pub filteredOf : List ℕ → (simple edge limit inner threshold : ℕ) → Filtered
 filteredOf e simple edge limit inner threshold =

@@ -13,7 +13,11 @@ use Rattle.picture.specs.Memory.{Memory}
 use Rattle.picture.specs.Checks.{Tile}
 use Rattle.picture.specs.declared.rows.Decoded.{Decoded}
 use Rattle.picture.specs.Picture.{Ended, numberOf, valuesOf, pictureOf}
-use Rattle.hookbarley.specs.Calls.{Called, toCalled, calledOf, Filtered, flagOf, filteredOf}
+use Rattle.macroblock.specs.Macroblock.{Planes}
+use Rattle.deblock.specs.declared.Deblocked.{Deblocked}
+use Rattle.deblock.specs.Deblock as Deblock
+use Rattle.deblock.specs.Deblock.{Outcome, deblockOf}
+use Rattle.hookbarley.specs.Calls.{Called, toCalled, calledOf, DeblockCalled, toDeblockCalled, deblockCalledOf, Filtered, flagOf, filteredOf}
 
 module _ (t : Tile) (m : Memory) where
   pub called-starts : (length (t .starts) ≡ 8 → ⊥) → record { number = 9; finished = 0; mem = m } ≡ calledOf t m
@@ -38,6 +42,11 @@ withParts t a b = record { bytes = t .bytes; firstStart = t .firstStart; firstLe
 pub called-found : (t : Tile) (m : Memory) → length (t .starts) ≡ 8 → length (t .lengths) ≡ 8 → {n k : ℕ} {d : Decoded} {q : Memory} → n ≡ numberOf d → k ≡ valuesOf d
     → {a b : List ℕ} → a ≡ t .starts → b ≡ t .lengths → record { answer = d; mem = q } ≡ pictureOf (withParts t a b) m → record { number = n; finished = k; mem = q } ≡ calledOf t m
 called-found t m d e f g {a} {b} p q h = called-picture t m d e f g (h ∙ (λ i. pictureOf (withParts t (p i) (q i)) m))
+
+pub deblock-called : (d : Planes) (s : List ℕ) (w h simple : ℕ) {n : ℕ} {a : Deblocked} {p : Planes} → n ≡ Deblock.numberOf a
+    → _≡_ {A = Outcome} (record { answer = a; planes = p }) (deblockOf d s w h (flagOf simple)) → record { number = n; planes = p } ≡ deblockCalledOf d s w h simple
+unfolding deblockCalledOf
+deblock-called d s w h simple {n} {a} {p} e f = ap (λ (k : ℕ). record { number = k; planes = p }) e ∙ ap toDeblockCalled f
 
 module _ (e : List ℕ) (simple edge limit inner threshold : ℕ) where
   pub filtered-refused : (length e ≡ 8 → ⊥) → record { number = 9; samples = e } ≡ filteredOf e simple edge limit inner threshold

@@ -1,5 +1,7 @@
-// What a program in C or Rust links: the picture call and the edge kernel, on numbers and slices. A slice passes as a pointer
-// and a length; include/hookbarley.h says the same in C.
+// What a program in C or Rust links: the picture call, deblocking (deblocking) and the edge kernel, on numbers and slices. A slice passes as
+// a pointer and a length; include/hookbarley.h says the same in C.
+pub mod deblocking;
+
 use kernel::filter;
 use picture::decode;
 use picture::rows::Decoded;

@@ -1,9 +1,9 @@
 // The loop filter's kernel: eight samples across an edge, RFC 6386 section 15. `filter` is in two steps, as its definition in
 // specs/Kernel.antt is: rules.rt finds which rule acts, and steps.rt what the rule adds to each sample.
 pub mod answers;
-mod rules;
+pub mod rules;
 mod samples;
-mod steps;
+pub mod steps;
 
 use answers::Pixel;
 ghost use mathlib.Core.Path.{_≡_};

@@ -2,10 +2,9 @@
 use super::answers::Rule;
 use super::samples::minus;
 ghost use mathlib.Core.Path.{_≡_};
-ghost use mathlib.Core.List.{[], _∷_};
 ghost use lib.IntN.{pos, negsuc, natAbs};
 ghost use Rattle.numbers.specs.In.{In};
-ghost use Rattle.kernel.specs.Kernel.{samplesOf, apart, withinLimit, firstFalse, smooth, roughAt, highVariance, ruleOf};
+ghost use Rattle.kernel.specs.Kernel.{samplesOf, apart, withinLimit, smooth, roughAt, highVariance, ruleOf};
 
 fn abs(v: i32) -> i32
     requires { ⌜ In (negsuc 254) (pos 255) v ⌝ }
@@ -37,39 +36,29 @@ fn smooth(a: u8, b: u8, inner: u8) -> bool
     distance(a, b) <= inner as i32
 }
 
-// How many of six tests hold before the first that fails.
-fn first_false(a: bool, b: bool, c: bool, d: bool, e: bool, f: bool) -> u8
-    ensures { λ r. ⌜ r ≡ firstFalse (a ∷ b ∷ c ∷ d ∷ e ∷ f ∷ []) ⌝ }
-{
-    if !a {
-        0
-    } else if !b {
-        1
-    } else if !c {
-        2
-    } else if !d {
-        3
-    } else if !e {
-        4
-    } else if !f {
-        5
-    } else {
-        6
-    }
-}
-
-// The first pair of neighbours that is not smooth, 6 where all are.
+// The first pair of neighbours that is not smooth, 6 where all are. No pair after it is looked at.
 fn rough(e: &[u8; 8], inner: u8) -> u8
     ensures { λ r. ⌜ r ≡ roughAt (samplesOf (now (e .entry))) inner ⌝ }
 {
-    first_false(
-        smooth(e[0], e[1], inner),
-        smooth(e[1], e[2], inner),
-        smooth(e[2], e[3], inner),
-        smooth(e[7], e[6], inner),
-        smooth(e[6], e[5], inner),
-        smooth(e[5], e[4], inner),
-    )
+    if !smooth(e[0], e[1], inner) {
+        return 0;
+    }
+    if !smooth(e[1], e[2], inner) {
+        return 1;
+    }
+    if !smooth(e[2], e[3], inner) {
+        return 2;
+    }
+    if !smooth(e[7], e[6], inner) {
+        return 3;
+    }
+    if !smooth(e[6], e[5], inner) {
+        return 4;
+    }
+    if !smooth(e[5], e[4], inner) {
+        return 5;
+    }
+    6
 }
 
 // Whether the two samples next to the edge, on either side, differ by more than threshold.
@@ -80,14 +69,7 @@ fn high_variance(e: &[u8; 8], threshold: u8) -> bool
 }
 
 // The rule that acts: each test is made once, and none that the answer does not need.
-pub(crate) fn rule(
-    e: &[u8; 8],
-    simple: bool,
-    edge: bool,
-    limit: u8,
-    inner: u8,
-    threshold: u8,
-) -> Rule
+pub fn rule(e: &[u8; 8], simple: bool, edge: bool, limit: u8, inner: u8, threshold: u8) -> Rule
     ensures { λ r. ⌜ r ≡ ruleOf (samplesOf (now (e .entry))) simple edge limit inner threshold ⌝ }
 {
     if !within_limit(e, limit) {

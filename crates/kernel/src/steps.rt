@@ -114,7 +114,7 @@ fn inner(e: &[u8; 8]) -> [u8; 8]
 }
 
 // What the rule does. Each arm moves the samples by itself, so that the compiler sees which steps are 0.
-pub(crate) fn acted(e: &[u8; 8], rule: Rule) -> [u8; 8]
+pub fn acted(e: &[u8; 8], rule: Rule) -> [u8; 8]
     ensures { λ r. ⌜ r ≡ movedOf (now (e .entry)) (stepsOf rule (samplesOf (now (e .entry)))) ⌝ }
 {
     match rule {

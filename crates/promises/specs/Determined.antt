@@ -19,7 +19,8 @@ use Rattle.segments.specs.declared.quantizers.Factors.{Factors}
 use Rattle.coefficients.specs.Tokens as Tokens
 use Rattle.coefficients.specs.Tokens.{numberAnswer, signedAnswer, tableOf}
 use Rattle.coefficients.specs.Transform.{transformOf}
-use Rattle.kernel.specs.Kernel.{filterOf, pixelOf}
+use Rattle.kernel.specs.declared.answers.Rule.{Rule}
+use Rattle.kernel.specs.Kernel.{samplesOf, ruleOf, stepsOf, movedOf, filterOf, pixelOf}
 use Rattle.modes.specs.Answers.{prefixAnswer, mainAnswer, blockAnswer, smallAnswer, modesAnswer}
 use Rattle.modes.specs.Modes as Modes
 use Rattle.modes.specs.Modes.{bottomOf}
@@ -38,7 +39,8 @@ use Rattle.macroblock.specs.declared.strengths.Strength.{Strength}
 use Rattle.picture.specs.Checks.{Tile}
 use Rattle.picture.specs.Memory.{Memory}
 use Rattle.casefile.specs.Run.{ranOf}
-use Rattle.hookbarley.specs.Calls.{calledOf, filteredOf}
+use Rattle.deblock.specs.Deblock.{deblockOf}
+use Rattle.hookbarley.specs.Calls.{calledOf, deblockCalledOf, filteredOf}
 use Rattle.picture.specs.Picture.{pictureOf}
 
 -- one answer meets the promise, and no other
@@ -133,6 +135,12 @@ kernel-filter e simple edge limit inner threshold = determined (filterOf e simpl
 pub kernel-pixel : (e : List ℕ) (simple edge : Bool) (limit inner threshold k : ℕ) → One (λ x. x ≡ pixelOf e simple edge limit inner threshold k)
 kernel-pixel e simple edge limit inner threshold k = determined (pixelOf e simple edge limit inner threshold k)
 
+pub kernel-rule : (e : List ℕ) (simple edge : Bool) (limit inner threshold : ℕ) → One (λ x. x ≡ ruleOf (samplesOf e) simple edge limit inner threshold)
+kernel-rule e simple edge limit inner threshold = determined (ruleOf (samplesOf e) simple edge limit inner threshold)
+
+pub kernel-acted : (e : List ℕ) (rule : Rule) → One (λ x. x ≡ movedOf e (stepsOf rule (samplesOf e)))
+kernel-acted e rule = determined (movedOf e (stepsOf rule (samplesOf e)))
+
 -- ---- modes
 pub modes-prefix : (s : List ℕ) (r : Reader) (h : List ℤ) → One (λ x. x ≡ prefixAnswer s r h)
 modes-prefix s r h = determined (prefixAnswer s r h)
@@ -198,6 +206,10 @@ macroblock-decode s r tokens t h table frame top left w column row p = determine
 pub picture-decode : (t : Tile) (m : Memory) → One (λ x. x ≡ pictureOf t m)
 picture-decode t m = determined (pictureOf t m)
 
+-- ---- deblock
+pub deblock-deblock : (d : Planes) (strengths : List ℕ) (w h : ℕ) (simple : Bool) → One (λ x. x ≡ deblockOf d strengths w h simple)
+deblock-deblock d strengths w h simple = determined (deblockOf d strengths w h simple)
+
 -- ---- casefile
 pub casefile-run : (file : List ℕ) → One (λ x. x ≡ ranOf file)
 casefile-run file = determined (ranOf file)
@@ -205,6 +217,9 @@ casefile-run file = determined (ranOf file)
 -- ---- hookbarley
 pub hookbarley-decode : (t : Tile) (m : Memory) → One (λ x. x ≡ calledOf t m)
 hookbarley-decode t m = determined (calledOf t m)
+
+pub hookbarley-deblock : (d : Planes) (strengths : List ℕ) (w h simple : ℕ) → One (λ x. x ≡ deblockCalledOf d strengths w h simple)
+hookbarley-deblock d strengths w h simple = determined (deblockCalledOf d strengths w h simple)
 
 pub hookbarley-filter : (samples : List ℕ) (simple edge limit inner threshold : ℕ) → One (λ x. x ≡ filteredOf samples simple edge limit inner threshold)
 hookbarley-filter samples simple edge limit inner threshold = determined (filteredOf samples simple edge limit inner threshold)

@@ -14,3 +14,5 @@ pub mod IsolationLaws
 pub mod Valid
 pub mod Witness
 pub mod Determined
+pub mod Deblocked
+pub mod DeblockedLaws

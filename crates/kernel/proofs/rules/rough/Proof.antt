@@ -1,31 +1,42 @@
--- `rough` meets its contract.
-use mathlib.Core.Path.{refl, ap, _∙_}
+-- `rough` meets its contract: each way out has the tests before it, and its own.
+use Rattle.kernel.specs.Kernel.{roughAt}
+use Rattle.kernel.specs.KernelLaws.{first-none, first-here, first-later}
 use borrow.Author.Needs.{needs}
-use Rattle.numbers.specs.Lists.{_∷≡_}
-use Rattle.kernel.specs.Kernel.{firstFalse, roughAt}
 use Rattle.kernel.proofs.rules.rough.Statement.{statement}
 use Rattle.kernel.proofs.rules.rough.Tie as tie
 
 returns : tie.Need-returns
 unfolding roughAt
-returns c =
-    let s6 = c .before in
-    let s5 = s6 .before .before .before in
-    let s4 = s5 .before .before .before in
-    let s3 = s4 .before .before .before in
-    let s2 = s3 .before .before .before in
-    let s1 = s2 .before .before .before in
-    c .first-false .ensures
-    ∙ ap firstFalse
-    (s1 .smooth .ensures ∷≡ s2 .smooth2 .ensures ∷≡ s3 .smooth3 .ensures ∷≡ s4 .smooth4 .ensures ∷≡ s5 .smooth5 .ensures ∷≡ s6 .smooth6 .ensures ∷≡ refl)
+returns c = first-here _ _ (rw (c .before .smooth .ensures) at (c .if1 .taken))
+
+returns-2 : tie.Need-returns-2
+unfolding roughAt
+returns-2 c = first-later _ _ (rw (c .before .before .before .before .before .smooth .ensures) at (c .before .before .before .before .if1 .left)) (first-here _ _ (rw (c .before .smooth2 .ensures) at (c .if2 .taken)))
+
+returns-3 : tie.Need-returns-3
+unfolding roughAt
+returns-3 c = first-later _ _ (rw (c .before .before .before .before .before .before .before .before .before .smooth .ensures) at (c .before .before .before .before .before .before .before .before .if1 .left)) (first-later _ _ (rw (c .before .before .before .before .before .smooth2 .ensures) at (c .before .before .before .before .if2 .left)) (first-here _ _ (rw (c .before .smooth3 .ensures) at (c .if3 .taken))))
+
+returns-4 : tie.Need-returns-4
+unfolding roughAt
+returns-4 c = first-later _ _ (rw (c .before .before .before .before .before .before .before .before .before .before .before .before .before .smooth .ensures) at (c .before .before .before .before .before .before .before .before .before .before .before .before .if1 .left)) (first-later _ _ (rw (c .before .before .before .before .before .before .before .before .before .smooth2 .ensures) at (c .before .before .before .before .before .before .before .before .if2 .left)) (first-later _ _ (rw (c .before .before .before .before .before .smooth3 .ensures) at (c .before .before .before .before .if3 .left)) (first-here _ _ (rw (c .before .smooth4 .ensures) at (c .if4 .taken)))))
+
+returns-5 : tie.Need-returns-5
+unfolding roughAt
+returns-5 c = first-later _ _ (rw (c .before .before .before .before .before .before .before .before .before .before .before .before .before .before .before .before .before .smooth .ensures) at (c .before .before .before .before .before .before .before .before .before .before .before .before .before .before .before .before .if1 .left)) (first-later _ _ (rw (c .before .before .before .before .before .before .before .before .before .before .before .before .before .smooth2 .ensures) at (c .before .before .before .before .before .before .before .before .before .before .before .before .if2 .left)) (first-later _ _ (rw (c .before .before .before .before .before .before .before .before .before .smooth3 .ensures) at (c .before .before .before .before .before .before .before .before .if3 .left)) (first-later _ _ (rw (c .before .before .before .before .before .smooth4 .ensures) at (c .before .before .before .before .if4 .left)) (first-here _ _ (rw (c .before .smooth5 .ensures) at (c .if5 .taken))))))
+
+returns-6 : tie.Need-returns-6
+unfolding roughAt
+returns-6 c = first-later _ _ (rw (c .before .before .before .before .before .before .before .before .before .before .before .before .before .before .before .before .before .before .before .before .before .smooth .ensures) at (c .before .before .before .before .before .before .before .before .before .before .before .before .before .before .before .before .before .before .before .before .if1 .left)) (first-later _ _ (rw (c .before .before .before .before .before .before .before .before .before .before .before .before .before .before .before .before .before .smooth2 .ensures) at (c .before .before .before .before .before .before .before .before .before .before .before .before .before .before .before .before .if2 .left)) (first-later _ _ (rw (c .before .before .before .before .before .before .before .before .before .before .before .before .before .smooth3 .ensures) at (c .before .before .before .before .before .before .before .before .before .before .before .before .if3 .left)) (first-later _ _ (rw (c .before .before .before .before .before .before .before .before .before .smooth4 .ensures) at (c .before .before .before .before .before .before .before .before .if4 .left)) (first-later _ _ (rw (c .before .before .before .before .before .smooth5 .ensures) at (c .before .before .before .before .if5 .left)) (first-here _ _ (rw (c .before .smooth6 .ensures) at (c .if6 .taken)))))))
+
+returns-7 : tie.Need-returns-7
+unfolding roughAt
+returns-7 c = first-later _ _ (rw (c .before .before .before .before .before .before .before .before .before .before .before .before .before .before .before .before .before .before .before .before .before .smooth .ensures) at (c .before .before .before .before .before .before .before .before .before .before .before .before .before .before .before .before .before .before .before .before .if1 .left)) (first-later _ _ (rw (c .before .before .before .before .before .before .before .before .before .before .before .before .before .before .before .before .before .smooth2 .ensures) at (c .before .before .before .before .before .before .before .before .before .before .before .before .before .before .before .before .if2 .left)) (first-later _ _ (rw (c .before .before .before .before .before .before .before .before .before .before .before .before .before .smooth3 .ensures) at (c .before .before .before .before .before .before .before .before .before .before .before .before .if3 .left)) (first-later _ _ (rw (c .before .before .before .before .before .before .before .before .before .smooth4 .ensures) at (c .before .before .before .before .before .before .before .before .if4 .left)) (first-later _ _ (rw (c .before .before .before .before .before .smooth5 .ensures) at (c .before .before .before .before .if5 .left)) (first-later _ _ (rw (c .before .smooth6 .ensures) at (c .if6 .left)) first-none)))))
 
 pub rough-spec : {M : Type 1} → statement M
 rough-spec =
     tie.close
-    (tie.spec (λ c. search needs) (λ c. search needs) (λ c κs. search needs)
-    (λ c. search needs) (λ c. search needs) (λ c κs. search needs)
-    (λ c. search needs) (λ c. search needs) (λ c κs. search needs)
-    (λ c. search needs) (λ c. search needs) (λ c κs. search needs)
-    (λ c. search needs) (λ c. search needs) (λ c κs. search needs)
-    (λ c. search needs) (λ c. search needs) (λ c κs. search needs)
-    (λ c κs. search needs) returns)
+    (tie.spec (λ c. search needs) (λ c. search needs) (λ c κs. search needs) returns (λ c. search needs) (λ c. search needs) (λ c κs. search needs)
+    returns-2 (λ c. search needs) (λ c. search needs) (λ c κs. search needs) returns-3 (λ c. search needs) (λ c. search needs) (λ c κs. search needs)
+    returns-4 (λ c. search needs) (λ c. search needs) (λ c κs. search needs) returns-5 (λ c. search needs) (λ c. search needs) (λ c κs. search needs)
+    returns-6 returns-7)

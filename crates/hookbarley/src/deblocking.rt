@@ -1,0 +1,32 @@
+// The deblocking call.
+use deblock::Deblocked;
+use deblock::deblock;
+ghost use mathlib.Core.Path.{_≡_};
+ghost use Rattle.deblock.specs.Deblock.{numberOf};
+ghost use Rattle.hookbarley.specs.Calls.{DeblockCalled, deblockCalledOf};
+
+fn number_of(d: Deblocked) -> u32
+    ensures { λ r. ⌜ r ≡ numberOf d ⌝ }
+{
+    match d {
+        Deblocked::Done => 0,
+        Deblocked::Refused(n) => n,
+    }
+}
+
+// Deblocks the planes in place by the strengths that the picture call left. `simple` is true where it is not 0.
+#[no_mangle]
+pub extern "C" fn hookbarley_deblock(
+    y: &mut [u8],
+    u: &mut [u8],
+    v: &mut [u8],
+    strengths: &[u8],
+    width: usize,
+    height: usize,
+    simple: u32,
+) -> u32
+    ensures { λ r. ⌜ _≡_ {A = DeblockCalled} (record { number = r; planes = record { y = now (y .exit); u = now (u .exit); v = now (v .exit) } })
+        (deblockCalledOf (record { y = now (y .entry); u = now (u .entry); v = now (v .entry) }) (now (strengths .entry)) width height simple) ⌝ }
+{
+    number_of(deblock(y, u, v, strengths, width, height, simple != 0))
+}

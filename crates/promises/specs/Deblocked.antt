@@ -1,0 +1,76 @@
+-- What is promised of deblocking (request M-100): how far an edge reaches, which arguments are refused, that no sample of an unfinished
+-- macroblock moves, and demand 3: what stands in token partition p decides nothing in the macroblock rows above row p, but for the lowest
+-- three sample rows of each plane in row p-1. DeblockedLaws proves each: `edge-reaches`, `deblock-refused`, `grey-stays`, `isolated-deblocked`.
+use Prim.Native.Nat.{ℕ, _+_, _*_, _/_, _≤_, _<_}
+use mathlib.Core.Bool.{Bool}
+use mathlib.Core.List.{List}
+use mathlib.Core.Path.{_≡_}
+use lib.ListN.{length, getD}
+use Rattle.planes.specs.Paint.{sampleAt}
+use Rattle.macroblock.specs.StrengthRecords.{strengthAt}
+use Rattle.macroblock.specs.Macroblock.{Planes}
+use Rattle.picture.specs.Memory.{Memory}
+use Rattle.picture.specs.Checks.{Tile}
+use Rattle.picture.specs.Picture.{pictureOf, planesOf}
+use Rattle.deblock.specs.declared.edges.Edge.{Edge}
+use Rattle.deblock.specs.declared.Deblocked.the-variants.{Done}
+use Rattle.deblock.specs.Deblock.{sweepOf, Side, Lengths, Outcome, deblockOf, numberOf}
+use Rattle.promises.specs.Places.{Plane, luma, blue, red, sideOf, blockAt}
+use Rattle.promises.specs.Grey.{Inside, done}
+use Rattle.promises.specs.Isolation.{SameTokens}
+
+-- ---- THE PROMISE of one edge of n positions. Sample k of position j is p3, p2, p1, p0 for k = 0 to 3 and q0, q1, q2, q3 for k = 4 to 7
+abbrev pub sampleAcross : (at along step j k : ℕ) → ℕ
+sampleAcross at along step j k = at + j * along + k * step
+
+pub record EdgeReaches (g : Edge) (at along step n : ℕ) : Type 0 where
+  -- at most three samples on either side change: nothing but p2, p1, p0, q0, q1, q2 of its positions
+  pub changes : (p : List ℕ) (i : ℕ) → ((j k : ℕ) → j < n → 0 < k → k < 7 → i ≡ sampleAcross at along step j k → ⊥) → getD (sweepOf g at along step n p) i 0 ≡ getD p i 0
+  -- four on either side are looked at: planes that agree in them agree in them afterwards
+  pub looks : (p q : List ℕ) → length p ≡ length q → ((j k : ℕ) → j < n → k < 8 → getD p (sampleAcross at along step j k) 0 ≡ getD q (sampleAcross at along step j k) 0)
+      → (j k : ℕ) → j < n → k < 8 → getD (sweepOf g at along step n p) (sampleAcross at along step j k) 0 ≡ getD (sweepOf g at along step n q) (sampleAcross at along step j k) 0
+
+-- ---- THE PROMISE of the call's refusals: 1, 4 and 11 in this order, each exactly where its check fails and none before it does; then nothing
+-- changes
+abbrev pub Sized : Planes → (strengths : List ℕ) → (w h : ℕ) → Type 0
+Sized d s w h = Lengths w h (length (d .y)) (length (d .u)) (length (d .v)) (length s)
+
+abbrev pub numbered : Planes → (strengths : List ℕ) → (w h : ℕ) (simple : Bool) → ℕ
+numbered d s w h simple = numberOf (deblockOf d s w h simple .answer)
+
+pub record DeblockRefused (d : Planes) (s : List ℕ) (w h : ℕ) (simple : Bool) : Type 0 where
+  pub unchanged : (numbered d s w h simple ≡ 0 → ⊥) → deblockOf d s w h simple .planes ≡ d
+  pub side : (Side w × Side h → ⊥) → numbered d s w h simple ≡ 1
+  pub sized : Side w → Side h → (Sized d s w h → ⊥) → numbered d s w h simple ≡ 4
+  pub limit : Side w → Side h → Sized d s w h → (k : ℕ) → k < length s / 4 → 189 < strengthAt s k .limit → numbered d s w h simple ≡ 11
+  pub none : Side w → Side h → Sized d s w h → ((k : ℕ) → k < length s / 4 → strengthAt s k .limit ≤ 189) → numbered d s w h simple ≡ 0
+
+-- ---- the deblocking call on what the picture call leaves
+abbrev pub deblockedOf : Tile → Memory → Bool → Outcome
+deblockedOf t m simple = let d = pictureOf t m .mem in deblockOf (planesOf d) (d .strengths) (t .width) (t .height) simple
+
+abbrev pub plane : Plane → Planes → List ℕ
+plane luma d = d .y
+plane blue d = d .u
+plane red d = d .v
+
+-- the sample at column c of row r of a plane after it
+abbrev pub sampleAfter : Tile → Memory → Bool → Plane → (c r : ℕ) → ℕ
+sampleAfter t m simple a c r = sampleAt (plane a (deblockedOf t m simple .planes)) (t .width / 16 * sideOf a) c r
+
+-- THE PROMISE, after 0, 6 and 7: it is never refused; and no sample of an unfinished macroblock moves, so that grey stays grey
+pub record GreyStays (t : Tile) (m : Memory) (simple : Bool) : Type 0 where
+  pub answer : deblockedOf t m simple .answer ≡ Done
+  pub grey : (a : Plane) (c r : ℕ) → Inside t a c r → done t m ≤ blockAt (t .width / 16) a c r → sampleAfter t m simple a c r ≡ 128
+
+-- THE PROMISE, of the calls for two tiles alike in all but the bytes of token partition p
+pub record IsolatedDeblocked (p : ℕ) (t u : Tile) (m n : Memory) (simple : Bool) : Type 0 where
+  -- what the picture call leaves is never refused
+  pub first : deblockedOf t m simple .answer ≡ Done
+  pub second : deblockedOf u n simple .answer ≡ Done
+  -- the same samples in all macroblock rows above row p, the lowest three sample rows excepted
+  pub samples : (a : Plane) (c r : ℕ) → c < t .width / 16 * sideOf a → r + 3 < p * sideOf a → sampleAfter t m simple a c r ≡ sampleAfter u n simple a c r
+  -- if no row p exists, or nothing differs, or partition p is past the count, all agree
+  pub no-row : t .height / 16 ≤ p → deblockedOf t m simple ≡ deblockedOf u n simple
+  pub no-difference : SameTokens t u p → deblockedOf t m simple ≡ deblockedOf u n simple
+  pub ignored : t .count ≤ p → deblockedOf t m simple ≡ deblockedOf u n simple
