@@ -1,5 +1,7 @@
 pub mod Kernel
 pub mod KernelLaws
+pub mod Moves
+pub mod MovesLaws
 pub mod Source
 pub mod SourceLaws
 pub mod Rfc15
