@@ -18,7 +18,7 @@ use reader::boolean::open;
 ghost use mathlib.Core.Path.{_≡_};
 ghost use Prim.Native.Nat.{_+_, _*_, _/_, _<_, _≤_};
 ghost use lib.ListN.{length, replicate};
-ghost use Rattle.picture.specs.Picture.{Ended, numberOf, valuesOf, pictureOf};
+ghost use Rattle.picture.specs.Picture.{Ended, pictureOf};
 ghost use Rattle.casefile.specs.CaseFile.{widthOf, heightOf, openedOf, tileOf};
 ghost use Rattle.casefile.specs.CaseFileLaws.{Formed};
 ghost use Rattle.casefile.specs.Run.{lentOf, sumAfter, reportOf, malformedRan, ranOf};
@@ -65,28 +65,6 @@ fn malformed() -> Ran
     }
 }
 
-fn number_of(d: Decoded) -> u32
-    ensures { λ r. ⌜ r ≡ numberOf d ⌝ }
-{
-    match d {
-        Decoded::Whole(_) => 0,
-        Decoded::Refused(n) => n,
-        Decoded::NoModes(_) => 6,
-        Decoded::NoTokens(_) => 7,
-    }
-}
-
-fn finished_of(d: Decoded) -> usize
-    ensures { λ r. ⌜ r ≡ valuesOf d ⌝ }
-{
-    match d {
-        Decoded::Whole(k) => k,
-        Decoded::Refused(_) => 0,
-        Decoded::NoModes(k) => k,
-        Decoded::NoTokens(k) => k,
-    }
-}
-
 // The reader that the first partition is opened with. Under two bytes it is no reader: the picture call then refuses by 5.
 fn opened(first: &[u8]) -> Reader
     ensures { λ r. ⌜ r ≡ openedOf (now (first .entry)) ⌝ }
@@ -124,10 +102,10 @@ fn report(
     requires { ⌜ (length (now y) ≤ 4096) × (length (now u) ≤ 4096) × (length (now v) ≤ 4096) ⌝ }
     ensures { λ r. ⌜ r ≡ reportOf (record { answer = d; mem = record { y = now (y .entry); u = now (u .entry); v = now (v .entry); columns = now (columns .entry); modes = now (modes .entry); strengths = now (strengths .entry) } }) ⌝ }
 {
-    let number = number_of(d);
+    let number = d.number();
     Ran {
         number: number,
-        k: finished_of(d),
+        k: d.finished(),
         sums: Sums {
             y: sum_after(number, y),
             u: sum_after(number, u),

@@ -13,8 +13,8 @@ use lib.Dec.{eqb, leb}
 use lib.ListN.{length, getD, set}
 use Rattle.numbers.specs.Lists.{build}
 use Rattle.numbers.specs.Tables.{allBelow}
-use Rattle.kernel.specs.Kernel.{filterOf}
-use Rattle.macroblock.specs.declared.strengths.Strength.{Strength}
+use Rattle.filter.specs.Kernel.{filterOf}
+use Rattle.filter.specs.declared.strengths.Strength.{Strength}
 use Rattle.macroblock.specs.StrengthRecords.{strengthAt}
 use Rattle.macroblock.specs.Macroblock.{Planes}
 use Rattle.deblock.specs.declared.edges.Edge.{Edge}

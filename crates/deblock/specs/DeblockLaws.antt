@@ -10,7 +10,7 @@ use native.Mathlib.Nat.{mul-le-mul-right, suc-mul, one-mul}
 use lib.Dec.{eqb}
 use borrow.Author.Tests.{eqb-false, eq-eqb, ne-eqb}
 use lib.IntN.{ℤ, pos, _+ℤ_}
-use Rattle.macroblock.specs.declared.strengths.Strength.{Strength}
+use Rattle.filter.specs.declared.strengths.Strength.{Strength}
 use Rattle.macroblock.specs.StrengthRecords.{strengthAt}
 use lib.ListN.{length, getD, set, length-set}
 use lib.Seq.{getD-set-same, getD-set-other, set-getD}
@@ -18,9 +18,9 @@ use Rattle.numbers.specs.Tests.{lt-or, never}
 use Rattle.numbers.specs.Clamp.{clipZ}
 use Rattle.numbers.specs.Tables.{allBelow}
 use Rattle.numbers.specs.Lists.{build, _∷≡_, length-build, getD-build, getD-build-past}
-use Rattle.kernel.specs.declared.answers.Rule.{Rule}
-use Rattle.kernel.specs.Kernel.{samplesOf, ruleOf, stepsOf, movedOf, filterOf}
-use Rattle.kernel.specs.KernelLaws.{Bytes, clip-still, outermost-stay}
+use Rattle.filter.specs.declared.answers.Rule.{Rule}
+use Rattle.filter.specs.Kernel.{samplesOf, ruleOf, stepsOf, movedOf, filterOf}
+use Rattle.filter.specs.KernelLaws.{Bytes, clip-still, outermost-stay}
 use Rattle.deblock.specs.declared.edges.Edge.{Edge}
 use Rattle.deblock.specs.Deblock.{Change, turns, when, acrossOf, laidOf, keptOf, positionOf, sweepOf, verticalOf, horizontalOf, verticalsOf, horizontalsOf, outerEdge, innerEdge, squareOf, blockOf, rasterOf}
 

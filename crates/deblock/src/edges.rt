@@ -1,7 +1,7 @@
 // One edge of a plane, position by position.
-use kernel::answers::Rule;
-use kernel::rules::rule;
-use kernel::steps::acted;
+use filter::answers::Rule;
+use filter::rules::rule;
+use filter::steps::acted;
 ghost use mathlib.Core.Path.{_≡_};
 ghost use Prim.Native.Nat.{ℕ, _+_, _*_, _<_};
 ghost use lib.ListN.{length};

@@ -1,7 +1,7 @@
 // The edges of one macroblock in one plane, and of all in raster order.
 use crate::edges::Edge;
 use crate::edges::sweep;
-use macroblock::strengths::Strength;
+use filter::strengths::Strength;
 ghost use mathlib.Core.Path.{_≡_};
 ghost use Prim.Native.Nat.{_*_, _/_, _<_, _≤_};
 ghost use lib.ListN.{length};

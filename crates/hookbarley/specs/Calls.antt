@@ -4,7 +4,7 @@ use mathlib.Core.Bool.{Bool, true, false, not, _&&_}
 use mathlib.Core.List.{List}
 use lib.Dec.{eqb}
 use lib.ListN.{length}
-use Rattle.kernel.specs.Kernel.{filterOf}
+use Rattle.filter.specs.Kernel.{filterOf}
 use Rattle.macroblock.specs.Macroblock.{Planes}
 use Rattle.deblock.specs.Deblock as Deblock
 use Rattle.deblock.specs.Deblock.{Outcome, deblockOf}

@@ -8,7 +8,7 @@ use lib.Seq.{ext-getD}
 use borrow.Author.Tests.{eq-eqb, ne-eqb}
 use Rattle.numbers.specs.Tests.{both-true, both-false}
 use Rattle.numbers.specs.Lists.{build, listed, build-listed, length-build, getD-build}
-use Rattle.kernel.specs.Kernel.{filterOf}
+use Rattle.filter.specs.Kernel.{filterOf}
 use Rattle.picture.specs.Memory.{Memory}
 use Rattle.picture.specs.Checks.{Tile}
 use Rattle.picture.specs.declared.rows.Decoded.{Decoded}

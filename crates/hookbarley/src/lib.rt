@@ -2,36 +2,12 @@
 // a pointer and a length; include/hookbarley.h says the same in C.
 pub mod deblocking;
 
-use kernel::filter;
+use filter::filter;
 use picture::decode;
-use picture::rows::Decoded;
 use reader::boolean::Reader;
 ghost use mathlib.Core.Path.{_≡_};
 ghost use lib.ListN.{length};
-ghost use Rattle.picture.specs.Picture.{numberOf, valuesOf};
 ghost use Rattle.hookbarley.specs.Calls.{Called, calledOf, Filtered, filteredOf};
-
-fn number_of(d: Decoded) -> u32
-    ensures { λ r. ⌜ r ≡ numberOf d ⌝ }
-{
-    match d {
-        Decoded::Whole(_) => 0,
-        Decoded::Refused(n) => n,
-        Decoded::NoModes(_) => 6,
-        Decoded::NoTokens(_) => 7,
-    }
-}
-
-fn finished_of(d: Decoded) -> usize
-    ensures { λ r. ⌜ r ≡ valuesOf d ⌝ }
-{
-    match d {
-        Decoded::Whole(k) => k,
-        Decoded::Refused(_) => 0,
-        Decoded::NoModes(k) => k,
-        Decoded::NoTokens(k) => k,
-    }
-}
 
 fn eight(s: &[usize]) -> [usize; 8]
     requires { ⌜ length (now s) ≡ 8 ⌝ }
@@ -103,8 +79,8 @@ pub extern "C" fn hookbarley_decode(
         modes,
         strengths,
     );
-    *finished = finished_of(d);
-    number_of(d)
+    *finished = d.finished();
+    d.number()
 }
 
 fn eight_samples(s: &[u8]) -> [u8; 8]

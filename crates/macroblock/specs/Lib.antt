@@ -1,5 +1,3 @@
-pub mod Strengths
-pub mod StrengthsLaws
 pub mod StrengthRecords
 pub mod StrengthRecordsLaws
 pub mod Macroblock

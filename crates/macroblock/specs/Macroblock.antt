@@ -20,11 +20,11 @@ use Rattle.residual.specs.Residual.{Model, Flags, residualOf}
 use Rattle.planes.specs.Paint.{squarePainted}
 use Rattle.segments.specs.Frame.{factorsAt, levelAt}
 use Rattle.segments.specs.declared.frame.Frame.{Frame}
-use Rattle.macroblock.specs.declared.strengths.Strength.{Strength}
+use Rattle.filter.specs.declared.strengths.Strength.{Strength}
 use Rattle.macroblock.specs.declared.whole.Whole.{Whole}
 use Rattle.macroblock.specs.declared.whole.Finish.{Finish}
 use Rattle.macroblock.specs.declared.whole.Finish.the-variants as F
-use Rattle.macroblock.specs.Strengths.{strengthOf, noStrength}
+use Rattle.filter.specs.Strengths.{strengthOf, noStrength}
 
 -- ---- what lies before it and what it leaves
 pub record Planes : Type 0 where

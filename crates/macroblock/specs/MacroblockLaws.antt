@@ -15,7 +15,7 @@ use Rattle.reader.specs.declared.boolean.Reader.{Reader}
 use Rattle.modes.specs.Modes.{Macroblock, modesOf, bottomOf, rightOf}
 use Rattle.modes.specs.Answers.{kindsOf}
 use Rattle.segments.specs.declared.frame.Frame.{Frame}
-use Rattle.macroblock.specs.declared.strengths.Strength.{Strength}
+use Rattle.filter.specs.declared.strengths.Strength.{Strength}
 use Rattle.macroblock.specs.declared.whole.Finish.the-variants as F
 use Rattle.reader.specs.Boolean.{Given, given, missing}
 use Rattle.reader.specs.Reading.{run}
@@ -29,7 +29,7 @@ use Rattle.modes.specs.declared.columns.Context.{Context}
 use Rattle.modes.specs.Records.{emptyContext}
 use Rattle.macroblock.specs.declared.whole.Finish.{Finish}
 use Rattle.macroblock.specs.declared.whole.Whole.{Whole}
-use Rattle.macroblock.specs.Strengths.{noStrength, strengthOf}
+use Rattle.filter.specs.Strengths.{noStrength, strengthOf}
 use Rattle.segments.specs.Frame.{factorsAt, levelAt}
 use Rattle.macroblock.specs.Macroblock.{Planes, Laid, Painting, paintedPlanes, endOf, endedOf, afterTokens, afterModes, tokenStep, stepOf, toCalled, tokensOf, wholeOf, nothing}
 

@@ -35,8 +35,8 @@ use Rattle.macroblock.specs.declared.whole.Finish.the-variants as F
 use Rattle.macroblock.specs.declared.whole.Whole.{Whole}
 use Rattle.segments.specs.Frame.{frameOf}
 use Rattle.segments.specs.FrameLaws.{frame-factors, frame-level}
-use Rattle.macroblock.specs.Strengths.{strengthOf}
-use Rattle.macroblock.specs.StrengthsLaws.{limit-most}
+use Rattle.filter.specs.Strengths.{strengthOf}
+use Rattle.filter.specs.StrengthsLaws.{limit-most}
 use Rattle.segments.specs.Frame.{factorsAt, levelAt}
 use Rattle.macroblock.specs.Macroblock.{Planes, Laid, Painting, Ready, Finished, Step, finished, no-modes, no-tokens, Called, toCalled, paintedPlanes, endOf, afterTokens, afterModes, tokenStep, stepOf, wholeOf, decodeOf, finishNumberOf}
 use Rattle.macroblock.specs.MacroblockLaws.{painting, luma-proper, chroma-proper}

@@ -5,10 +5,12 @@ use mathlib.Core.Bool.{Bool, true, false, _&&_}
 use lib.ListN.{length, getD}
 use lib.Dec.{ltb, leb}
 use Rattle.numbers.specs.Runs.{copied}
-use Rattle.macroblock.specs.declared.strengths.Strength.{Strength}
+use Rattle.filter.specs.declared.strengths.Strength.{Strength}
 use Rattle.macroblock.specs.declared.records.Kept.{Kept}
 use Rattle.macroblock.specs.declared.records.Kept.the-variants as K
-use Rattle.macroblock.specs.Strengths.{strengthRecord}
+
+abbrev pub strengthRecord : Strength → List ℕ
+strengthRecord t = t .limit ∷ t .inner ∷ t .threshold ∷ t .inside ∷ []
 
 -- the memory with macroblock i's record written
 unfoldable pub strengthSet : List ℕ → ℕ → Strength → List ℕ

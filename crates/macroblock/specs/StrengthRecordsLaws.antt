@@ -11,13 +11,13 @@ use lib.Dec.{ltb, leb}
 use borrow.Author.Tests.{lt-ltb, le-ltb, le-leb}
 use Rattle.numbers.specs.Tests.{lt-or, eq-or, both-true, both-false}
 use Rattle.numbers.specs.Runs.{copied, Off, length-copied, copied-in, copied-off, copied-none, copied-next}
-use Rattle.reader.specs.Extra.{bitOf}
-use Rattle.reader.specs.ExtraLaws.{bit-small}
-use Rattle.macroblock.specs.declared.strengths.Strength.{Strength}
+use Rattle.numbers.specs.Flags.{bitOf}
+use Rattle.numbers.specs.Flags.{bit-small}
+use Rattle.filter.specs.declared.strengths.Strength.{Strength}
 use Rattle.macroblock.specs.declared.records.Kept.the-variants as K
-use Rattle.macroblock.specs.Strengths.{strengthRecord, strengthOf, innerOf, thresholdOf}
-use Rattle.macroblock.specs.StrengthsLaws.{inner-in, strength-none, strength-some, threshold-two, threshold-one, threshold-none}
-use Rattle.macroblock.specs.StrengthRecords.{strengthSet, strengthAt, strengthFine, strengthWritten}
+use Rattle.filter.specs.Strengths.{strengthOf, innerOf, thresholdOf}
+use Rattle.filter.specs.StrengthsLaws.{inner-in, strength-none, strength-some, threshold-two, threshold-one, threshold-none}
+use Rattle.macroblock.specs.StrengthRecords.{strengthRecord, strengthSet, strengthAt, strengthFine, strengthWritten}
 
 module _ (mem : List ℕ) (i : ℕ) (t : Strength) where
   -- four stores, one after the other

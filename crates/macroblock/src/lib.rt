@@ -2,5 +2,4 @@
 mod checks;
 pub mod records;
 mod squares;
-pub mod strengths;
 pub mod whole;

@@ -1,5 +1,5 @@
 // The record of a macroblock in strength memory, four bytes: limit, inner, threshold, inside. Only this file knows.
-use crate::strengths::Strength;
+use filter::strengths::Strength;
 ghost use mathlib.Core.Path.{_≡_};
 ghost use Prim.Native.Nat.{_<_, _*_, _/_, _+_, _≤_};
 ghost use lib.ListN.{length};

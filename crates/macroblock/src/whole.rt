@@ -3,9 +3,9 @@
 use crate::checks::laid;
 use crate::checks::ready;
 use crate::squares::squares;
-use crate::strengths::Strength;
-use crate::strengths::Strengths;
-use crate::strengths::at_level;
+use filter::strengths::Strength;
+use filter::strengths::Strengths;
+use filter::strengths::at_level;
 use modes::answers::Kinds;
 use modes::answers::Stage;
 use modes::columns::Context;
@@ -24,7 +24,7 @@ ghost use Rattle.modes.specs.Modes.{bottomOf, rightOf};
 ghost use Rattle.modes.specs.ModesLaws.{InRange};
 ghost use Rattle.modes.specs.Answers.{macroblockOf};
 ghost use Rattle.residual.specs.Residual.{residualOf};
-ghost use Rattle.macroblock.specs.Strengths.{noStrength, strengthOf};
+ghost use Rattle.filter.specs.Strengths.{noStrength, strengthOf};
 ghost use Rattle.segments.specs.Frame.{levelAt, factorsAt};
 ghost use Rattle.macroblock.specs.Macroblock.{Ready, Tokens, Laid, endedOf, tokensOf, wholeOf, decodeOf, nothing};
 

@@ -6,7 +6,7 @@ use mathlib.Core.Bool.{Bool, true, false, not, _&&_}
 use lib.ListN.{length, getD, take, drop, replicate}
 use lib.Dec.{ltb, eqb}
 use Rattle.numbers.specs.Runs.{copied}
-use Rattle.reader.specs.Extra.{bitOf}
+use Rattle.numbers.specs.Flags.{bitOf}
 use Rattle.modes.specs.declared.answers.Kinds.{Kinds}
 use Rattle.modes.specs.declared.columns.Context.{Context}
 use Rattle.modes.specs.declared.columns.Column.{Column}

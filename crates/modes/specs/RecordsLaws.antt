@@ -13,7 +13,7 @@ use borrow.Author.Tests.{lt-ltb, le-ltb}
 use Rattle.numbers.specs.Tests.{lt-or, eq-or, both-left, both-true, both-false}
 use Rattle.numbers.specs.Lists.{getD-constant}
 use Rattle.numbers.specs.Runs.{copied, Off, length-copied, copied-in, copied-off}
-use Rattle.reader.specs.Extra.{bitOf}
+use Rattle.numbers.specs.Flags.{bitOf}
 use Rattle.modes.specs.declared.answers.Kinds.{Kinds}
 use Rattle.modes.specs.declared.columns.Context.{Context}
 use Rattle.modes.specs.Modes.{zeros, Macroblock}

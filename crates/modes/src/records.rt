@@ -5,7 +5,7 @@ use crate::memory::store;
 ghost use mathlib.Core.Path.{_≡_};
 ghost use Prim.Native.Nat.{_<_, _*_, _/_, _+_, _≤_};
 ghost use lib.ListN.{length};
-ghost use Rattle.reader.specs.Extra.{bitOf};
+ghost use Rattle.numbers.specs.Flags.{bitOf};
 ghost use Rattle.modes.specs.Records.{modeRecord, kindsFine, modeWritten, modeFound};
 
 // Whether a record was written; Refused where it is not wholly inside the memory, or a value is out of range.

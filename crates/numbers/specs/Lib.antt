@@ -1,6 +1,7 @@
 -- Numbers, lists and tables, by topic.
 -- tests, products and powers
 pub mod Tests
+pub mod Flags
 pub mod Powers
 -- signed numbers: bounds, parts, and the interval evaluator
 pub mod In

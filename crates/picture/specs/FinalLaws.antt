@@ -12,7 +12,7 @@ use Rattle.numbers.specs.Tests.{eq-or, both-left}
 use Rattle.numbers.specs.Lists.{getD-constant}
 use Rattle.reader.specs.BooleanLaws.{Bytes}
 use Rattle.modes.specs.RecordsLaws.{Columns}
-use Rattle.macroblock.specs.declared.strengths.Strength.{Strength}
+use Rattle.filter.specs.declared.strengths.Strength.{Strength}
 use Rattle.macroblock.specs.Macroblock.{Finished, Step, finished, no-modes, no-tokens}
 use Rattle.macroblock.specs.StrengthRecords.{strengthAt, strengthSet, strengthFine}
 use Rattle.macroblock.specs.StrengthRecordsLaws.{strength-back, strength-other}

@@ -14,7 +14,7 @@ ghost use Rattle.modes.specs.Records.{emptyContext};
 ghost use Rattle.segments.specs.Frame.{frameOf};
 ghost use Rattle.macroblock.specs.Macroblock.{finishNumberOf};
 ghost use Rattle.picture.specs.Partitions.{Inside, tokenOf};
-ghost use Rattle.picture.specs.Picture.{Ended, endingOf, runOf};
+ghost use Rattle.picture.specs.Picture.{Ended, endingOf, numberOf, runOf, valuesOf};
 ghost use Rattle.picture.specs.PictureLaws.{Shared, Live};
 
 // How the picture call ended: every macroblock is finished; an argument was refused, 1 to 5; the first partition or a token
@@ -24,6 +24,31 @@ pub enum Decoded {
     Refused(u32),
     NoModes(usize),
     NoTokens(usize),
+}
+
+impl Decoded {
+    pub fn number(self) -> u32
+        ensures { λ r. ⌜ r ≡ numberOf self ⌝ }
+    {
+        match self {
+            Decoded::Whole(_) => 0,
+            Decoded::Refused(n) => n,
+            Decoded::NoModes(_) => 6,
+            Decoded::NoTokens(_) => 7,
+        }
+    }
+
+    // The macroblocks finished, 0 where an argument was refused.
+    pub fn finished(self) -> usize
+        ensures { λ r. ⌜ r ≡ valuesOf self ⌝ }
+    {
+        match self {
+            Decoded::Whole(k) => k,
+            Decoded::Refused(_) => 0,
+            Decoded::NoModes(k) => k,
+            Decoded::NoTokens(k) => k,
+        }
+    }
 }
 
 // The number of a macroblock's answer: 0, or that of its refusal.

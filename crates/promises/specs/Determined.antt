@@ -19,8 +19,8 @@ use Rattle.segments.specs.declared.quantizers.Factors.{Factors}
 use Rattle.coefficients.specs.Tokens as Tokens
 use Rattle.coefficients.specs.Tokens.{numberAnswer, signedAnswer, tableOf}
 use Rattle.coefficients.specs.Transform.{transformOf}
-use Rattle.kernel.specs.declared.answers.Rule.{Rule}
-use Rattle.kernel.specs.Kernel.{samplesOf, ruleOf, stepsOf, movedOf, filterOf, pixelOf}
+use Rattle.filter.specs.declared.answers.Rule.{Rule}
+use Rattle.filter.specs.Kernel.{samplesOf, ruleOf, stepsOf, movedOf, filterOf, pixelOf}
 use Rattle.modes.specs.Answers.{prefixAnswer, mainAnswer, blockAnswer, smallAnswer, modesAnswer}
 use Rattle.modes.specs.Modes as Modes
 use Rattle.modes.specs.Modes.{bottomOf}
@@ -33,15 +33,16 @@ use Rattle.segments.specs.Frame.{framedOf}
 use Rattle.macroblock.specs.Macroblock as Macroblock
 use Rattle.macroblock.specs.Macroblock.{Planes}
 use Rattle.macroblock.specs.StrengthRecords.{strengthWritten}
-use Rattle.macroblock.specs.Strengths.{strengthAnswer}
+use Rattle.filter.specs.Strengths.{strengthAnswer}
 use Rattle.segments.specs.declared.frame.Frame.{Frame}
-use Rattle.macroblock.specs.declared.strengths.Strength.{Strength}
+use Rattle.filter.specs.declared.strengths.Strength.{Strength}
 use Rattle.picture.specs.Checks.{Tile}
 use Rattle.picture.specs.Memory.{Memory}
 use Rattle.casefile.specs.Run.{ranOf}
 use Rattle.deblock.specs.Deblock.{deblockOf}
 use Rattle.hookbarley.specs.Calls.{calledOf, deblockCalledOf, filteredOf}
-use Rattle.picture.specs.Picture.{pictureOf}
+use Rattle.picture.specs.declared.rows.Decoded.{Decoded}
+use Rattle.picture.specs.Picture.{numberOf, pictureOf, valuesOf}
 
 -- one answer meets the promise, and no other
 pub record One {A : Type 0} (Promise : A → Type 0) : Type 0 where
@@ -203,6 +204,12 @@ pub macroblock-decode : (s : List ℕ) (r : Reader) (tokens : List ℕ) (t : Rea
 macroblock-decode s r tokens t h table frame top left w column row p = determined (Macroblock.decodeOf s r tokens t h table frame top left w column row p)
 
 -- ---- picture
+pub picture-number : (d : Decoded) → One (λ x. x ≡ numberOf d)
+picture-number d = determined (numberOf d)
+
+pub picture-finished : (d : Decoded) → One (λ x. x ≡ valuesOf d)
+picture-finished d = determined (valuesOf d)
+
 pub picture-decode : (t : Tile) (m : Memory) → One (λ x. x ≡ pictureOf t m)
 picture-decode t m = determined (pictureOf t m)
 

@@ -6,7 +6,7 @@ use lib.ListN.{getD}
 use Rattle.modes.specs.Answers.{kindsOf}
 use Rattle.modes.specs.Records.{modeRecord}
 use Rattle.macroblock.specs.Macroblock.{Finished, finished}
-use Rattle.macroblock.specs.Strengths.{strengthRecord}
+use Rattle.macroblock.specs.StrengthRecords.{strengthRecord}
 use Rattle.picture.specs.Memory.{Memory}
 use Rattle.picture.specs.Checks.{Tile}
 use Rattle.picture.specs.Picture.{State, cutOut, startOf, stepAt, nextOf, pictureOf, valuesOf}

@@ -10,7 +10,7 @@ use Rattle.numbers.specs.Lists.{build}
 use Rattle.numbers.specs.Wrap.{wrapZ, turns}
 use Rattle.coefficients.specs.Tokens.{signOf}
 use Rattle.coefficients.specs.Transform.{gridOf, transposeOf, columnOf, scaledOf, passOf, rowsOf, verticalOf, horizontalOf, resultsOf, samplesOf}
-use Rattle.kernel.specs.Kernel.{filterOf, movedOf, stepsOf, noSteps, commonSteps, macroblockSteps, innerSteps, sides, part, half, eighth, tapped, across, ruleOf, highVariance, roughAt, smooth, firstFalse, withinLimit}
+use Rattle.filter.specs.Kernel.{filterOf, movedOf, stepsOf, noSteps, commonSteps, macroblockSteps, innerSteps, sides, part, half, eighth, tapped, across, ruleOf, highVariance, roughAt, smooth, firstFalse, withinLimit}
 
 -- a row: what is computed, and what it must be
 pub record Row : Type 0 where

@@ -14,8 +14,10 @@ use Rattle.reader.specs.Boolean.{given, missing}
 use Rattle.reader.specs.BooleanLaws.{Bytes, Valid}
 use Rattle.reader.specs.Reading.{symbol, run}
 use Rattle.reader.specs.ReadingLaws.{run-valid, within-symbol}
-use Rattle.reader.specs.Extra.{bitOf, extraFrom, extra, toNumber, extraOf}
-use Rattle.reader.specs.ExtraLaws.{bit-small, extra-end, extra-missing, extra-got}
+use Rattle.numbers.specs.Flags.{bitOf}
+use Rattle.reader.specs.Extra.{extraFrom, extra, toNumber, extraOf}
+use Rattle.numbers.specs.Flags.{bit-small}
+use Rattle.reader.specs.ExtraLaws.{extra-end, extra-missing, extra-got}
 
 pub record Going (s ps : List ℕ) (r₀ next : Reader) (v i : ℕ) : Type 0 where
   pub same : run (extraFrom v (drop i ps)) s next ≡ run (extra ps) s r₀

@@ -4,15 +4,12 @@ use mathlib.Core.List.{List, [], _∷_}
 use mathlib.Core.Bool.{Bool, true, false, _&&_}
 use lib.ListN.{length}
 use lib.Dec.{leb}
+use Rattle.numbers.specs.Flags.{bitOf}
 use Rattle.reader.specs.declared.boolean.Reader.{Reader}
 use Rattle.reader.specs.declared.extra.Number.{Number}
 use Rattle.reader.specs.declared.extra.Number.the-variants as N
 use Rattle.reader.specs.Boolean.{Given, given, missing, validOf, noReader}
 use Rattle.reader.specs.Reading.{Reading, done, ask, _>>=_, symbol, run}
-
-abbrev pub bitOf : Bool → ℕ
-bitOf true = 1
-bitOf false = 0
 
 -- v += v + read_bool(d, p), for each probability in turn; v is what the bits so far make
 unfoldable pub extraFrom : ℕ → List ℕ → Reading ℕ

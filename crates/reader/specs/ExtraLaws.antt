@@ -19,11 +19,8 @@ use Rattle.reader.specs.Boolean.{Given, given, missing, validOf}
 use Rattle.reader.specs.BooleanLaws.{Bytes, Valid, valid-test}
 use Rattle.reader.specs.Reading.{Reading, done, ask, _>>=_, symbol, run, Within, ends, asks}
 use Rattle.reader.specs.ReadingLaws.{run-done, run-then, run-stops, within-weaken}
-use Rattle.reader.specs.Extra.{bitOf, extraFrom, extra, toNumber, extraOf, extraAnswer}
-
-pub bit-small : (b : Bool) → bitOf b < 2
-bit-small true = omega arith
-bit-small false = omega arith
+use Rattle.numbers.specs.Flags.{bitOf, bit-small}
+use Rattle.reader.specs.Extra.{extraFrom, extra, toNumber, extraOf, extraAnswer}
 
 -- ---- one bit at a time, at index i
 module _ (s ps : List ℕ) (v i : ℕ) (r : Reader) where

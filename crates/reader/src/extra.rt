@@ -7,7 +7,8 @@ ghost use mathlib.Core.Path.{_≡_};
 ghost use Prim.Native.Nat.{_<_, _≤_, _+_};
 ghost use lib.ListN.{length};
 ghost use Rattle.reader.specs.BooleanLaws.{Valid};
-ghost use Rattle.reader.specs.Extra.{bitOf, extraOf, extraAnswer};
+ghost use Rattle.numbers.specs.Flags.{bitOf};
+ghost use Rattle.reader.specs.Extra.{extraOf, extraAnswer};
 
 // The number and the reader after it; Missing where a byte was; Refused where the reader is out of range or there are over
 // sixteen bits.

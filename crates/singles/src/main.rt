@@ -2,7 +2,7 @@
 // modes, what is left for the macroblocks around it, and where the readers stand. Standard input is a header and a list of cases;
 // tools/singles.py, which also made the expected lines, says how.
 use coefficients::tokens::probabilities;
-use macroblock::strengths::Strength;
+use filter::strengths::Strength;
 use macroblock::whole::Finish;
 use macroblock::whole::Whole;
 use macroblock::whole::decode;

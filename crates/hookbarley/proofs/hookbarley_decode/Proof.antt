@@ -7,8 +7,8 @@ use Rattle.hookbarley.proofs.hookbarley_decode.Tie as tie
 use Rattle.hookbarley.proofs.hookbarley_decode.Reads as reads
 use Rattle.hookbarley.proofs.hookbarley_decode.Lts as lts
 use Rattle.hookbarley.proofs.eight.Reads as eight-reads
-use Rattle.hookbarley.proofs.finished_of.Reads as finished-of-reads
-use Rattle.hookbarley.proofs.number_of.Reads as number-of-reads
+use Rattle.picture.proofs.rows.Decoded.finished.Reads as finished-reads
+use Rattle.picture.proofs.rows.Decoded.number.Reads as number-reads
 use Rattle.picture.proofs.decode.Reads as decode-reads
 
 abbrev tile : tie.Start → Tile
@@ -40,12 +40,12 @@ decode-requires : tie.Need-decode-requires
 decode-requires c κs = search needs
 
 -- src/lib.rt:104:17
-finished-of-requires : tie.Need-finished-of-requires
-finished-of-requires c κs = search needs
+finished-requires : tie.Need-finished-requires
+finished-requires c κs = search needs
 
 -- src/lib.rt:105:5
-number-of-requires : tie.Need-number-of-requires
-number-of-requires c κs = search needs
+number-requires : tie.Need-number-requires
+number-requires c κs = search needs
 
 -- src/lib.rt:43:1
 same-length : tie.Need-same-length
@@ -76,7 +76,7 @@ returns-3 : tie.Need-returns-3
 returns-3 c =
     let d = c .before .before .before .before .before .before .before .before .before .before .before .before .before .before in
     let s = d .before .before .before .before .before .before .before .before .before .before .before .before .before .before .before .before .before .before .before .before in
-    called-found (tile s) (lent s) (d .before .before .before .before .before .before .before .before .before .before .if1 .left) (d .before .before .before .before .before .before .before .before .before .if2 .left) (c .number-of .ensures) (c .before .finished-of .ensures) (d .before .before .before .before .before .before .before .before .eight .ensures) (d .before .before .before .before .before .before .before .eight2 .ensures) (d .decode .ensures)
+    called-found (tile s) (lent s) (d .before .before .before .before .before .before .before .before .before .before .if1 .left) (d .before .before .before .before .before .before .before .before .before .if2 .left) (c .number .ensures) (c .before .finished .ensures) (d .before .before .before .before .before .before .before .before .eight .ensures) (d .before .before .before .before .before .before .before .eight2 .ensures) (d .decode .ensures)
 
 pub hookbarley-decode-spec : {M : Type 1} → statement M
 hookbarley-decode-spec =
@@ -87,8 +87,8 @@ hookbarley-decode-spec =
     eight-requires
     eight-requires-2
     decode-requires
-    finished-of-requires
-    number-of-requires
+    finished-requires
+    number-requires
     same-length
     same-length-2
     same-length-3

@@ -6,7 +6,7 @@ use Rattle.hookbarley.proofs.hookbarley_filter.Reads as reads
 use Rattle.hookbarley.proofs.hookbarley_filter.Lts as lts
 use Rattle.hookbarley.proofs.eight_samples.Reads as eight-samples-reads
 use Rattle.hookbarley.proofs.put.Reads as put-reads
-use Rattle.kernel.proofs.filter.Reads as filter-reads
+use Rattle.filter.proofs.filter.Reads as filter-reads
 
 -- src/lib.rt:141:9
 returns : tie.Need-returns

@@ -7,7 +7,7 @@ use Rattle.rows.proofs.edge.Tie as tie
 use Rattle.rows.proofs.edge.Reads as reads
 use Rattle.rows.proofs.edge.Lts as lts
 use Rattle.io.proofs.write_all.Reads as write-all-reads
-use Rattle.kernel.proofs.filter.Reads as filter-reads
+use Rattle.filter.proofs.filter.Reads as filter-reads
 use Rattle.rows.proofs.show_sample.Reads as show-sample-reads
 
 abbrev Inv-loop : tie.InvT-loop

@@ -3,9 +3,9 @@ use mathlib.Core.Path.{refl, sym, _∙_}
 use borrow.Author.Needs.{needs}
 use lib.IntN.{pos}
 use Rattle.numbers.specs.Lists.{getD-constant}
-use Rattle.kernel.specs.declared.answers.Rule.the-variants.{EdgeFailed, Rough, Simple, HighVariance, MacroblockEdge, InnerEdge}
-use Rattle.kernel.specs.Kernel.{stepsOf, noSteps, commonSteps, macroblockSteps, innerSteps, sides}
-use Rattle.kernel.specs.KernelLaws.{Bytes}
+use Rattle.filter.specs.declared.answers.Rule.the-variants.{EdgeFailed, Rough, Simple, HighVariance, MacroblockEdge, InnerEdge}
+use Rattle.filter.specs.Kernel.{stepsOf, noSteps, commonSteps, macroblockSteps, innerSteps, sides}
+use Rattle.filter.specs.KernelLaws.{Bytes}
 use Rattle.deblock.specs.DeblockLaws.{position-none, position-two, position-four, position-six}
 use Rattle.deblock.proofs.edges.position.Statement.{statement}
 use Rattle.deblock.proofs.edges.position.Tie as tie

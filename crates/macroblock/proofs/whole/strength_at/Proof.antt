@@ -1,11 +1,11 @@
 use mathlib.Core.Path.{sym, _∙_}
-use Rattle.macroblock.specs.StrengthsLaws.{strength-is, strength-never}
+use Rattle.filter.specs.StrengthsLaws.{strength-is, strength-never}
 use borrow.Author.Needs.{needs}
 use Rattle.macroblock.proofs.whole.strength_at.Statement.{statement}
 use Rattle.macroblock.proofs.whole.strength_at.Tie as tie
 use Rattle.macroblock.proofs.whole.strength_at.Reads as reads
 use Rattle.macroblock.proofs.whole.strength_at.Lts as lts
-use Rattle.macroblock.proofs.strengths.at_level.Reads as at-level-reads
+use Rattle.filter.proofs.strengths.at_level.Reads as at-level-reads
 
 at-level-requires : tie.Need-at-level-requires
 at-level-requires c κs = search needs

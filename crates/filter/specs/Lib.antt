@@ -1,0 +1,10 @@
+pub mod Strengths
+pub mod StrengthsLaws
+pub mod Kernel
+pub mod KernelLaws
+pub mod Moves
+pub mod MovesLaws
+pub mod Source
+pub mod SourceLaws
+pub mod Rfc15
+pub mod Rfc15Laws

@@ -1,0 +1,128 @@
+// What a rule adds to each of eight samples.
+use super::answers::Rule;
+use super::samples::minus;
+use super::samples::plus;
+use numbers::signed_byte;
+use numbers::signed_to;
+ghost use mathlib.Core.Path.{_≡_};
+ghost use lib.IntN.{pos, negsuc};
+ghost use Rattle.numbers.specs.In.{In, Each};
+ghost use Rattle.numbers.specs.Clamp.{signedByteZ};
+ghost use Rattle.filter.specs.Kernel.{samplesOf, across, tapped, eighth, sides, noSteps, commonSteps, macroblockSteps, innerSteps, stepsOf, movedOf};
+
+// Three times the step across the edge.
+fn across(e: &[u8; 8]) -> i32
+    ensures { λ r. ⌜ r ≡ across (samplesOf (now (e .entry))) ⌝ }
+    ensures { λ r. ⌜ In (negsuc 764) (pos 765) r ⌝ }
+{
+    3 * minus(e[4], e[3])
+}
+
+// The same with the outer taps.
+fn tapped(e: &[u8; 8]) -> i32
+    ensures { λ r. ⌜ r ≡ tapped (samplesOf (now (e .entry))) ⌝ }
+    ensures { λ r. ⌜ In (negsuc 892) (pos 892) r ⌝ }
+{
+    across(e) + signed_byte(minus(e[2], e[5]))
+}
+
+// An eighth, rounded down, in -16..=15.
+fn eighth(a: i32) -> i32
+    ensures { λ r. ⌜ r ≡ eighth a ⌝ }
+{
+    signed_to(a >> 3, 15)
+}
+
+// The steps of eight samples: what is added on the p side is taken off on the q side.
+fn sides(p2: i32, p1: i32, p0: i32, q0: i32, q1: i32, q2: i32) -> [i32; 8]
+    requires { ⌜ In (negsuc 127) (pos 127) q0 × In (negsuc 127) (pos 127) q1 × In (negsuc 127) (pos 127) q2 ⌝ }
+    ensures { λ r. ⌜ r ≡ sides p2 p1 p0 q0 q1 q2 ⌝ }
+{
+    [0, p2, p1, p0, -q0, -q1, -q2, 0]
+}
+
+// p0 and q0 move toward each other.
+fn common_steps(a: i32) -> [i32; 8]
+    requires { ⌜ In (negsuc 892) (pos 892) a ⌝ }
+    ensures { λ r. ⌜ r ≡ commonSteps a ⌝ }
+{
+    sides(0, 0, eighth(a + 3), eighth(a + 4), 0, 0)
+}
+
+// Three samples on each side move, the nearest most.
+fn macroblock_steps(w: i32) -> [i32; 8]
+    requires { ⌜ In (negsuc 127) (pos 127) w ⌝ }
+    ensures { λ r. ⌜ r ≡ macroblockSteps w ⌝ }
+{
+    let near = (27 * w + 63) >> 7;
+    let next = (18 * w + 63) >> 7;
+    let far = (9 * w + 63) >> 7;
+    sides(far, next, near, near, next, far)
+}
+
+// Two samples on each side move, the second half as far.
+fn inner_steps(a: i32) -> [i32; 8]
+    requires { ⌜ In (negsuc 892) (pos 892) a ⌝ }
+    ensures { λ r. ⌜ r ≡ innerSteps a ⌝ }
+{
+    let near = eighth(a + 4);
+    let next = (near + 1) >> 1;
+    sides(0, next, eighth(a + 3), near, next, 0)
+}
+
+// Each sample with its step added, clipped.
+fn moved(e: &[u8; 8], s: &[i32; 8]) -> [u8; 8]
+    requires { ⌜ Each (negsuc 126) (pos 127) (now s) ⌝ }
+    ensures { λ r. ⌜ r ≡ movedOf (now (e .entry)) (now (s .entry)) ⌝ }
+{
+    let mut out = [0; 8];
+    let mut i = 0;
+    while i < 8 {
+        out[i] = plus(e[i], s[i]);
+        i += 1;
+    }
+    out
+}
+
+// The eight samples after each kind of steps.
+fn unmoved(e: &[u8; 8]) -> [u8; 8]
+    ensures { λ r. ⌜ r ≡ movedOf (now (e .entry)) noSteps ⌝ }
+{
+    let s = sides(0, 0, 0, 0, 0, 0);
+    moved(e, &s)
+}
+
+fn common(e: &[u8; 8]) -> [u8; 8]
+    ensures { λ r. ⌜ r ≡ movedOf (now (e .entry)) (commonSteps (tapped (samplesOf (now (e .entry))))) ⌝ }
+{
+    let s = common_steps(tapped(e));
+    moved(e, &s)
+}
+
+fn macroblock(e: &[u8; 8]) -> [u8; 8]
+    ensures { λ r. ⌜ r ≡ movedOf (now (e .entry)) (macroblockSteps (signedByteZ (tapped (samplesOf (now (e .entry)))))) ⌝ }
+{
+    let s = macroblock_steps(signed_byte(tapped(e)));
+    moved(e, &s)
+}
+
+fn inner(e: &[u8; 8]) -> [u8; 8]
+    ensures { λ r. ⌜ r ≡ movedOf (now (e .entry)) (innerSteps (across (samplesOf (now (e .entry))))) ⌝ }
+{
+    let s = inner_steps(across(e));
+    moved(e, &s)
+}
+
+// What the rule does. Each arm moves the samples by itself, so that the compiler sees which steps are 0.
+pub fn acted(e: &[u8; 8], rule: Rule) -> [u8; 8]
+    ensures { λ r. ⌜ r ≡ movedOf (now (e .entry)) (stepsOf rule (samplesOf (now (e .entry)))) ⌝ }
+{
+    match rule {
+        Rule::EdgeFailed => unmoved(e),
+        Rule::Rough(_) => unmoved(e),
+        Rule::Simple => common(e),
+        Rule::HighVariance => common(e),
+        Rule::MacroblockEdge => macroblock(e),
+        Rule::InnerEdge => inner(e),
+    }
+}
