@@ -100,6 +100,28 @@ uint32_t hookbarley_deblock(uint8_t *y, size_t y_len,
 uint32_t hookbarley_filter(uint8_t *samples, size_t samples_len, uint8_t simple, uint8_t edge,
                            uint8_t limit, uint8_t inner, uint8_t threshold);
 
+/* What the WebP calls return besides HOOKBARLEY_WHOLE. */
+enum hookbarley_webp_number {
+    HOOKBARLEY_ROOM = 16,  /* of the writer: the room is too small */
+    HOOKBARLEY_MARKS = 17, /* 'RIFF' or 'WEBP' is missing or wrong */
+    HOOKBARLEY_SIZES = 18, /* a size at odds with the bytes, a pad byte that is not 0; of the writer: the frame is too long */
+    HOOKBARLEY_KIND = 19   /* the first chunk is not 'VP8 ', or there is none */
+};
+
+/* Finds the key frame in a WebP file of the simple lossy layout (RFC 9649, sections 2.3 to 2.5): 'RIFF', size, 'WEBP', 'VP8 ', size, the
+ * frame, and a pad byte of 0 where it is odd; sizes are little-endian. The file is all of the bytes: the RIFF size plus 8 is `length`, and the
+ * one chunk fills it. Checked in this order: 17 the marks; 18 the RIFF size; 19 the chunk's kind; 18 the chunk's size and the pad byte.
+ * After 0 the frame stands at bytes[*start], *frame_length bytes long (it may be 0: the layout says nothing of the frame itself);
+ * after a refusal both are 0. Of the bytes only the first 20 and the pad byte are looked at.
+ */
+uint32_t hookbarley_webp_find(const uint8_t *bytes, size_t length, size_t *start, size_t *frame_length);
+
+/* Writes the same layout around a frame to the start of `out`: 20 bytes, the frame, a pad byte of 0 where it is odd. Checked in this order:
+ * 18 the RIFF size would pass 2^32 - 10 (a frame over 2^32 - 22 bytes); 16 the room is too small. After 0 the file is out[0..*written], and
+ * what lies behind it in `out` is as it was; after a refusal *written is 0 and `out` is as it was.
+ */
+uint32_t hookbarley_webp_wrap(const uint8_t *frame, size_t frame_length, uint8_t *out, size_t room, size_t *written);
+
 #ifdef __cplusplus
 }
 #endif

@@ -1,7 +1,8 @@
 #!/usr/bin/env bash
 # The tests from outside, through the archive: tests/outside/run.sh [ARCHIVE]. Builds the archive where it is not there
 # (`rt staticlib hookbarley`), installs what is missing (Debian packages, as root), runs on x86-64 and, by emulation, on Arm:
-# the C example on the case files, damaged inputs between guard pages, faults that these must find, the Rust wrapper's tests.
+# the C example on the case files, damaged inputs between guard pages, faults that these must find, the WebP calls, the Rust wrapper's
+# tests.
 # Settings: N (damaged inputs, 20000), SEED (of these; else drawn from the clock and printed).
 set -u
 cd "$(dirname "$0")/../.." || exit 1
@@ -117,7 +118,39 @@ for fault in 0 1 2 3 4 5 6 7 8 9 10 11 12 13 14 15 16; do
 done
 say faults "$found of 16 found"
 
-# 4. The Rust wrapper.
+# 4. The WebP calls between guard pages, on files of encoders and damaged ones; the faults that the test must find.
+webps=$(echo tests/outside/webp/*.webp)
+if build webp tests/outside/webp.c && $X86RUN $out/webp "$N" "$SEED" $webps bench/*.webp >$out/webp.log 2>&1; then
+    sed 's/^/           /' $out/webp.log
+    say webp "$(tail -n 1 $out/webp.log)"
+else
+    tail -n 5 $out/webp.log
+    bad webp "N $N, seed $SEED"
+fi
+while read -r name want; do
+    grep -q "^file tests/outside/webp/$name, .*: $want\$" $out/webp.log || bad webp "$name does not give $want"
+done <<END
+even.webp 0 20 62
+odd.webp 0 20 155
+lossless.webp 19 0 0
+extended.webp 19 0 0
+END
+found=0
+for fault in 0 1 2 3 4 5 6 7 8 9 10 11 12 13 14; do
+    build webp-mutant -DFAULT=$fault -Wl,--wrap=hookbarley_webp_find -Wl,--wrap=hookbarley_webp_wrap tests/outside/webp.c tests/outside/webp_mutants.c || { bad webp "fault $fault does not build"; continue; }
+    $X86RUN $out/webp-mutant 2000 1 $webps >$out/webp-mutant-$fault.log 2>&1
+    status=$?
+    if [ $fault -eq 0 ]; then
+        [ $status -eq 0 ] || bad webp "the calls without a fault fail"
+    elif [ $status -eq 1 ] && grep -q '^FAILED at' $out/webp-mutant-$fault.log; then
+        found=$((found + 1))
+    else
+        bad webp "fault $fault was not found (status $status)"
+    fi
+done
+say webp "$found of 14 faults found"
+
+# 5. The Rust wrapper.
 if tests/outside/rust.sh "$ARCHIVE" >$out/rust.log 2>&1; then
     say rust "$(grep '^test result' $out/rust.log | awk '{s += $4} END {print s " tests passed"}')"
 else

@@ -27,6 +27,8 @@ extern "C" {
         width: usize, height: usize, simple: u32,
     ) -> u32;
     fn hookbarley_filter(samples: *mut u8, samples_len: usize, simple: u8, edge: u8, limit: u8, inner: u8, threshold: u8) -> u32;
+    fn hookbarley_webp_find(bytes: *const u8, length: usize, start: *mut usize, frame_length: *mut usize) -> u32;
+    fn hookbarley_webp_wrap(frame: *const u8, frame_length: usize, out: *mut u8, room: usize, written: *mut usize) -> u32;
 }
 
 /// The boolean reader in the first partition, behind the coded frame header.
@@ -161,4 +163,26 @@ pub fn deblock(mem: &mut Memory, width: usize, height: usize, simple: bool) -> D
 pub fn filter(samples: &mut [u8; 8], simple: bool, edge: bool, limit: u8, inner: u8, threshold: u8) {
     // Safe: eight samples.
     unsafe { hookbarley_filter(samples.as_mut_ptr(), 8, simple as u8, edge as u8, limit, inner, threshold) };
+}
+
+/// Where the key frame stands in a simple lossy WebP file (RFC 9649), or the number of the refusal: 17 the marks, 18 a size at odds with
+/// the bytes or a pad byte that is not 0, 19 the first chunk's kind.
+pub fn webp_find(bytes: &[u8]) -> Result<std::ops::Range<usize>, u32> {
+    let (mut start, mut len) = (0usize, 0usize);
+    // Safe: a slice, and two numbers that nothing else refers to.
+    match unsafe { hookbarley_webp_find(bytes.as_ptr(), bytes.len(), &mut start, &mut len) } {
+        0 => Ok(start..start + len),
+        n => Err(n),
+    }
+}
+
+/// Writes a simple lossy WebP file around a frame to the start of `out` and gives its length, or the number of the refusal: 18 the frame is
+/// too long, 16 `out` is too small; then `out` is as it was.
+pub fn webp_wrap(frame: &[u8], out: &mut [u8]) -> Result<usize, u32> {
+    let mut written = 0usize;
+    // Safe: two slices that do not overlap, and a number that nothing else refers to.
+    match unsafe { hookbarley_webp_wrap(frame.as_ptr(), frame.len(), out.as_mut_ptr(), out.len(), &mut written) } {
+        0 => Ok(written),
+        n => Err(n),
+    }
 }

@@ -1,2 +1,4 @@
 pub mod Calls
 pub mod CallsLaws
+pub mod WebpCalls
+pub mod WebpCallsLaws

@@ -43,6 +43,8 @@ use Rattle.deblock.specs.Deblock.{deblockOf}
 use Rattle.hookbarley.specs.Calls.{calledOf, deblockCalledOf, filteredOf}
 use Rattle.picture.specs.declared.rows.Decoded.{Decoded}
 use Rattle.picture.specs.Picture.{numberOf, pictureOf, valuesOf}
+use Rattle.hookbarley.specs.WebpCalls.{webpFoundOf, webpWrappedOf}
+use Rattle.webp.specs.Webp.{findOf, wrapOf}
 
 -- one answer meets the promise, and no other
 pub record One {A : Type 0} (Promise : A → Type 0) : Type 0 where
@@ -221,6 +223,13 @@ deblock-deblock d strengths w h simple = determined (deblockOf d strengths w h s
 pub casefile-run : (file : List ℕ) → One (λ x. x ≡ ranOf file)
 casefile-run file = determined (ranOf file)
 
+-- ---- webp
+pub webp-find : (bytes : List ℕ) → One (λ x. x ≡ findOf bytes)
+webp-find bytes = determined (findOf bytes)
+
+pub webp-wrap : (frame out : List ℕ) → One (λ x. x ≡ wrapOf frame out)
+webp-wrap frame out = determined (wrapOf frame out)
+
 -- ---- hookbarley
 pub hookbarley-decode : (t : Tile) (m : Memory) → One (λ x. x ≡ calledOf t m)
 hookbarley-decode t m = determined (calledOf t m)
@@ -230,3 +239,9 @@ hookbarley-deblock d strengths w h simple = determined (deblockCalledOf d streng
 
 pub hookbarley-filter : (samples : List ℕ) (simple edge limit inner threshold : ℕ) → One (λ x. x ≡ filteredOf samples simple edge limit inner threshold)
 hookbarley-filter samples simple edge limit inner threshold = determined (filteredOf samples simple edge limit inner threshold)
+
+pub hookbarley-webp-find : (bytes : List ℕ) → One (λ x. x ≡ webpFoundOf bytes)
+hookbarley-webp-find bytes = determined (webpFoundOf bytes)
+
+pub hookbarley-webp-wrap : (frame out : List ℕ) → One (λ x. x ≡ webpWrappedOf frame out)
+hookbarley-webp-wrap frame out = determined (webpWrappedOf frame out)

@@ -14,5 +14,6 @@ pub mod IsolationLaws
 pub mod Valid
 pub mod Witness
 pub mod Determined
+pub mod Webp
 pub mod Deblocked
 pub mod DeblockedLaws
