@@ -21,7 +21,7 @@ enum hookbarley_number {
     HOOKBARLEY_COUNT = 2,     /* the count is not 1..8 */
     HOOKBARLEY_ENTRY = 3,     /* a header entry is outside -255..255 */
     HOOKBARLEY_LENGTH = 4,    /* a lent length, or the header's, is not as below */
-    HOOKBARLEY_PARTITION = 5, /* a partition is outside the bytes or has under 2; the starting reader is out of range */
+    HOOKBARLEY_PARTITION = 5, /* a partition is outside the bytes; the starting reader is out of range */
     HOOKBARLEY_NO_MODES = 6,  /* the first partition ran out in macroblock *finished */
     HOOKBARLEY_NO_TOKENS = 7, /* a token partition ran out in macroblock *finished */
     HOOKBARLEY_ARGUMENT = 9,  /* not eight starts, not eight lengths; of hookbarley_filter: not eight samples */
@@ -30,14 +30,16 @@ enum hookbarley_number {
 
 /* Decodes one picture. Checks are made in the order of the numbers above (9 first), and after 1 to 5 and 9 nothing lent has changed
  * and *finished is 0. After 6 and 7 the macroblocks 0..*finished-1 (raster order) stand finished, every other sample is 128, the
- * modes and strengths of the others are 0. What the lent memory held before never matters.
+ * modes and strengths of the others are 0. What the lent memory held before never matters. A partition runs out where one of the eight
+ * bits that decide a symbol lies past its end; it may have any length, 0 too.
  *
  * bytes            the file or whatever holds the partitions
  * first_start, _length   the first partition (modes) in it
  * token_starts, token_lengths   eight each (the lengths of both arrays are 8); those from `count` on are not looked at
  * at, range, shifts, window     the boolean reader in the first partition, behind the coded frame header: the place of the next
- *                  byte (2..first_length), range 128..255, shifts since a byte came in 0..7, window below 65536 and a multiple of
- *                  2^shifts. For a first partition that holds modes alone: 2, 255, 0, first byte * 256 + second byte.
+ *                  byte (2..first_length + 2), range 128..255, shifts since a byte came in 0..7, window below 65536 and a multiple of
+ *                  2^shifts. For a first partition that holds modes alone: 2, 255, 0, first byte * 256 + second byte, 0 for a
+ *                  byte past its end.
  * count            token partitions, 1..8; macroblock row r reads partition r mod count
  * header           the frame header (RFC 6386, sections 9.3 to 9.11) as 1096 entries, each in -255..255; a flag is on where it is not 0,
  *                  a probability is its entry modulo 256:

@@ -21,9 +21,10 @@ WIDTH, HEIGHT = 48, 32
 
 class Encoder:
     def __init__(self):
-        self.low, self.range, self.shifts = 0, 255, 0
+        self.low, self.range, self.shifts, self.needed = 0, 255, 0, 0
 
     def put(self, bit, prob):
+        self.needed = self.shifts + 8  # the eight bits that decide it begin behind the shifts so far
         split = 1 + ((self.range - 1) * prob >> 8)
         if bit:
             self.low += split
@@ -38,9 +39,13 @@ class Encoder:
             self.put(b, p)
 
     def bytes(self):
-        """As many bytes as a reader loads: two, and one at each eighth shift."""
-        size = 2 + self.shifts // 8
-        return (self.low << 8 * size - 8 - self.shifts).to_bytes(size, "big")
+        """As many bytes as decide the last symbol, and not one more: a reader loads zeros past them."""
+        size = -(-(self.shifts + 8) // 8)
+        return (self.low << 8 * size - 8 - self.shifts).to_bytes(size, "big")[:-(-self.needed // 8)]
+
+    def place(self):
+        """Where a reader is after the last symbol: it loaded two bytes, and one at each eighth shift."""
+        return 2 + self.shifts // 8
 
 
 # ---- sections 9.3, 9.6, 11, 19.3: modes. Large modes and the first four small ones share their numbers: DC, TM, V, H
@@ -343,7 +348,6 @@ def case(h, mb, column, row, seed, top, left, cut=None):
         answer, s = 6, s[:-1]
     elif cut == "tokens":
         answer, t = 7, t[:-1]
-    assert len(s) >= 2 and len(t) >= 2
     if answer == 0:
         if mb.small:
             paint_small(y, 16 * column, 16 * row, mb.modes, residuals[:16])
@@ -352,7 +356,7 @@ def case(h, mb, column, row, seed, top, left, cut=None):
         paint_large(u, 8 * column, 8 * row, 8, mb.chroma, residuals[16:20])
         paint_large(v, 8 * column, 8 * row, 8, mb.chroma, residuals[20:])
         rest = strengths(h, mb, mb.small or not empty) + [mb.segment, int(mb.skip), int(mb.small), mb.chroma]
-        below, right, places = modes[12:] + above, modes[3::4] + beside, [len(s), len(t)]
+        below, right, places = modes[12:] + above, modes[3::4] + beside, [first.place(), tokens.place()]
     else:
         modes, below, right, places = [0] * 16, [0] * 13, [0] * 13, [0, 0]
     words = [answer, y.sum(), u.sum(), v.sum(), *rest, *["".join(map(str, d)) for d in (modes, below, right)], *places]

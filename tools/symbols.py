@@ -41,19 +41,26 @@ def encode(bits, probs):
 
 
 class Reader:
+    """`there` goes beside the window, bit by bit: 1 for each of its bits that the partition has, 0 for those past its end."""
     def __init__(self, s, at=None, rng=None, shifts=None, window=None):
         self.s = s
         if at is None:
-            at, rng, shifts, window = 2, 255, 0, s[0] * 256 + s[1]
+            at, rng, shifts, window = 2, 255, 0, self.byte(0)[0] * 256 + self.byte(1)[0]
         self.at, self.rng, self.shifts, self.window = at, rng, shifts, window
+        self.there = (self.byte(at - 2)[1] * 256 + self.byte(at - 1)[1]) * 2**shifts % 65536
+
+    def byte(self, at):
+        return (self.s[at], 255) if 0 <= at < len(self.s) else (0, 0)
 
     def good(self):
-        return (2 <= self.at <= len(self.s) and 128 <= self.rng <= 255 and 0 <= self.shifts <= 7
+        return (2 <= self.at <= len(self.s) + 2 and 128 <= self.rng <= 255 and 0 <= self.shifts <= 7
                 and self.window < 65536 and self.window % 2**self.shifts == 0)
 
     def symbol(self, p):
         if not self.good():
             raise Refused
+        if self.there // 256 != 255:                             # one of the eight bits that decide is past the end
+            raise Missing
         split = 1 + (self.rng - 1) * p // 256
         bit = self.window >= 256 * split
         if bit:
@@ -63,12 +70,11 @@ class Reader:
             self.rng = split
         while self.rng < 128:
             self.rng *= 2
-            self.window = self.window * 2 % 65536
+            self.window, self.there = self.window * 2 % 65536, self.there * 2 % 65536
             self.shifts += 1
             if self.shifts == 8:
-                if self.at >= len(self.s):
-                    raise Missing
-                self.window += self.s[self.at]
+                value, there = self.byte(self.at)
+                self.window, self.there = self.window + value, self.there + there
                 self.at += 1
                 self.shifts = 0
         return int(bit)
@@ -78,8 +84,6 @@ class Reader:
 
 
 def answer(kind, s, probs, start, given):
-    if kind != 3 and len(s) < 2:
-        return "5"
     r = Reader(s, *given) if kind == 3 else Reader(s)
     out = ""
     try:
@@ -119,18 +123,18 @@ def main():
     some = lambda n: bytes(rnd.randrange(256) for _ in range(n))
     probs = lambda n: [rnd.randrange(256) for _ in range(n)]
     cases = []
-    for n in (0, 1):                                            # too short to open
+    for n in (0, 1):                                            # none holds no symbol, one holds those that its eight bits decide
         cases.append(case(0, some(n), probs(3)))
-    cases.append(case(0, b"\xff\xff", [0] * 4))                  # a first byte of 255, probability 0, then no byte
+    cases.append(case(0, b"\xff\xff", [0] * 4))                  # a first byte of 255, probability 0
     cases.append(case(0, b"\xff" * 30, [0, 255] * 8))
     cases.append(case(0, b"\0" * 30, [255, 0] * 8))
-    cases.append(case(0, b"\0\0", [128] * 16))                   # seven shifts, and the eighth finds no byte
+    cases.append(case(0, b"\0\0", [128] * 16))                   # ten symbols; the eleventh's eighth bit is past the end
     for n in (2, 3, 4, 8, 30):
         for _ in range(2):
             cases.append(case(0, some(n), probs(16)))
     for _ in range(6):                                          # what the encoder wrote comes back
         p, b = probs(16), [rnd.randrange(2) for _ in range(16)]
-        s = (encode(b, p) + b"\0\0\0")[:30]
+        s = encode(b, p)                                        # not a byte more
         c, a = case(0, s, p)
         assert a.startswith("".join(map(str, b)) + " "), (a, b)
         cases.append((c, a))
@@ -141,9 +145,9 @@ def main():
         cases.append(case(2, some(30), probs(11), start))
     cases.append(case(2, some(30), probs(10)))                   # a node without a probability
     cases.append(case(2, some(2), [200] * 11))
-    s = some(12)                                                # given readers: in range, then one thing out of range each
-    for g in ((2, 128, 0, 65535), (12, 255, 7, 128 * 300), (5, 200, 3, 8 * 5000), (1, 200, 3, 8), (13, 200, 3, 8),
-              (5, 127, 3, 8), (5, 256, 3, 8), (5, 200, 8, 256), (5, 200, 3, 65536), (5, 200, 3, 12)):
+    s = some(12)                                                # given readers: in range, up to two past the end; then one thing out of range each
+    for g in ((2, 128, 0, 65535), (12, 255, 7, 128 * 300), (5, 200, 3, 8 * 5000), (13, 200, 0, 256 * 77), (13, 200, 1, 256 * 77),
+              (14, 200, 0, 0), (1, 200, 3, 8), (15, 200, 0, 0), (5, 127, 3, 8), (5, 256, 3, 8), (5, 200, 8, 256), (5, 200, 3, 65536), (5, 200, 3, 12)):
         cases.append(case(3, s, probs(12), 0, g))
     cases.append(case(3, s[:5], [128] * 8, 0, (5, 128, 7, 128)))
     with open("crates/symbols/stdin", "wb") as f:

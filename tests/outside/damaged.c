@@ -1,9 +1,9 @@
 /* The picture call from outside, with damaged input: damaged DIR N SEED [random].
  *
- * DIR holds NNNN.case and expected-memory.txt (tests/outside/README.md). Every lent buffer and every input stands between
+ * DIR holds NNNN.case and expected-memory-m102.txt (tests/outside/README.md). Every lent buffer and every input stands between
  * pages that may not be touched: once ending at the page behind it, once starting at the page before it. The inputs are lent
  * through a view that may only be read. Memory to be written is poisoned, each time with another byte. Run here:
- *   whole   every tile of DIR: number, k and the six memories as expected-memory.txt says;
+ *   whole   every tile of DIR: number, k and the six memories as expected-memory-m102.txt says;
  *   cut     every tile, every partition, every shorter length: finished macroblocks equal the whole tile's, the rest is 128 and 0,
  *           column memory is as after macroblock k - 1, k never falls as the length rises;
  *   apart   every tile of two partitions or more, every partition: another content leaves the macroblock rows above alone;
@@ -133,7 +133,7 @@ static void run(const struct call *c, int end, int poison, struct result *r) {
 
 /* The refusal that a call must be answered with, worked out from the header's text; 0 where it must be decoded. */
 static int inside(const struct call *c, size_t start, size_t length) {
-    return start <= c->n && length <= c->n - start && length >= 2;
+    return start <= c->n && length <= c->n - start;
 }
 
 static int side(size_t n) { return n >= 16 && n <= 16384 && n % 16 == 0; }
@@ -158,7 +158,7 @@ static uint32_t refusal(const struct call *c) {
     if (!inside(c, c->first_start, c->first_length)) return 5;
     for (size_t i = 0; i < c->count; i++)
         if (!inside(c, c->starts[i], c->lengths[i])) return 5;
-    if (c->at < 2 || c->at > c->first_length || c->range < 128 || c->range > 255 || c->shifts > 7) return 5;
+    if (c->at < 2 || c->at > c->first_length + 2 || c->range < 128 || c->range > 255 || c->shifts > 7) return 5;
     if (c->window > 65535 || c->window % (1u << c->shifts)) return 5;
     return 0;
 }
@@ -325,6 +325,11 @@ static size_t be(const uint8_t *p, int n) {
     return x;
 }
 
+/* The window that a partition is opened with: two bytes, zero past its end. */
+static uint32_t opened(const uint8_t *p, size_t n) {
+    return (n > 0 ? p[0] * 256u : 0) + (n > 1 ? p[1] : 0);
+}
+
 static int load(const char *path, struct call *c) {
     static uint8_t file[1 << 17];
     FILE *f = fopen(path, "rb");
@@ -350,7 +355,7 @@ static int load(const char *path, struct call *c) {
     if (at != c->n || c->w * c->h > capacities[Y]) return 0;
     c->at = 2;
     c->range = 255;
-    c->window = c->first_length < 2 ? 0 : (uint32_t)be(c->bytes, 2);
+    c->window = opened(c->bytes, c->first_length);
     lengths_of(c->w, c->h, c->lent);
     return 1;
 }
@@ -377,7 +382,7 @@ static void load_all(const char *dir) {
 
 static void whole(const char *dir, struct result *r, struct result *spare) {
     char path[4096], line[512], got[512];
-    snprintf(path, sizeof path, "%s/expected-memory.txt", dir);
+    snprintf(path, sizeof path, "%s/expected-memory-m102.txt", dir);
     FILE *f = fopen(path, "r");
     if (!f) { perror(path); exit(2); }
     for (size_t t = 0; t < tiles_len; t++) {
@@ -386,7 +391,7 @@ static void whole(const char *dir, struct result *r, struct result *spare) {
         both(c, r, spare);
         int n = sprintf(got, "%u %zu", r->number, r->k);
         for (int b = 0; b < LENT; b++) n += sprintf(got + n, " %016llx", fnv(r->mem[b], c->lent[b]));
-        if (!fgets(line, sizeof line, f)) fail("no line in expected-memory.txt");
+        if (!fgets(line, sizeof line, f)) fail("no line in expected-memory-m102.txt");
         line[strcspn(line, "\r\n")] = 0;
         if (strcmp(line, got)) fail("got %s, should be %s", got, line);
     }
@@ -518,11 +523,11 @@ static void all_apart(struct result *r, struct result *spare, struct result *ful
 static void invent(struct call *c) {
     c->count = 1 + below(8);
     c->first_start = below(4);
-    c->first_length = 2 + below(60);
+    c->first_length = below(62);
     size_t at = c->first_start + c->first_length;
     for (size_t i = 0; i < 8; i++) {
         c->starts[i] = at;
-        at += c->lengths[i] = 2 + below(below(4) ? 40 : 400);
+        at += c->lengths[i] = below(below(4) ? 42 : 402);
     }
     c->n = at + below(4);
     fill(c->bytes, c->n);
@@ -536,7 +541,7 @@ static void invent(struct call *c) {
     c->at = 2;
     c->range = 255;
     c->shifts = 0;
-    c->window = (uint32_t)be(c->bytes + c->first_start, 2);
+    c->window = opened(c->bytes + c->first_start, c->first_length);
 }
 
 static size_t wild(size_t n) {
@@ -593,7 +598,7 @@ static void damage(struct call *c) {
     case 14: resize(c); break;
     case 15: c->count = below(4) ? 1 + below(8) : wild(8); break;
     case 16: case 17:
-        c->at = 2 + below(c->first_length ? c->first_length - 1 : 1);
+        c->at = 2 + below(c->first_length + 1);
         c->range = 128 + (uint32_t)below(128);
         c->shifts = (uint32_t)below(8);
         c->window = (uint32_t)below(65536) >> c->shifts << c->shifts;

@@ -39,7 +39,7 @@ if build decode_case examples/c/decode_case.c; then
             line=$($X86RUN $out/decode_case "$f")
             [ "$line" = "$want" ] || bad example "$f gives $line, should be $want"
             tried=$((tried + 1))
-        done <$cases/$set/expected.txt
+        done <$cases/$set/expected-m102.txt
     done
     while read -r name want; do
         line=$($X86RUN $out/decode_case bench/"$name".case)
@@ -63,7 +63,7 @@ END
                 line=$($X86RUN $out/decode_case -${kind%:*} "$f")
                 [ "$line" = "$want" ] || [ "$line" = "$want 0 0 0" ] || bad deblocked "$f gives $line, should be $want"
                 tried=$((tried + 1))
-            done <$cases/$set/expected-deblocked${kind#*:}.txt
+            done <$cases/$set/expected-deblocked${kind#*:}-m102.txt
         done
     done
     [ $tried -ge 294 ] || bad deblocked "only $tried case files"
@@ -101,7 +101,7 @@ mkdir $few
 i=0
 for t in 3 10 15 26; do
     cp "$(printf '%s/real/%04d.case' $cases $t)" "$(printf '%s/%04d.case' $few $i)"
-    sed -n "$((t + 1))p" $cases/real/expected-memory.txt >>$few/expected-memory.txt
+    sed -n "$((t + 1))p" $cases/real/expected-memory-m102.txt >>$few/expected-memory-m102.txt
     i=$((i + 1))
 done
 for fault in 0 1 2 3 4 5 6 7 8 9 10 11 12 13 14 15 16; do

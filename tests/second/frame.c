@@ -2,15 +2,13 @@
  * the other on standard output, as ffmpeg -f rawvideo -pix_fmt yuv420p does: frame FILE, or frame FILE filtered for the pictures after the
  * loop filter, which is the archive's deblocking call with the strengths that the picture call left. The frame header (RFC 6386, sections
  * 9 and 19.2), which the archive does not read yet, is read here, by a boolean decoder of its own; where it ends, the archive's reader
- * starts, in the middle of the first partition. Each partition is copied with zero bytes behind it, since other decoders read zeros past its end.
+ * starts, in the middle of the first partition. The partitions are read where they stand in the file, not a byte more.
  * A line a frame goes to standard error: number, macroblocks finished, size, partitions, segments, filter level and kind. */
 #include "hookbarley.h"
 #include "tables.h"
 #include <stdio.h>
 #include <stdlib.h>
 #include <string.h>
-
-enum { PAD = 8 };
 
 /* The RFC's bool_decoder, section 7.3. */
 struct reader { const uint8_t *bytes; size_t length, at; uint32_t range, shifts, window; };
@@ -100,24 +98,17 @@ static int frame(const uint8_t *f, size_t n, int filter) {
     int simple;
     size_t count = header_of(&r, header, &simple);
     size_t w = (width + 15) / 16 * 16, h = (height + 15) / 16 * 16, blocks = w / 16 * (h / 16), k = 0;
-    /* the partitions, each with zeros behind it */
-    uint8_t *bytes = calloc(1, n + (count + 1) * PAD);
-    if (!bytes) exit(2);
-    memcpy(bytes, f + 10, first);
-    const uint8_t *sizes = f + 10 + first, *tokens = sizes + 3 * (count - 1), *end = f + n;
-    if (tokens > end) return bad("no sizes of partitions");
-    size_t at = first + PAD, starts[8] = {0}, lengths[8] = {0};
+    const uint8_t *sizes = f + 10 + first;
+    if ((size_t)(f + n - sizes) < 3 * (count - 1)) return bad("no sizes of partitions");
+    size_t at = 10 + first + 3 * (count - 1), starts[8] = {0}, lengths[8] = {0};
     for (size_t i = 0; i < count; i++) {
-        size_t left = (size_t)(end - tokens), length = i + 1 < count ? (size_t)(sizes[3 * i] | sizes[3 * i + 1] << 8 | sizes[3 * i + 2] << 16) : left;
-        if (length > left) return bad("a token partition is past the end");
-        memcpy(bytes + at, tokens, length);
         starts[i] = at;
-        lengths[i] = length + PAD;
-        at += length + PAD;
-        tokens += length;
+        lengths[i] = i + 1 < count ? (size_t)(sizes[3 * i] | sizes[3 * i + 1] << 8 | sizes[3 * i + 2] << 16) : n - at;
+        if (lengths[i] > n - at) return bad("a token partition is past the end");
+        at += lengths[i];
     }
     uint8_t *y = lent(w * h), *u = lent(w * h / 4), *v = lent(w * h / 4), *columns = lent(13 * (w / 16)), *modes = lent(20 * blocks), *strengths = lent(4 * blocks);
-    uint32_t number = hookbarley_decode(bytes, at, 0, first + PAD, starts, 8, lengths, 8, r.at, r.range, r.shifts, r.window, count, header, 1096, w, h,
+    uint32_t number = hookbarley_decode(f, n, 10, first, starts, 8, lengths, 8, r.at, r.range, r.shifts, r.window, count, header, 1096, w, h,
                                         y, w * h, u, w * h / 4, v, w * h / 4, columns, 13 * (w / 16), modes, 20 * blocks, strengths, 4 * blocks, &k);
     fprintf(stderr, "%u %zu %zux%zu partitions %zu segments %d level %d simple %d\n", number, k, width, height, count, header[2], header[18], simple);
     /* a frame of level 0 is not filtered at all */
@@ -125,7 +116,7 @@ static int frame(const uint8_t *f, size_t n, int filter) {
     put(y, w, width, height);
     put(u, w / 2, (width + 1) / 2, (height + 1) / 2);
     put(v, w / 2, (width + 1) / 2, (height + 1) / 2);
-    free(bytes), free(y), free(u), free(v), free(columns), free(modes), free(strengths);
+    free(y), free(u), free(v), free(columns), free(modes), free(strengths);
     return number != 0;
 }
 

@@ -41,9 +41,10 @@ pub struct Reader {
 }
 
 impl Reader {
-    /// A partition opened afresh; one under two bytes gives a reader that `decode` refuses (5).
+    /// A partition opened afresh: two bytes in the window, zero past its end.
     pub fn open(partition: &[u8]) -> Reader {
-        let window = if partition.len() < 2 { 0 } else { partition[0] as u32 * 256 + partition[1] as u32 };
+        let byte = |i: usize| partition.get(i).map_or(0, |&b| b as u32);
+        let window = byte(0) * 256 + byte(1);
         Reader { at: 2, range: 255, shifts: 0, window }
     }
 }

@@ -8,7 +8,7 @@ use lib.IntN.{ℤ, pos, _-ℤ_}
 use lib.ListN.{length, getD}
 use Rattle.numbers.specs.Lists.{build}
 use Rattle.reader.specs.declared.boolean.Reader.{Reader}
-use Rattle.reader.specs.Boolean.{firstReader, noReader}
+use Rattle.reader.specs.Boolean.{firstReader}
 use Rattle.picture.specs.Partitions.{partOf}
 use Rattle.picture.specs.Checks.{Tile}
 
@@ -77,16 +77,13 @@ wellFormed s =
     && (leb (length s) 65536 && eqb (versionOf s) 1 && eqb (restOf s + 5) (length s) && leb (widthOf s) 64 && leb (heightOf s) 64 && wholeOf s)
 
 -- ---- what the picture call is given of it
--- a partition opened afresh; under two bytes no reader, which the call refuses by 5
-unfoldable pub openedOf : List ℕ → Reader
-openedOf first = elim (leb 2 (length first)) [ true ↦ firstReader first | false ↦ noReader ]
-
+-- the first partition is opened afresh
 abbrev pub tileOf : List ℕ → Tile
 tileOf s = record {
   bytes = s;
   firstStart = startAt s 0;
   firstLength = lengthAt s 0;
-  reader = openedOf (partOf s (startAt s 0) (lengthAt s 0));
+  reader = firstReader (partOf s (startAt s 0) (lengthAt s 0));
   starts = startsOf s;
   lengths = lengthsOf s;
   count = countOf s;

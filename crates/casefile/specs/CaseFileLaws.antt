@@ -15,11 +15,7 @@ use Rattle.numbers.specs.Tests.{lt-or, both-left, both-right}
 use Rattle.numbers.specs.In.{In}
 use Rattle.numbers.specs.Know.{Know, num, plainly, round, wider, know-sub}
 use Rattle.numbers.specs.Hand.{unsigned-below, answered}
-use Rattle.reader.specs.declared.boolean.Reader.{Reader}
-use Rattle.reader.specs.declared.boolean.Opened.the-variants as O
-use Rattle.reader.specs.Boolean.{noReader, openAnswer}
-use Rattle.reader.specs.BooleanLaws.{opened, open-good}
-use Rattle.casefile.specs.CaseFile.{byteAt, halfAt, wordAt, signedOf, widthOf, heightOf, countOf, versionOf, restOf, entryAt, lengthAt, startAt, slotOf, wholeOf, wellFormed, openedOf}
+use Rattle.casefile.specs.CaseFile.{byteAt, halfAt, wordAt, signedOf, widthOf, heightOf, countOf, versionOf, restOf, entryAt, lengthAt, startAt, slotOf, wholeOf, wellFormed}
 
 pub record Formed (s : List ℕ) : Type 0 where
   pub long : 2206 ≤ length s
@@ -122,16 +118,3 @@ module _ (count : ℕ) (f : ℕ → ℕ) (i : ℕ) where
   pub slot-below : i < count → f (i + 1) ≡ slotOf count f i
   unfolding slotOf
   slot-below h = rw (lt-ltb i count h, slotOf)
-
-module _ (s : List ℕ) where
-  pub opened-ready : {r : Reader} → O.Ready r ≡ openAnswer s → r ≡ openedOf s
-  unfolding openedOf
-  opened-ready e = let o = opened s e in rw (le-leb 2 (length s) (o .0), openedOf) (o .1)
-
-  pub opened-none : O.Refused ≡ openAnswer s → noReader ≡ openedOf s
-  unfolding openedOf
-  opened-none e =
-      ⊎-elim
-      (λ h. rw (lt-leb 2 (length s) h, openedOf))
-      (λ h. absurd (let f = open-good s h in let z : _≡_ {A = ℕ} 0 1 = cc in omega arith))
-      (lt-or (length s) 2)

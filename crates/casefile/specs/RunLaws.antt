@@ -9,13 +9,14 @@ use lib.ListN.{length, replicate, take, drop, length-replicate}
 use lib.Seq.{getD-take, length-take-le}
 use Rattle.numbers.specs.Lists.{constant, getD-constant}
 use Rattle.reader.specs.declared.boolean.Reader.{Reader}
+use Rattle.reader.specs.Boolean.{firstReader}
 use Rattle.picture.specs.Partitions.{partOf}
 use Rattle.picture.specs.PartitionsLaws.{part-cut}
 use Rattle.picture.specs.Checks.{Tile, blocksOf}
 use Rattle.picture.specs.Memory.{Memory}
 use Rattle.picture.specs.Picture.{Ended, pictureOf}
 use Rattle.casefile.specs.declared.run.Ran.{Ran}
-use Rattle.casefile.specs.CaseFile.{widthOf, heightOf, countOf, headerOf, lengthAt, startAt, startsOf, lengthsOf, openedOf, wellFormed, tileOf}
+use Rattle.casefile.specs.CaseFile.{widthOf, heightOf, countOf, headerOf, lengthAt, startAt, startsOf, lengthsOf, wellFormed, tileOf}
 use Rattle.casefile.specs.Measures.{sumOf}
 use Rattle.casefile.specs.Run.{lentOf, sumAfter, reportOf, malformedRan, ranOf}
 
@@ -38,9 +39,9 @@ module _ (s : List ℕ) where
   run-formed e f g r = r ∙ rw (e, f, g, ranOf)
 
 -- the tile that the fields of a file make
-pub tile-is : (s : List ℕ) {from len n w h : ℕ} {starts lengths : List ℕ} {r : Reader} {e : List ℤ} → from ≡ startAt s 0 → len ≡ lengthAt s 0 → starts ≡ startsOf s → lengths ≡ lengthsOf s → r ≡ openedOf (take (from + len - from) (drop from s)) → n ≡ countOf s → e ≡ headerOf s → w ≡ widthOf s → h ≡ heightOf s → _≡_ {A = Tile} (record { bytes = s; firstStart = from; firstLength = len; reader = r; starts = starts; lengths = lengths; count = n; header = e; width = w; height = h }) (tileOf s)
+pub tile-is : (s : List ℕ) {from len n w h : ℕ} {starts lengths : List ℕ} {r : Reader} {e : List ℤ} → from ≡ startAt s 0 → len ≡ lengthAt s 0 → starts ≡ startsOf s → lengths ≡ lengthsOf s → r ≡ firstReader (take (from + len - from) (drop from s)) → n ≡ countOf s → e ≡ headerOf s → w ≡ widthOf s → h ≡ heightOf s → _≡_ {A = Tile} (record { bytes = s; firstStart = from; firstLength = len; reader = r; starts = starts; lengths = lengths; count = n; header = e; width = w; height = h }) (tileOf s)
 tile-is s {from} {len} a b c d o n e w h =
-    let q : openedOf (take (from + len - from) (drop from s)) ≡ openedOf (partOf s from len) = ap openedOf (part-cut s from len) in
+    let q : firstReader (take (from + len - from) (drop from s)) ≡ firstReader (partOf s from len) = ap firstReader (part-cut s from len) in
     rw (o, q, a, b, c, d, n, e, w, h)
 
 pub picture-is : (m : Memory) {t t′ : Tile} {x : Ended} → x ≡ pictureOf t m → t ≡ t′ → x ≡ pictureOf t′ m

@@ -12,14 +12,13 @@ use crate::measures::hash;
 use crate::measures::sum;
 use picture::decode;
 use picture::rows::Decoded;
-use reader::boolean::Opened;
 use reader::boolean::Reader;
 use reader::boolean::open;
 ghost use mathlib.Core.Path.{_≡_};
 ghost use Prim.Native.Nat.{_+_, _*_, _/_, _<_, _≤_};
 ghost use lib.ListN.{length, replicate};
 ghost use Rattle.picture.specs.Picture.{Ended, pictureOf};
-ghost use Rattle.casefile.specs.CaseFile.{widthOf, heightOf, openedOf, tileOf};
+ghost use Rattle.casefile.specs.CaseFile.{widthOf, heightOf, tileOf};
 ghost use Rattle.casefile.specs.CaseFileLaws.{Formed};
 ghost use Rattle.casefile.specs.Run.{lentOf, sumAfter, reportOf, malformedRan, ranOf};
 
@@ -63,21 +62,6 @@ fn malformed() -> Ran
             strengths: 0,
         },
     }
-}
-
-// The reader that the first partition is opened with. Under two bytes it is no reader: the picture call then refuses by 5.
-fn opened(first: &[u8]) -> Reader
-    ensures { λ r. ⌜ r ≡ openedOf (now (first .entry)) ⌝ }
-{
-    let Opened::Ready(r) = open(first) else {
-        return Reader {
-            at: 0,
-            range: 0,
-            shifts: 0,
-            window: 0,
-        };
-    };
-    r
 }
 
 fn sum_after(number: u32, mem: &[u8]) -> u32
@@ -146,7 +130,7 @@ fn through(
         len,
         starts(file),
         lengths(file),
-        opened(&file[from..to]),
+        open(&file[from..to]),
         count(file),
         &h,
         width(file),

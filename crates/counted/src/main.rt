@@ -1,7 +1,6 @@
 // Reads symbols until the bytes run out, and prints how many: what docs/SPEED.md counts instructions on. The first byte of
 // standard input says how: 0 not at all, 1 one symbol after another, 2 leaves of a tree by an `if` chain over `symbol`, 3 the
 // same leaves by `walk_tree`. `chain` is the worked example of such a chain: it is proved equal to the walk of its tree.
-use reader::boolean::Opened;
 use reader::boolean::Reader;
 use reader::boolean::Symbol;
 use reader::boolean::open;
@@ -92,9 +91,7 @@ fn walks(s: &[u8], r: Reader) -> usize {
 }
 
 fn counted(how: u8, s: &[u8]) -> usize {
-    let Opened::Ready(r) = open(s) else {
-        return 0;
-    };
+    let r = open(s);
     if how == 1 {
         return symbols(s, r);
     }

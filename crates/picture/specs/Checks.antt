@@ -56,9 +56,9 @@ lengthsOf w h z entries =
     && eqb (z .strengths) (4 * blocksOf w h)
     && eqb entries 1096
 
--- ---- 5: each partition inside the bytes and of two at least, and the starting reader in range over the first
+-- ---- 5: each partition inside the bytes, and the starting reader in range over the first
 unfoldable pub insideOf : ℕ → ℕ → ℕ → Bool
-insideOf n start len = leb (start + len) n && leb 2 len
+insideOf n start len = leb (start + len) n
 
 unfoldable pub tokensOf : ℕ → List ℕ → List ℕ → ℕ → Bool
 tokensOf n starts lengths count = allBelow count (λ i. insideOf n (getD starts i 0) (getD lengths i 0))

@@ -144,17 +144,17 @@ module _ (t : Tile) (z : Sizes) where
 module _ (n start len : ℕ) where
   pub inside-fact : insideOf n start len ≡ true → Inside n start len
   unfolding insideOf
-  inside-fact e = record { fits = leb-true _ _ (both-left _ _ e); two = leb-true _ _ (both-right (leb (start + len) n) _ e) }
+  inside-fact e = record { fits = leb-true _ _ e }
 
   inside-test : Inside n start len → insideOf n start len ≡ true
   unfolding insideOf
-  inside-test p = both-true (le-leb _ _ (p .fits)) (le-leb _ _ (p .two))
+  inside-test p = le-leb _ _ (p .fits)
 
   -- as the code tries it: a start past the end, else what is left after the start
   pub inside-past : n < start → false ≡ insideOf n start len
   inside-past h = not-so (insideOf n start len) (λ e. omega (arith, inside-fact e .fits))
 
-  pub inside-rest : start ≤ n → leb len (n - start) && leb 2 len ≡ insideOf n start len
+  pub inside-rest : start ≤ n → leb len (n - start) ≡ insideOf n start len
   unfolding insideOf
   inside-rest h =
       ⊎-elim

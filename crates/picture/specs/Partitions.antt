@@ -13,10 +13,9 @@ use Rattle.reader.specs.Boolean.{firstReader, noReader}
 unfoldable pub partOf : List ℕ → ℕ → ℕ → List ℕ
 partOf bytes start len = take len (drop start bytes)
 
--- it lies inside n bytes and has at least two
+-- it lies inside n bytes
 pub record Inside (n start len : ℕ) : Type 0 where
   pub fits : start + len ≤ n
-  pub two : 2 ≤ len
 
 -- token partition i
 abbrev pub tokenOf : List ℕ → List ℕ → List ℕ → ℕ → List ℕ

@@ -11,9 +11,8 @@ use lib.Dec.{lit<}
 use Rattle.numbers.specs.Tests.{lt-or}
 use Rattle.numbers.specs.Lists.{length-build, getD-build}
 use Rattle.reader.specs.declared.boolean.Reader.{Reader}
-use Rattle.reader.specs.declared.boolean.Opened.the-variants as O
-use Rattle.reader.specs.Boolean.{firstReader, noReader, openAnswer}
-use Rattle.reader.specs.BooleanLaws.{Bytes, Valid, first-valid, opened, open-good}
+use Rattle.reader.specs.Boolean.{firstReader, noReader}
+use Rattle.reader.specs.BooleanLaws.{Bytes, Valid, first-valid}
 use Rattle.picture.specs.Partitions.{Inside, partOf, tokenOf, readerOf, readersOf}
 
 module _ (bytes : List ℕ) (start len : ℕ) where
@@ -37,13 +36,6 @@ module _ (bytes : List ℕ) (start len : ℕ) where
       (λ g. rw (List·getD-eq-default (partOf bytes start len) 0 {n = i} (rw (part-length h) g)) (lit< tt))
       (lt-or i len)
 
-  -- `open` takes it
-  pub not-refused : {s : List ℕ} → Inside (length bytes) start len → s ≡ partOf bytes start len → O.Refused ≡ openAnswer s → ⊥
-  not-refused {s} p e f =
-      let g = open-good s (rw (e, part-length (p .fits)) (p .two)) in
-      let z : _≡_ {A = ℕ} 0 1 = cc in
-      omega arith
-
 module _ (bytes starts lengths : List ℕ) (count i : ℕ) where
   pub reader-first : i < count → readerOf bytes starts lengths count i ≡ firstReader (tokenOf bytes starts lengths i)
   unfolding readerOf
@@ -54,8 +46,8 @@ module _ (bytes starts lengths : List ℕ) (count i : ℕ) where
   reader-none h = rw (le-ltb i count h, readerOf)
 
   -- what `open` answers for it
-  pub reader-opened : {s : List ℕ} {r : Reader} → i < count → s ≡ tokenOf bytes starts lengths i → O.Ready r ≡ openAnswer s → r ≡ readerOf bytes starts lengths count i
-  reader-opened {s} l e f = opened s f .1 ∙ ap firstReader e ∙ sym (reader-first l)
+  pub reader-opened : {s : List ℕ} {r : Reader} → i < count → s ≡ tokenOf bytes starts lengths i → r ≡ firstReader s → r ≡ readerOf bytes starts lengths count i
+  reader-opened l e f = f ∙ ap firstReader e ∙ sym (reader-first l)
 
   pub readers-at : (d : Reader) → i < 8 → getD (readersOf bytes starts lengths count) i d ≡ readerOf bytes starts lengths count i
   unfolding readersOf
@@ -65,7 +57,7 @@ module _ (bytes starts lengths : List ℕ) (count i : ℕ) where
   pub readers-valid : (d : Reader) → Bytes bytes → i < 8 → i < count → Inside (length bytes) (getD starts i 0) (getD lengths i 0) → Valid (tokenOf bytes starts lengths i) (getD (readersOf bytes starts lengths count) i d)
   readers-valid d y h l p =
       rw (readers-at d h, reader-first l)
-      (first-valid (tokenOf bytes starts lengths i) (part-bytes bytes (getD starts i 0) (getD lengths i 0) (p .fits) y) (rw (part-length bytes (getD starts i 0) (getD lengths i 0) (p .fits)) (p .two)))
+      (first-valid (tokenOf bytes starts lengths i) (part-bytes bytes (getD starts i 0) (getD lengths i 0) (p .fits) y))
 
 pub readers-length : (bytes starts lengths : List ℕ) (count : ℕ) → length (readersOf bytes starts lengths count) ≡ 8
 unfolding readersOf

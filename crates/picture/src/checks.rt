@@ -64,14 +64,14 @@ fn lengths_fine(
         & (entries == 1096)
 }
 
-// Whether a partition lies inside n bytes and has two.
+// Whether a partition lies inside n bytes.
 fn inside(n: usize, start: usize, len: usize) -> bool
     ensures { λ r. ⌜ r ≡ insideOf n start len ⌝ }
 {
     if n < start {
         return false;
     }
-    (len <= n - start) & (2 <= len)
+    len <= n - start
 }
 
 // The same of the first `count` token partitions.

@@ -1,5 +1,4 @@
 // Partitions: ranges of the bytes, which may overlap. Once one is cut out, only its contents are spoken of.
-use reader::boolean::Opened;
 use reader::boolean::Reader;
 use reader::boolean::open;
 ghost use mathlib.Core.Path.{_≡_};
@@ -36,8 +35,7 @@ fn no_reader() -> Reader
     }
 }
 
-// The reader that token partition i starts with. Past the count nothing is known of start and length, and nothing is opened;
-// below it a partition has two bytes, so `open` takes it.
+// The reader that token partition i starts with. Past the count nothing is known of start and length, and nothing is opened.
 fn opener(bytes: &[u8], starts: [usize; 8], lengths: [usize; 8], count: usize, i: usize) -> Reader
     requires { ⌜ (i < 8) × (i < count → Inside (length (now bytes)) (getD starts i 0) (getD lengths i 0)) ⌝ }
     ensures { λ r. ⌜ r ≡ readerOf (now (bytes .entry)) starts lengths count i ⌝ }
@@ -47,10 +45,7 @@ fn opener(bytes: &[u8], starts: [usize; 8], lengths: [usize; 8], count: usize, i
     }
     let start = starts[i];
     let len = lengths[i];
-    let Opened::Ready(r) = open(part(bytes, start, len)) else {
-        return no_reader();
-    };
-    r
+    open(part(bytes, start, len))
 }
 
 // The eight starting readers of the token partitions.

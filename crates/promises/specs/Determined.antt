@@ -7,7 +7,7 @@ use mathlib.Core.List.{List}
 use lib.IntN.{ℤ}
 use Rattle.numbers.specs.Clamp.{upTo, clipZ, signedTo, signedByteZ}
 use Rattle.numbers.specs.Wrap.{wrap16Of}
-use Rattle.reader.specs.Boolean.{validOf, openAnswer, symbolAnswer}
+use Rattle.reader.specs.Boolean.{validOf, firstReader, symbolAnswer}
 use Rattle.reader.specs.Extra.{extraAnswer}
 use Rattle.reader.specs.Header.{presentOf, probabilityOf, entriesOf, headerOf}
 use Rattle.reader.specs.Token.{tokenAnswer}
@@ -75,8 +75,8 @@ numbers-signed-byte v = determined (signedByteZ v)
 pub reader-valid : (s : List ℕ) (r : Reader) → One (λ x. x ≡ validOf s r)
 reader-valid s r = determined (validOf s r)
 
-pub reader-open : (s : List ℕ) → One (λ x. x ≡ openAnswer s)
-reader-open s = determined (openAnswer s)
+pub reader-open : (s : List ℕ) → One (λ x. x ≡ firstReader s)
+reader-open s = determined (firstReader s)
 
 pub reader-symbol : (s : List ℕ) (r : Reader) (prob : ℕ) → One (λ x. x ≡ symbolAnswer s r prob)
 reader-symbol s r prob = determined (symbolAnswer s r prob)

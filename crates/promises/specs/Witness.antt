@@ -94,13 +94,13 @@ fine x y = good-arguments (tileOf x) (memoryOf y) sides counted bounded sized cu
     }
 
     inside : (i : ℕ) → i < 2 → Inside (length (bytesOf x)) (getD (32 ∷ 64 ∷ []) i 0) (getD (32 ∷ 32 ∷ []) i 0)
-    inside zero h = record { fits = rw (long x) (omega arith); two = omega arith }
-    inside (suc zero) h = record { fits = rw (long x) (omega arith); two = omega arith }
+    inside zero h = record { fits = rw (long x) (omega arith) }
+    inside (suc zero) h = record { fits = rw (long x) (omega arith) }
     inside (suc (suc i)) h = absurd (omega arith)
 
     cut : Cut (tileOf x)
     cut = record {
-      first = record { fits = rw (long x) (omega arith); two = omega arith };
+      first = record { fits = rw (long x) (omega arith) };
       tokens = inside;
       reader = record {
         placed = omega arith;

@@ -5,8 +5,6 @@ use mathlib.Core.Bool.{Bool, true, false, _&&_}
 use lib.ListN.{length, getD}
 use lib.Dec.{ltb, leb, eqb}
 use Rattle.reader.specs.declared.boolean.Reader.{Reader}
-use Rattle.reader.specs.declared.boolean.Opened.{Opened}
-use Rattle.reader.specs.declared.boolean.Opened.the-variants as O
 use Rattle.reader.specs.declared.boolean.Symbol.{Symbol}
 use Rattle.reader.specs.declared.boolean.Symbol.the-variants as S
 
@@ -33,40 +31,43 @@ shifted r = record { at = r .at; range = r .range * 2; shifts = r .shifts + 1; w
 abbrev pub loaded : ℕ → Reader → Reader
 loaded b r = record { at = r .at + 1; range = r .range * 2; shifts = 0; window = r .window * 2 % 65536 + b }
 
--- while the range is below 128, shift; each eighth shift loads the next byte, and there the byte can be missing.
+-- while the range is below 128, shift; each eighth shift loads the next byte, which past the end is zero.
 -- At most n shifts: seven suffice, since a range is at least 1 (`grow-enough`).
-unfoldable pub grow : ℕ → List ℕ → Bool → Reader → Given Bool
-grow zero s bit r = given bit r
-grow (suc n) s bit r =
+unfoldable pub grow : ℕ → List ℕ → Reader → Reader
+grow zero s r = r
+grow (suc n) s r =
     elim (ltb (r .range) 128) [
-      | false ↦ given bit r
-      | true ↦ elim (eqb (r .shifts) 7) [
-        | false ↦ grow n s bit (shifted r)
-        | true ↦ elim (ltb (r .at) (length s)) [
-          | false ↦ missing
-          | true ↦ grow n s bit (loaded (getD s (r .at) 0) r)
-        ]
+      | false ↦ r
+      | true ↦ elim (eqb (r .shifts) 7) [ false ↦ grow n s (shifted r) | true ↦ grow n s (loaded (getD s (r .at) 0) r) ]
+    ]
+
+-- A symbol is decided by the top eight bits of the window. The window's first byte is the partition's at place at - 2, and `shifts` of
+-- its bits are gone: they are the partition's bits from 8 * (at - 2) + shifts on. Whether all eight lie in it:
+unfoldable pub decidedOf : List ℕ → Reader → Bool
+decidedOf s r = leb (8 * (r .at - 2) + r .shifts + 8) (8 * length s)
+
+-- one symbol: missing where one of the eight bits that decide it lies past the end; else 1 where the window is at least 256 * split; then
+-- the doubling
+unfoldable pub symbolOf : List ℕ → Reader → ℕ → Given Bool
+symbolOf s r prob =
+    elim (decidedOf s r) [
+      | false ↦ missing
+      | true ↦ elim (leb (256 * splitOf (r .range) prob) (r .window)) [
+        | true ↦ given true (grow 7 s (partOf r (splitOf (r .range) prob) true))
+        | false ↦ given false (grow 7 s (partOf r (splitOf (r .range) prob) false))
       ]
     ]
 
--- the bit is 1 where the window is at least 256 * split; then the doubling
-unfoldable pub symbolOf : List ℕ → Reader → ℕ → Given Bool
-symbolOf s r prob =
-    elim (leb (256 * splitOf (r .range) prob) (r .window)) [
-      | true ↦ grow 7 s true (partOf r (splitOf (r .range) prob) true)
-      | false ↦ grow 7 s false (partOf r (splitOf (r .range) prob) false)
-    ]
-
--- ---- a partition is opened with two bytes and range 255
+-- ---- a partition is opened with two bytes, zero past its end, and range 255; one byte or none may be opened
 abbrev pub firstReader : List ℕ → Reader
 firstReader s = record { at = 2; range = 255; shifts = 0; window = getD s 0 0 * 256 + getD s 1 0 }
 
--- ---- a reader is in range over s: its next byte's place is 2..length, its range 128..255, its shifts since a load 0..7, and
+-- ---- a reader is in range over s: its next byte's place is 2..length + 2, its range 128..255, its shifts since a load 0..7, and
 -- its window below 65536 and a multiple of 2^shifts
 unfoldable pub validOf : List ℕ → Reader → Bool
 validOf s r =
     leb 2 (r .at)
-    && (leb (r .at) (length s)
+    && (leb (r .at) (length s + 2)
     && (leb 128 (r .range)
     && (ltb (r .range) 256
     && (ltb (r .shifts) 8 && (ltb (r .window) 65536 && eqb (r .window % 2 ^ r .shifts) 0)))))
@@ -80,22 +81,10 @@ toSymbol missing = S.Missing
 unfoldable pub symbolAnswer : List ℕ → Reader → ℕ → Symbol
 symbolAnswer s r prob = elim (validOf s r) [ true ↦ toSymbol (symbolOf s r prob) | false ↦ S.Refused ]
 
--- `open`: refused where the partition has under two bytes
-unfoldable pub openAnswer : List ℕ → Opened
-openAnswer s = elim (leb 2 (length s)) [ true ↦ O.Ready (firstReader s) | false ↦ O.Refused ]
-
 -- ---- the answers as numbers and values. Reading calls say only that a byte is missing: `short` is the number that the layer
 -- above gives that, 6 where modes and 7 where tokens run out. A refusal's values are zero.
 abbrev pub noReader : Reader
 noReader = record { at = 0; range = 0; shifts = 0; window = 0 }
-
-abbrev pub openedNumberOf : Opened → ℕ
-openedNumberOf (O.Ready r) = 0
-openedNumberOf O.Refused = 5
-
-abbrev pub openedValuesOf : Opened → Reader
-openedValuesOf (O.Ready r) = r
-openedValuesOf O.Refused = noReader
 
 abbrev pub symbolNumberOf : ℕ → Symbol → ℕ
 symbolNumberOf short (S.Got b r) = 0

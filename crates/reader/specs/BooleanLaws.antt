@@ -14,9 +14,7 @@ use Rattle.numbers.specs.Tests.{lt-or, eq-or, not-so, both-left, both-right}
 use Rattle.reader.specs.declared.boolean.Reader.{Reader}
 use Rattle.reader.specs.declared.boolean.Symbol.{Symbol}
 use Rattle.reader.specs.declared.boolean.Symbol.the-variants as S
-use Rattle.reader.specs.declared.boolean.Opened.{Opened}
-use Rattle.reader.specs.declared.boolean.Opened.the-variants as O
-use Rattle.reader.specs.Boolean.{Given, given, missing, splitOf, partOf, shifted, loaded, grow, symbolOf, firstReader, validOf, toSymbol, symbolAnswer, openAnswer}
+use Rattle.reader.specs.Boolean.{Given, given, missing, splitOf, partOf, shifted, loaded, grow, decidedOf, symbolOf, firstReader, validOf, toSymbol, symbolAnswer}
 
 -- every element is a byte
 abbrev pub Bytes : List ℕ → Type 0
@@ -25,7 +23,7 @@ Bytes s = (i : ℕ) → getD s i 0 < 256
 -- a reader over s from a range of at least `low`: after the split 1, between symbols 128
 pub record From (low : ℕ) (s : List ℕ) (r : Reader) : Type 0 where
   pub placed : 2 ≤ r .at
-  pub inside : r .at ≤ length s
+  pub inside : r .at ≤ length s + 2
   pub least : low ≤ r .range
   pub most : r .range < 256
   pub few : r .shifts < 8
@@ -42,39 +40,32 @@ Next s at (given a r) = Valid s r × (at ≤ r .at)
 Next s at missing = Unit {0}
 
 -- ---- one turn of the doubling
-module _ (n : ℕ) (s : List ℕ) (b : Bool) (r : Reader) where
-  pub grow-shift : r .range < 128 → (r .shifts ≡ 7 → ⊥) → grow (suc n) s b r ≡ grow n s b (shifted r)
+module _ (n : ℕ) (s : List ℕ) (r : Reader) where
+  pub grow-shift : r .range < 128 → (r .shifts ≡ 7 → ⊥) → grow (suc n) s r ≡ grow n s (shifted r)
   unfolding grow
   grow-shift h e = rw (lt-ltb (r .range) 128 h, ne-eqb _ _ e, grow)
 
-  pub grow-load : r .range < 128 → r .shifts ≡ 7 → r .at < length s → grow (suc n) s b r ≡ grow n s b (loaded (getD s (r .at) 0) r)
+  pub grow-load : r .range < 128 → r .shifts ≡ 7 → grow (suc n) s r ≡ grow n s (loaded (getD s (r .at) 0) r)
   unfolding grow
-  grow-load h e l = rw (lt-ltb _ _ h, eq-eqb _ _ e, lt-ltb _ _ l, grow)
+  grow-load h e = rw (lt-ltb _ _ h, eq-eqb _ _ e, grow)
 
-  pub grow-missing : r .range < 128 → r .shifts ≡ 7 → length s ≤ r .at → grow (suc n) s b r ≡ missing
-  unfolding grow
-  grow-missing h e l = rw (lt-ltb _ _ h, eq-eqb _ _ e, le-ltb _ _ l, grow)
-
-pub grow-stop : (n : ℕ) (s : List ℕ) (b : Bool) (r : Reader) → 128 ≤ r .range → grow n s b r ≡ given b r
+pub grow-stop : (n : ℕ) (s : List ℕ) (r : Reader) → 128 ≤ r .range → grow n s r ≡ r
 unfolding grow
-grow-stop zero s b r h = refl
-grow-stop (suc n) s b r h = rw (le-ltb (r .range) 128 h, grow)
+grow-stop zero s r h = refl
+grow-stop (suc n) s r h = rw (le-ltb (r .range) 128 h, grow)
 
 -- more shifts than suffice change nothing
-pub grow-enough : (n : ℕ) (s : List ℕ) (b : Bool) (r : Reader) → 128 ≤ r .range * 2 ^ n → grow (suc n) s b r ≡ grow n s b r
-grow-enough zero s b r h =
+pub grow-enough : (n : ℕ) (s : List ℕ) (r : Reader) → 128 ≤ r .range * 2 ^ n → grow (suc n) s r ≡ grow n s r
+grow-enough zero s r h =
     let g : 128 ≤ r .range = omega (arith, mul-one (r .range)) in
-    grow-stop 1 s b r g ∙ sym (grow-stop 0 s b r g)
-grow-enough (suc n) s b r h =
+    grow-stop 1 s r g ∙ sym (grow-stop 0 s r g)
+grow-enough (suc n) s r h =
     ⊎-elim
     (λ l. ⊎-elim
-    (λ e. ⊎-elim
-    (λ a. grow-load (suc n) s b r l e a ∙ grow-enough n s b (loaded (getD s (r .at) 0) r) (rw twice h) ∙ sym (grow-load n s b r l e a))
-    (λ a. grow-missing (suc n) s b r l e a ∙ sym (grow-missing n s b r l e a))
-    (lt-or (r .at) (length s)))
-    (λ e. grow-shift (suc n) s b r l e ∙ grow-enough n s b (shifted r) (rw twice h) ∙ sym (grow-shift n s b r l e))
+    (λ e. grow-load (suc n) s r l e ∙ grow-enough n s (loaded (getD s (r .at) 0) r) (rw twice h) ∙ sym (grow-load n s r l e))
+    (λ e. grow-shift (suc n) s r l e ∙ grow-enough n s (shifted r) (rw twice h) ∙ sym (grow-shift n s r l e))
     (eq-or (r .shifts) 7))
-    (λ g. grow-stop (suc (suc n)) s b r g ∙ sym (grow-stop (suc n) s b r g))
+    (λ g. grow-stop (suc (suc n)) s r g ∙ sym (grow-stop (suc n) s r g))
     (lt-or (r .range) 128)
 
 -- ---- the split lies strictly inside the range
@@ -84,10 +75,56 @@ split-is range prob h p =
     let q : (range - 1) * prob / 256 < range - 1 = div-lt-iff-lt-mul {k = 256} (lit< tt) .1 (mul-lt-mul-of-pos-left p (omega arith)) in
     (refl, omega arith, omega arith)
 
-pub symbol-is : (s : List ℕ) (r : Reader) (p x : ℕ) → x ≡ splitOf (r .range) p → (b : Bool) → b ≡ leb (256 * x) (r .window) → symbolOf s r p ≡ grow 7 s b (partOf r x b)
+-- ---- whether a symbol is decided
+-- one where shifts have begun a byte
+abbrev pub begunOf : ℕ → ℕ
+begunOf zero = 0
+begunOf (suc n) = 1
+
+same-test : (a b c d : ℕ) → (a ≤ b → c ≤ d) → (b < a → d < c) → leb a b ≡ leb c d
+same-test a b c d f g =
+    ⊎-elim
+    (λ (h : b < a). rw (lt-leb a b h, lt-leb c d (g h)))
+    (λ (h : a ≤ b). rw (le-leb a b h, le-leb c d (f h)))
+    (lt-or b a)
+
+begun-test : (a n l : ℕ) → 2 ≤ a → n < 8 → leb (8 * (a - 2) + n + 8) (8 * l) ≡ leb (a + begunOf n) (l + 1)
+begun-test a zero l p f = same-test (8 * (a - 2) + 0 + 8) (8 * l) (a + 0) (l + 1) (λ h. omega arith) (λ h. omega arith)
+begun-test a (suc n) l p f = same-test (8 * (a - 2) + suc n + 8) (8 * l) (a + 1) (l + 1) (λ h. omega arith) (λ h. omega arith)
+
+module _ (s : List ℕ) (r : Reader) where
+  pub decided-fact : decidedOf s r ≡ true → 8 * (r .at - 2) + r .shifts + 8 ≤ 8 * length s
+  unfolding decidedOf
+  decided-fact e = leb-true _ _ e
+
+  -- it is where the place is inside; past the end, right after the first load that found no byte
+  module _ (p : 2 ≤ r .at) (f : r .shifts < 8) where
+    pub decided-inside : r .at ≤ length s → decidedOf s r ≡ true
+    unfolding decidedOf
+    decided-inside h = le-leb (8 * (r .at - 2) + r .shifts + 8) (8 * length s) (omega arith)
+
+    pub decided-edge : length s < r .at → eqb (r .at - length s + r .shifts) 1 ≡ decidedOf s r
+    unfolding decidedOf
+    decided-edge h =
+        ⊎-elim
+        (λ (e : r .at - length s + r .shifts ≡ 1). rw (eq-eqb _ _ e, le-leb (8 * (r .at - 2) + r .shifts + 8) (8 * length s) (omega arith)))
+        (λ (e : r .at - length s + r .shifts ≡ 1 → ⊥). rw (ne-eqb _ _ e, lt-leb (8 * (r .at - 2) + r .shifts + 8) (8 * length s) (omega arith)))
+        (eq-or (r .at - length s + r .shifts) 1)
+
+    -- in one test: the bytes that were loaded, and one more where shifts have begun it, are at most one past the end
+    pub decided-test : decidedOf s r ≡ leb (r .at + begunOf (r .shifts)) (length s + 1)
+    unfolding decidedOf
+    decided-test = begun-test (r .at) (r .shifts) (length s) p f
+
+-- ---- a symbol is missing, or its bit and the doubling
+pub symbol-missing : (s : List ℕ) (r : Reader) (p : ℕ) → decidedOf s r ≡ false → symbolOf s r p ≡ missing
 unfolding symbolOf
-symbol-is s r p x e true f = rw (e, sym (rw e at f), symbolOf)
-symbol-is s r p x e false f = rw (e, sym (rw e at f), symbolOf)
+symbol-missing s r p e = rw (e, symbolOf)
+
+pub symbol-is : (s : List ℕ) (r : Reader) (p x : ℕ) → decidedOf s r ≡ true → x ≡ splitOf (r .range) p → (b : Bool) → b ≡ leb (256 * x) (r .window) → symbolOf s r p ≡ given b (grow 7 s (partOf r x b))
+unfolding symbolOf
+symbol-is s r p x d e true f = rw (d, e, sym (rw e at f), symbolOf)
+symbol-is s r p x d e false f = rw (d, e, sym (rw e at f), symbolOf)
 
 -- ---- a reader in range stays in range
 -- a shift keeps the window's low zeros, one more of them; a split keeps them all
@@ -103,10 +140,6 @@ even-sub w x k l h =
     (λ e. omega arith) (λ e. omega arith) (λ e. omega arith) (λ e. omega arith) (λ e. omega arith) (λ e. omega arith) (λ e. omega arith) (λ e. omega arith)
     k l
 
-earlier : (s : List ℕ) (a b : ℕ) (q : Given Bool) → a ≤ b → Next s b q → Next s a q
-earlier s a b (given t r) h n = (n .0, omega arith)
-earlier s a b missing h n = tt
-
 stopped : (s : List ℕ) (r : Reader) → 128 ≤ r .range → From 1 s r → Valid s r
 stopped s r h f = record { placed = f .placed; inside = f .inside; least = h; most = f .most; few = f .few; small = f .small; even = f .even }
 
@@ -114,25 +147,23 @@ after-shift : (s : List ℕ) (r : Reader) → r .range < 128 → (r .shifts ≡ 
 after-shift s r l e f =
     record { placed = f .placed; inside = f .inside; least = omega arith; most = omega arith; few = omega arith; small = omega arith; even = even-shift (r .window) (r .shifts) (omega arith) (f .even) }
 
-after-load : (s : List ℕ) (r : Reader) (b : ℕ) → b < 256 → r .range < 128 → r .shifts ≡ 7 → r .at < length s → From 1 s r → From 1 s (loaded b r)
+after-load : (s : List ℕ) (r : Reader) (b : ℕ) → b < 256 → r .range < 128 → r .shifts ≡ 7 → r .at < length s + 2 → From 1 s r → From 1 s (loaded b r)
 after-load s r b y l e a f =
     let z : r .window % 128 ≡ 0 = rw e at (f .even) in
     record { placed = omega arith; inside = omega arith; least = omega arith; most = omega arith; few = omega arith; small = omega arith; even = omega arith }
 
-grow-valid : (n : ℕ) (s : List ℕ) (b : Bool) (r : Reader) → Bytes s → 128 ≤ r .range * 2 ^ n → From 1 s r → Next s (r .at) (grow n s b r)
-grow-valid zero s b r y h f =
+-- the place counts the shifts: n of them from here load at most one byte past the last two
+grow-valid : (n : ℕ) (s : List ℕ) (r : Reader) → Bytes s → 128 ≤ r .range * 2 ^ n → 8 * r .at + r .shifts + n < 8 * length s + 24 → From 1 s r → Valid s (grow n s r) × (r .at ≤ grow n s r .at)
+grow-valid zero s r y h d f =
     let g : 128 ≤ r .range = omega (arith, mul-one (r .range)) in
-    rw (grow-stop 0 s b r g) (stopped s r g f, omega arith)
-grow-valid (suc n) s b r y h f =
+    rw (grow-stop 0 s r g) (stopped s r g f, omega arith)
+grow-valid (suc n) s r y h d f =
     ⊎-elim
     (λ l. ⊎-elim
-    (λ e. ⊎-elim
-    (λ a. rw (grow-load n s b r l e a) (earlier s (r .at) (r .at + 1) (grow n s b (loaded (getD s (r .at) 0) r)) (omega arith) (grow-valid n s b (loaded (getD s (r .at) 0) r) y (rw twice h) (after-load s r _ (y (r .at)) l e a f))))
-    (λ a. rw (grow-missing n s b r l e a) tt)
-    (lt-or (r .at) (length s)))
-    (λ e. rw (grow-shift n s b r l e) (grow-valid n s b (shifted r) y (rw twice h) (after-shift s r l e f)))
+    (λ e. rw (grow-load n s r l e) (let q = grow-valid n s (loaded (getD s (r .at) 0) r) y (rw twice h) (omega arith) (after-load s r _ (y (r .at)) l e (omega arith) f) in (q .0, omega (arith, q .1))))
+    (λ e. rw (grow-shift n s r l e) (grow-valid n s (shifted r) y (rw twice h) (omega arith) (after-shift s r l e f)))
     (eq-or (r .shifts) 7))
-    (λ g. rw (grow-stop (suc n) s b r g) (stopped s r g f, omega arith))
+    (λ g. rw (grow-stop (suc n) s r g) (stopped s r g f, omega arith))
     (lt-or (r .range) 128)
 
 -- the reader after the split, for either bit
@@ -146,22 +177,31 @@ part-place : (r : Reader) (x : ℕ) (b : Bool) → partOf r x b .at ≡ r .at
 part-place r x true = refl
 part-place r x false = refl
 
+part-shifts : (r : Reader) (x : ℕ) (b : Bool) → partOf r x b .shifts ≡ r .shifts
+part-shifts r x true = refl
+part-shifts r x false = refl
+
 -- THE LAW of a symbol: a reader in range gives a reader in range, no earlier in s
 pub symbol-valid : (s : List ℕ) (r : Reader) (p : ℕ) → Bytes s → p < 256 → Valid s r → Next s (r .at) (symbolOf s r p)
-symbol-valid s r p y h f =
-    let x : ℕ = splitOf (r .range) p in
-    let i = split-is (r .range) p (omega arith) h in
-    let b : Bool = leb (256 * x) (r .window) in
-    let g = from-part s r x f (i .1) (i .2) b refl in
-    rw (symbol-is s r p x refl b refl) (rw (part-place r x b) at (grow-valid 7 s b (partOf r x b) y (enough (g .least)) g))
+symbol-valid s r p y h f = go (decidedOf s r) refl
   where
     enough : {x : ℕ} → 1 ≤ x → 128 ≤ x * 2 ^ 7
     enough l = omega arith
 
--- a partition's first reader is in range
-pub first-valid : (s : List ℕ) → Bytes s → 2 ≤ length s → Valid s (firstReader s)
-first-valid s y h =
-    record { placed = omega arith; inside = h; least = omega arith; most = omega arith; few = omega arith; small = omega (arith, y 0, y 1); even = omega arith }
+    go : (d : Bool) → decidedOf s r ≡ d → Next s (r .at) (symbolOf s r p)
+    go false d = rw (symbol-missing s r p d) tt
+    go true d =
+        let x : ℕ = splitOf (r .range) p in
+        let i = split-is (r .range) p (omega arith) h in
+        let b : Bool = leb (256 * x) (r .window) in
+        let g = from-part s r x f (i .1) (i .2) b refl in
+        rw (symbol-is s r p x d refl b refl)
+        (rw (part-place r x b) at (grow-valid 7 s (partOf r x b) y (enough (g .least)) (omega (arith, decided-fact s r d, part-place r x b, part-shifts r x b, f .placed)) g))
+
+-- THE LAW for callers of `open`: a partition's first reader is in range, however few its bytes
+pub first-valid : (s : List ℕ) → Bytes s → Valid s (firstReader s)
+first-valid s y =
+    record { placed = omega arith; inside = omega arith; least = omega arith; most = omega arith; few = omega arith; small = omega (arith, y 0, y 1); even = omega arith }
 
 -- ---- the test of a reader, and the answers
 module _ (s : List ℕ) (r : Reader) where
@@ -173,7 +213,7 @@ module _ (s : List ℕ) (r : Reader) where
   unfolding validOf
   valid-fact e =
       let e1 = both-right (leb 2 (r .at)) _ e in
-      let e2 = both-right (leb (r .at) (length s)) _ e1 in
+      let e2 = both-right (leb (r .at) (length s + 2)) _ e1 in
       let e3 = both-right (leb 128 (r .range)) _ e2 in
       let e4 = both-right (ltb (r .range) 256) _ e3 in
       let e5 = both-right (ltb (r .shifts) 8) _ e4 in
@@ -191,7 +231,7 @@ module _ (s : List ℕ) (r : Reader) where
   valid-not f = not-so (validOf s r) (λ e. f (valid-fact e))
 
   -- where all but the last hold, the last decides
-  pub valid-even : 2 ≤ r .at → r .at ≤ length s → 128 ≤ r .range → r .range < 256 → r .shifts < 8 → r .window < 65536 → eqb (r .window % 2 ^ r .shifts) 0 ≡ validOf s r
+  pub valid-even : 2 ≤ r .at → r .at ≤ length s + 2 → 128 ≤ r .range → r .range < 256 → r .shifts < 8 → r .window < 65536 → eqb (r .window % 2 ^ r .shifts) 0 ≡ validOf s r
   unfolding validOf
   valid-even a b c d e f = rw (le-leb _ _ a, le-leb _ _ b, le-leb _ _ c, lt-ltb _ _ d, lt-ltb _ _ e, lt-ltb _ _ f)
 
@@ -202,22 +242,3 @@ module _ (s : List ℕ) (r : Reader) where
   pub symbol-refused : (p : ℕ) → validOf s r ≡ false → S.Refused ≡ symbolAnswer s r p
   unfolding symbolAnswer
   symbol-refused p e = rw (e, symbolAnswer)
-
-pub open-good : (s : List ℕ) → 2 ≤ length s → O.Ready (firstReader s) ≡ openAnswer s
-unfolding openAnswer
-open-good s h = rw (le-leb _ _ h, openAnswer)
-
-pub open-refused : (s : List ℕ) → length s < 2 → O.Refused ≡ openAnswer s
-unfolding openAnswer
-open-refused s h = rw (lt-leb _ _ h, openAnswer)
-
--- THE LAW for callers of `open`: it answers a partition's first reader, and that is in range
-pub opened : (s : List ℕ) {r : Reader} → O.Ready r ≡ openAnswer s → (2 ≤ length s) × (r ≡ firstReader s)
-opened s {r} e =
-    ⊎-elim
-    (λ h. absurd (let f = open-refused s h in let z : _≡_ {A = ℕ} 0 1 = cc in omega arith))
-    (λ h. let f = open-good s h in (h, cc))
-    (lt-or (length s) 2)
-
-pub opened-valid : (s : List ℕ) {r : Reader} → Bytes s → O.Ready r ≡ openAnswer s → Valid s r
-opened-valid s y e = let o = opened s e in rw (o .1) (first-valid s y (o .0))

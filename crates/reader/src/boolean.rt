@@ -2,7 +2,8 @@
 ghost use mathlib.Core.Path.{_≡_};
 ghost use Prim.Native.Nat.{_<_, _≤_, _*_, _%_, _^_};
 ghost use lib.Dec.{eqb, leb};
-ghost use Rattle.reader.specs.Boolean.{splitOf, partOf, grow, symbolOf, toSymbol, validOf, symbolAnswer, openAnswer};
+ghost use lib.ListN.{length, getD};
+ghost use Rattle.reader.specs.Boolean.{given, splitOf, partOf, grow, decidedOf, symbolOf, toSymbol, validOf, symbolAnswer, firstReader};
 ghost use Rattle.reader.specs.BooleanLaws.{From, Valid};
 
 // The RFC's bool_decoder: `at` its input, `range`, `shifts` its bit_count, `window` its value.
@@ -13,13 +14,8 @@ pub struct Reader {
     pub window: u32,
 }
 
-// A reader at the start of a partition; Refused where it has under two bytes.
-pub enum Opened {
-    Ready(Reader),
-    Refused,
-}
-
-// The bit and the reader after it; Missing where the load found no byte; Refused where the reader is out of range.
+// The bit and the reader after it; Missing where one of the eight bits that decide it lies past the end; Refused where the reader is out
+// of range.
 pub enum Symbol {
     Got(bool, Reader),
     Missing,
@@ -48,53 +44,74 @@ fn doublings(range: u32) -> u32
     u32::leading_zeros(range) - 24
 }
 
-// x * 2^k, for a window with its new byte and at most eight shifts.
+// x * 2^k, for a range, a window or its new byte and fewer than eight shifts.
 fn times(x: u32, k: u32) -> u32
-    requires { ⌜ (x < 65792) × (k ≤ 8) ⌝ }
-    ensures { λ r. ⌜ r ≡ x * 2 ^ k ⌝ }
+    requires { ⌜ (x < 65536) × (k < 8) ⌝ }
+    ensures { λ r. ⌜ (r ≡ x * 2 ^ k) × (r < 8388608) ⌝ }
 {
     x << k
 }
 
+// The byte at a place; past the end it is zero.
+fn byte_at(s: &[u8], at: usize) -> u32
+    ensures { λ r. ⌜ (r ≡ getD (now (s .entry)) at 0) × (r < 256) ⌝ }
+{
+    if s.len() <= at {
+        return 0;
+    }
+    wide(s[at])
+}
+
+// Whether the eight bits that decide a symbol lie in s, for a reader whose place is past the end: only right after the first load that
+// found no byte, when they are the last byte's. Other readers are not asked: one test is all that is made at every symbol.
+fn decided(s: &[u8], r: Reader) -> bool
+    requires { ⌜ Valid (now s) r ⌝ }
+    requires { ⌜ length (now s) < r .at ⌝ }
+    ensures { λ b. ⌜ b ≡ decidedOf (now (s .entry)) r ⌝ }
+{
+    r.at - s.len() + r.shifts as usize == 1
+}
+
 // All the doublings at once, with at most one load. Where there are none, nothing is counted: that is every other symbol.
+// Both ways make the reader field by field, and the load leaves its three numbers beside it: so the compiler keeps it out of memory.
 fn grown(s: &[u8], bit: bool, r: Reader) -> Symbol
     requires { ⌜ From 1 (now s) r ⌝ }
-    ensures { λ q. ⌜ q ≡ toSymbol (grow 7 (now (s .entry)) bit r) ⌝ }
+    ensures { λ q. ⌜ q ≡ toSymbol (given bit (grow 7 (now (s .entry)) r)) ⌝ }
 {
     let at = r.at;
     let range = r.range;
     let shifts = r.shifts;
     let window = r.window;
     if 128 <= range {
-        return Symbol::Got(bit, r);
-    }
-    let k = doublings(range);
-    let wider = times(range, k);
-    let n = shifts + k;
-    if n < 8 {
-        let moved = times(window, k) % 65536;
         return Symbol::Got(
             bit,
             Reader {
                 at: at,
-                range: wider,
-                shifts: n,
-                window: moved,
+                range: range,
+                shifts: shifts,
+                window: window,
             },
         );
     }
-    if s.len() <= at {
-        return Symbol::Missing;
+    let k = doublings(range);
+    let wider = times(range, k);
+    let moved = times(window, k);
+    let n = shifts + k;
+    let mut place = at;
+    let mut left = n;
+    let mut full = moved;
+    if 8 <= n {
+        place = at + 1;
+        left = n - 8;
+        full = moved + times(byte_at(s, at), n - 8);
     }
-    let full = times(window, 8 - shifts) % 65536 + wide(s[at]);
-    let moved = times(full, n - 8) % 65536;
     Symbol::Got(
         bit,
         Reader {
-            at: at + 1,
+            at: place,
             range: wider,
-            shifts: n - 8,
-            window: moved,
+            shifts: left,
+            window: full % 65536,
         },
     )
 }
@@ -135,7 +152,7 @@ pub fn valid(s: &[u8], r: Reader) -> bool
     if r.at < 2 {
         return false;
     }
-    if s.len() < r.at {
+    if s.len() + 2 < r.at {
         return false;
     }
     if r.range < 128 {
@@ -153,20 +170,17 @@ pub fn valid(s: &[u8], r: Reader) -> bool
     whole(r.window, r.shifts)
 }
 
-// Opens a partition: two bytes in the window, range 255.
-pub fn open(s: &[u8]) -> Opened
-    ensures { λ r. ⌜ r ≡ openAnswer (now (s .entry)) ⌝ }
+// Opens a partition: two bytes in the window, zero past the end, and range 255.
+pub fn open(s: &[u8]) -> Reader
+    ensures { λ r. ⌜ r ≡ firstReader (now (s .entry)) ⌝ }
 {
-    if s.len() < 2 {
-        return Opened::Refused;
-    }
-    let window = wide(s[0]) * 256 + wide(s[1]);
-    Opened::Ready(Reader {
+    let window = byte_at(s, 0) * 256 + byte_at(s, 1);
+    Reader {
         at: 2,
         range: 255,
         shifts: 0,
         window: window,
-    })
+    }
 }
 
 impl Reader {
@@ -177,6 +191,11 @@ impl Reader {
     {
         let range = self.range;
         let window = self.window;
+        if s.len() < self.at {
+            if !decided(s, self) {
+                return Symbol::Missing;
+            }
+        }
         let x = split(range, prob);
         let bit = 256 * x <= window;
         grown(s, bit, part(self, x, bit))
@@ -189,6 +208,11 @@ impl Reader {
     {
         let range = self.range;
         let window = self.window;
+        if s.len() < self.at {
+            if !decided(s, self) {
+                return Symbol::Missing;
+            }
+        }
         let x = split(range, prob);
         if 256 * x <= window {
             return grown(s, true, part(self, x, true));

@@ -1,9 +1,12 @@
 // Runs the worked numbers of the scope through the code and prints them: those of crates/promises/specs/Worked.antt, which are
 // proved of the definitions, and those that are only run.
+use coefficients::tokens::Block;
+use coefficients::tokens::decode;
 use coefficients::transform::transform;
 use filter::filter;
 use numbers::Wrapped;
 use numbers::wrap16;
+use reader::boolean::open;
 
 fn magnitude(v: i32) -> u64 {
     if v < 0 {
@@ -64,6 +67,46 @@ fn edge(simple: bool, macroblock: bool, limit: u8) {
     io::write_all(1, b"\n");
 }
 
+// A block's kind: Y2, then sixteen of luma, then chroma.
+fn kind(i: usize) -> usize {
+    if i == 0 {
+        return 1;
+    }
+    if i < 17 {
+        return 0;
+    }
+    2
+}
+
+fn first(i: usize) -> usize {
+    if kind(i) == 0 { 1 } else { 0 }
+}
+
+// The blocks of a macroblock that a token partition holds where every probability is 128: the number of the one that is refused.
+fn held(s: &[u8]) -> usize {
+    let table = [128u8; 1056];
+    let mut out = [0; 16];
+    let mut r = open(s);
+    let mut i = 0;
+    while i < 25 {
+        let Block::Ended(_, next) = decode(s, r, &table, kind(i), 0, first(i), 1, 1, &mut out)
+        else {
+            return i;
+        };
+        r = next;
+        i = i + 1;
+    }
+    i
+}
+
+fn zeros(s: &[u8]) {
+    io::write_all(1, b"zeros ");
+    io::print_decimal(1, s.len() as u64);
+    io::write_all(1, b" block ");
+    io::print_decimal(1, held(s) as u64);
+    io::write_all(1, b"\n");
+}
+
 fn main() {
     dc(3, false);
     dc(4, false);
@@ -84,4 +127,9 @@ fn main() {
     edge(false, true, 25);
     edge(false, false, 25);
     edge(true, false, 25);
+    zeros(&[0; 0]);
+    zeros(&[0; 1]);
+    zeros(&[0; 2]);
+    zeros(&[0; 3]);
+    zeros(&[0; 4]);
 }

@@ -9,7 +9,6 @@ use macroblock::whole::decode;
 use modes::answers::Kinds;
 use modes::columns::Context;
 use modes::columns::read_column;
-use reader::boolean::Opened;
 use reader::boolean::Reader;
 use reader::boolean::open;
 use segments::frame::Frame;
@@ -202,14 +201,8 @@ fn one(
 fn opened(case: &[u8], s: &[u8], tokens: &[u8], h: &[i32], table: &[u8], frame: Frame)
     requires { ⌜ length (now case) ≡ 34 ⌝ }
 {
-    let Opened::Ready(r) = open(s) else {
-        io::write_all(1, b"5\n");
-        return;
-    };
-    let Opened::Ready(t) = open(tokens) else {
-        io::write_all(1, b"5\n");
-        return;
-    };
+    let r = open(s);
+    let t = open(tokens);
     one(case, s, r, tokens, t, h, table, frame);
 }
 

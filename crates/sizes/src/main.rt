@@ -3,7 +3,6 @@
 // the same 65536 zero bytes, and the header is 0 but for 128 in 38..1093.
 use picture::decode;
 use picture::rows::Decoded;
-use reader::boolean::Opened;
 use reader::boolean::open;
 ghost use mathlib.Core.Path.{_≡_};
 ghost use lib.ListN.{length};
@@ -80,9 +79,7 @@ fn answer(d: Decoded) {
 fn tile(width: usize, height: usize, count: usize) {
     let bytes = zeros();
     let h = header();
-    let Opened::Ready(r) = open(&bytes) else {
-        return;
-    };
+    let r = open(&bytes);
     let mut y = luma();
     let mut u = zeros();
     let mut v = zeros();

@@ -1,7 +1,6 @@
 // Runs the reader on a list of byte strings and prints what each gives: bits, or the leaf of a tree, or a number, and the reader
-// after it. `m` is a missing byte, 9 a refusal, 5 a partition too short to open. The list is standard input, 64 bytes a case
+// after it. `m` is a missing byte, 9 a refusal. The list is standard input, 64 bytes a case
 // (tools/symbols.py, which also made the expected lines, says how).
-use reader::boolean::Opened;
 use reader::boolean::Reader;
 use reader::boolean::Symbol;
 use reader::boolean::open;
@@ -155,10 +154,7 @@ fn run(case: &[u8])
         bits(s, given(case), probs);
         return;
     }
-    let Opened::Ready(r) = open(s) else {
-        io::write_all(1, b"5");
-        return;
-    };
+    let r = open(s);
     if kind == 0 {
         bits(s, r, probs);
     } else if kind == 1 {

@@ -1,6 +1,6 @@
 use mathlib.Core.Path.{sym, _∙_}
 use borrow.Author.Needs.{needs}
-use Rattle.picture.specs.PartitionsLaws.{reader-none, reader-opened, not-refused}
+use Rattle.picture.specs.PartitionsLaws.{reader-none, reader-opened}
 use Rattle.picture.proofs.partitions.opener.Statement.{statement}
 use Rattle.picture.proofs.partitions.opener.Tie as tie
 
@@ -28,20 +28,8 @@ part-requires c κs = c .before .before .pre .1 (c .if1 .left) .fits
 open-requires : tie.Need-open-requires
 open-requires c κs = search needs
 
-enum-known-r : tie.Need-enum-known-r
-enum-known-r c = search needs
-
-enum-told : tie.Need-enum-told
-enum-told c = search needs
-
-no-reader-requires-2 : tie.Need-no-reader-requires-2
-no-reader-requires-2 c κs = search needs
-
 returns-2 : tie.Need-returns-2
-returns-2 c = absurd (not-refused _ _ _ (c .before .before .before .before .before .before .before .pre .1 (c .before .before .before .before .before .if1 .left)) (c .before .before .before .before .part .ensures) (sym (c .before .enum-told .given .1) ∙ c .before .before .before .«open» .ensures))
-
-returns-3 : tie.Need-returns-3
-returns-3 c = reader-opened _ _ _ _ _ (c .before .before .before .before .before .if1 .left) (c .before .before .before .before .part .ensures) (sym (c .before .r .given .1) ∙ c .before .before .before .«open» .ensures)
+returns-2 c = reader-opened _ _ _ _ _ (c .before .before .if1 .left) (c .before .part .ensures) (c .«open» .ensures)
 
 pub opener-spec : {M : Type 1} → statement M
 opener-spec =
@@ -55,8 +43,4 @@ opener-spec =
     array-read-len
     part-requires
     open-requires
-    enum-known-r
-    enum-told
-    no-reader-requires-2
-    returns-2
-    returns-3)
+    returns-2)

@@ -12,6 +12,9 @@ use Rattle.reader.proofs.boolean.whole.Reads as whole-reads
 returns : tie.Need-returns
 returns c = valid-not _ _ (λ v. omega (arith, v .placed))
 
+add-if2 : tie.Need-add-if2
+add-if2 c = search needs
+
 -- src/boolean.rt:115:9
 returns-2 : tie.Need-returns-2
 returns-2 c = valid-not _ _ (λ v. omega (arith, v .inside))
@@ -43,4 +46,4 @@ returns-7 c = c .whole .ensures ∙ valid-even _ _ (omega arith) (omega arith) (
 pub valid-spec : {M : Type 1} → statement M
 valid-spec =
     tie.close
-    (tie.spec returns returns-2 returns-3 returns-4 returns-5 returns-6 whole-requires returns-7)
+    (tie.spec returns add-if2 returns-2 returns-3 returns-4 returns-5 returns-6 whole-requires returns-7)
