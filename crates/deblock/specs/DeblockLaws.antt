@@ -241,7 +241,7 @@ module _ (g : Edge) (at step : ℕ) (p : List ℕ) where
       kept-outermost = kept-outer g (acrossOf p at step) (across-bytes p at step b)
 
 -- ---- what holds of the edges of a square holds of the square, and so on
-not-zero : (k : ℕ) → not (eqb k 0) ≡ true → k ≡ 0 → ⊥
+pub not-zero : (k : ℕ) → not (eqb k 0) ≡ true → k ≡ 0 → ⊥
 not-zero k e = eqb-false k 0 (falsely (eqb k 0) e)
   where
     falsely : (b : Bool) → not b ≡ true → b ≡ false

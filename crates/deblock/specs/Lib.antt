@@ -4,3 +4,5 @@ pub mod DeblockLaws
 pub mod Located
 pub mod ChecksLaws
 pub mod LocalLaws
+pub mod Moves
+pub mod MovesLaws

@@ -1,0 +1,28 @@
+-- How far deblocking can move a sample once all its edges are done: the bounds that follow from the kernel's. MovesLaws.antt proves them.
+use Prim.Native.Nat.{ℕ, zero, suc, _+_, _-_, _*_, _/_}
+use mathlib.Core.Bool.{Bool, true, false}
+use lib.ListN.{getD}
+use Rattle.filter.specs.Moves.{farthest}
+
+-- d 0, d 1, .. d (n - 1) added up
+abbrev pub total : ℕ → (ℕ → ℕ) → ℕ
+total zero d = 0
+total (suc n) d = total n d + d n
+
+-- By an edge before place X of a line of samples, the sample at x: it is number x + 4 - X of the eight across. Farther before the edge that
+-- is 0, the number of p3, which never moves; behind q3 there is none.
+abbrev pub tap : (simple outer : Bool) (X x : ℕ) → ℕ
+tap simple outer X x = getD (farthest simple outer) (x + 4 - X) 0
+
+-- By all edges of macroblock c of the line, n samples wide: its first, and those in it, four apart.
+abbrev pub line : (simple : Bool) (n c x : ℕ) → ℕ
+line simple n c x = tap simple true (c * n) x + total (n / 4 - 1) (λ j. tap simple false (c * n + 4 * j + 4) x)
+
+-- By all edges of the line, the sample in place m of its macroblock: those of its own macroblock and of the next.
+unfoldable pub reachOf : (simple : Bool) (n m : ℕ) → ℕ
+reachOf simple n m = line simple n 0 m + line simple n 1 m
+
+-- The largest of these.
+abbrev pub most : (simple : Bool) → ℕ
+most true = 16
+most false = 27
