@@ -5,20 +5,20 @@ use mathlib.Core.List.{List, [], _∷_}
 use mathlib.Core.Bool.{Bool, true, false}
 use lib.Dec.{lit≤}
 use lib.ListN.{getD}
-use lib.IntN.{ℤ, pos, negsuc}
+use lib.IntN.{ℤ}
 use Rattle.reader.specs.declared.boolean.Reader.{Reader}
 use Rattle.reader.specs.declared.trees.Walked.{Walked}
 use Rattle.reader.specs.declared.trees.Walked.the-variants as W
 use Rattle.reader.specs.declared.trees.Branch.the-variants as B
 use Rattle.reader.specs.Boolean.{Given, given, missing}
 use Rattle.reader.specs.Reading.{symbol, run}
-use Rattle.reader.specs.Trees.{branchAt, walkOf}
+use Rattle.reader.specs.Trees.{node, leaf, branchAt, walkOf}
 use Rattle.reader.specs.BooleanLaws.{Bytes, Valid}
 use Rattle.reader.specs.ReadingLaws.{run-valid}
 use Rattle.reader.specs.TreesLaws.{chain-missing, chain-leaf, chain-node, walk-is, walk-on, walk-gave, reach-within}
 
 abbrev pub segmentTree : List ℤ
-segmentTree = pos 1 ∷ pos 2 ∷ pos 0 ∷ negsuc 0 ∷ negsuc 1 ∷ negsuc 2 ∷ []
+segmentTree = node 1 ∷ node 2 ∷ leaf 0 ∷ leaf 1 ∷ leaf 2 ∷ leaf 3 ∷ []
 
 -- one of two leaves, by the bit
 abbrev pub lastOf : ℕ → ℕ → Given Bool → Walked

@@ -4,32 +4,32 @@ use Prim.Native.Nat.{ℕ, zero, suc, _+_, _-_, _/_, _%_}
 use mathlib.Core.List.{List, [], _∷_}
 use mathlib.Core.Bool.{Bool, true, false, not}
 use lib.ListN.{getD, set, replicate}
-use lib.IntN.{ℤ, pos, negsuc}
+use lib.IntN.{ℤ}
 use lib.Dec.{ltb, eqb}
 use Rattle.reader.specs.Reading.{Reading, done, _>>=_, symbol}
 use Rattle.reader.specs.Header.{entry, presentOf, probabilityOf}
-use Rattle.reader.specs.Trees.{walk}
+use Rattle.reader.specs.Trees.{node, leaf, walk}
 use Rattle.modes.specs.declared.answers.Prefix.{Prefix}
 use Rattle.modes.specs.Table.{probabilities}
 
--- ---- the trees: node i is entries 2i and 2i + 1, positive a node, zero or less a mode
+-- ---- the trees: node i is entries 2i and 2i + 1, each a node or a leaf, which is a mode
 -- mb_segment_tree (section 10)
 abbrev pub segTree : List ℤ
-segTree = pos 1 ∷ pos 2 ∷ pos 0 ∷ negsuc 0 ∷ negsuc 1 ∷ negsuc 2 ∷ []
+segTree = node 1 ∷ node 2 ∷ leaf 0 ∷ leaf 1 ∷ leaf 2 ∷ leaf 3 ∷ []
 
 -- kf_ymode_tree below its root, which asks whether the modes are small (section 11.2): DC or V, H or TM
 abbrev pub yTree : List ℤ
-yTree = pos 1 ∷ pos 2 ∷ pos 0 ∷ negsuc 1 ∷ negsuc 2 ∷ negsuc 0 ∷ []
+yTree = node 1 ∷ node 2 ∷ leaf 0 ∷ leaf 2 ∷ leaf 3 ∷ leaf 1 ∷ []
 
 -- uv_mode_tree (section 11.4): DC, V, H or TM
 abbrev pub uvTree : List ℤ
-uvTree = pos 0 ∷ pos 1 ∷ negsuc 1 ∷ pos 2 ∷ negsuc 2 ∷ negsuc 0 ∷ []
+uvTree = leaf 0 ∷ node 1 ∷ leaf 2 ∷ node 2 ∷ leaf 3 ∷ leaf 1 ∷ []
 
 -- bmode_tree (section 11.2): DC, TM, VE; then HE, RD, VR or LD, VL, HD, HU
 abbrev pub bTree : List ℤ
 bTree =
-    pos 0 ∷ pos 1 ∷ negsuc 0 ∷ pos 2 ∷ negsuc 1 ∷ pos 3 ∷ pos 4 ∷ pos 6 ∷ negsuc 2 ∷ pos 5 ∷ negsuc 3 ∷ negsuc 4 ∷ negsuc 5 ∷ pos 7
-    ∷ negsuc 6 ∷ pos 8 ∷ negsuc 7 ∷ negsuc 8 ∷ []
+    leaf 0 ∷ node 1 ∷ leaf 1 ∷ node 2 ∷ leaf 2 ∷ node 3 ∷ node 4 ∷ node 6 ∷ leaf 3 ∷ node 5 ∷ leaf 4 ∷ leaf 5 ∷ leaf 6 ∷ node 7
+    ∷ leaf 7 ∷ node 8 ∷ leaf 8 ∷ leaf 9 ∷ []
 
 -- a tree read from its root, with a probability for each node
 abbrev pub tree : List ℕ → List ℤ → Reading ℕ

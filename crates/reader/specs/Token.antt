@@ -3,11 +3,11 @@ use Prim.Native.Nat.{ℕ, _+_}
 use mathlib.Core.Bool.{Bool, true, false, _&&_}
 use mathlib.Core.List.{List, [], _∷_}
 use lib.Dec.{leb}
-use lib.IntN.{ℤ, pos, negsuc}
+use lib.IntN.{ℤ}
 use lib.ListN.{length, take, drop}
 use Rattle.reader.specs.Boolean.{Given, given, missing, validOf, noReader}
 use Rattle.reader.specs.Reading.{Reading, run}
-use Rattle.reader.specs.Trees.{walk}
+use Rattle.reader.specs.Trees.{node, leaf, walk}
 use Rattle.reader.specs.declared.boolean.Reader.{Reader}
 use Rattle.reader.specs.declared.token.Token.{Token}
 use Rattle.reader.specs.declared.token.Token.the-variants as T
@@ -16,17 +16,17 @@ use Rattle.reader.specs.declared.token.Token.the-variants as T
 -- names a node, zero or less a token.
 abbrev pub tokenTree : List ℤ
 tokenTree =
-    pos 0 ∷ pos 1  -- node 0: the end
-    ∷ negsuc 0 ∷ pos 2  -- 1: a zero
-    ∷ negsuc 1 ∷ pos 3  -- 2: one
-    ∷ pos 4 ∷ pos 6  -- 3: at most four, or a category
-    ∷ negsuc 2 ∷ pos 5  -- 4: two
-    ∷ negsuc 3 ∷ negsuc 4  -- 5: three, four
-    ∷ pos 7 ∷ pos 8  -- 6: the first two categories, or a later one
-    ∷ negsuc 5 ∷ negsuc 6  -- 7: categories 1, 2
-    ∷ pos 9 ∷ pos 10  -- 8
-    ∷ negsuc 7 ∷ negsuc 8  -- 9: categories 3, 4
-    ∷ negsuc 9 ∷ negsuc 10  -- 10: categories 5, 6
+    leaf 0 ∷ node 1  -- node 0: the end
+    ∷ leaf 1 ∷ node 2  -- 1: a zero
+    ∷ leaf 2 ∷ node 3  -- 2: one
+    ∷ node 4 ∷ node 6  -- 3: at most four, or a category
+    ∷ leaf 3 ∷ node 5  -- 4: two
+    ∷ leaf 4 ∷ leaf 5  -- 5: three, four
+    ∷ node 7 ∷ node 8  -- 6: the first two categories, or a later one
+    ∷ leaf 6 ∷ leaf 7  -- 7: categories 1, 2
+    ∷ node 9 ∷ node 10  -- 8
+    ∷ leaf 8 ∷ leaf 9  -- 9: categories 3, 4
+    ∷ leaf 10 ∷ leaf 11  -- 10: categories 5, 6
     ∷ []
 
 -- a block never ends after a zero: there the walk starts at node 1

@@ -17,6 +17,14 @@ use Rattle.reader.specs.Boolean.{Given, given, missing, validOf, noReade
 use Rattle.reader.specs.Reading.{Reading, done, ask, _>>=_, symbol, run}
 
 -- an entry: positive names a node, zero or less a leaf
+abbrev pub node : ℕ → ℤ
+node n = pos n
+
+abbrev pub leaf : ℕ → ℤ
+leaf zero = pos 0
+leaf (suc n) = negsuc n
+
+-- which of the two it is
 abbrev pub branchOf : ℤ → Branch
 branchOf (pos zero) = B.Leaf 0
 branchOf (pos (suc n)) = B.Node (suc n)
