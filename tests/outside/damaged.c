@@ -457,9 +457,10 @@ static void fill(uint8_t *p, size_t n) {
     }
 }
 
-/* Token partition p shares no byte with another that is read. */
+/* Token partition p has bytes and shares none with another that is read. */
 static int alone(const struct call *c, size_t p) {
     size_t a = c->starts[p], b = a + c->lengths[p];
+    if (a == b) return 0;
     if (c->first_start < b && a < c->first_start + c->first_length) return 0;
     for (size_t i = 0; i < c->count; i++)
         if (i != p && c->starts[i] < b && a < c->starts[i] + c->lengths[i]) return 0;
@@ -511,7 +512,7 @@ static void all_apart(struct result *r, struct result *spare, struct result *ful
         if (refusal(c)) continue;
         run(c, 1, 0xA5, full);
         for (size_t p = 0; c->count > 1 && p < c->count; p++)
-            for (int i = 0; i < 8; i++, pairs++) {
+            for (int i = 0; c->lengths[p] && i < 8; i++, pairs++) {
                 snprintf(where, sizeof where, "apart, tile %04zu, partition %zu, change %d", t, p, i);
                 apart(c, p, full, r, spare);
             }
