@@ -36,7 +36,7 @@ pub record Refused (t : Tile) (m : Memory) : Type 0 where
   pub three : number t m ≡ 3 → Sides (t .width) (t .height) × Counted (t .count) × (Bounded (t .header) → ⊥)
   -- 4: and that; a lent length or the header's is wrong
   pub four : number t m ≡ 4 → Sides (t .width) (t .height) × Counted (t .count) × Bounded (t .header) × (Sized t (sizesOf m) → ⊥)
-  -- 5: and that; a partition is outside the bytes or under 2 bytes, or the starting reader is out of range
+  -- 5: and that; a partition is outside the bytes, or the starting reader is out of range
   pub five : number t m ≡ 5 → Sides (t .width) (t .height) × Counted (t .count) × Bounded (t .header) × Sized t (sizesOf m) × (Cut t → ⊥)
 
 -- THE PROMISE: a refused argument changes nothing
