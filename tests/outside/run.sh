@@ -2,7 +2,7 @@
 # The tests from outside, through the archive: tests/outside/run.sh [ARCHIVE]. Builds the archive where it is not there
 # (`rt staticlib hookbarley`), installs what is missing (Debian packages, as root), runs on x86-64 and, by emulation, on Arm:
 # the C example on the case files, damaged inputs between guard pages, faults that these must find, the WebP calls, the Rust wrapper's
-# tests.
+# tests; and a look at the machine code of the transform's products.
 # Settings: N (damaged inputs, 20000), SEED (of these; else drawn from the clock and printed).
 set -u
 cd "$(dirname "$0")/../.." || exit 1
@@ -156,6 +156,14 @@ if tests/outside/rust.sh "$ARCHIVE" >$out/rust.log 2>&1; then
 else
     tail -n 20 $out/rust.log
     bad rust "see $out/rust.log"
+fi
+
+# 6. The machine code of the transform's products.
+if line=$(tests/outside/products.sh "$ARCHIVE" 2>$out/products.log); then
+    say products "$line"
+else
+    tail -n 5 $out/products.log
+    bad products "see $out/products.log"
 fi
 
 if [ $failed -eq 0 ]; then echo "outside: passed, seed $SEED"; else echo "outside: FAILED, seed $SEED"; fi

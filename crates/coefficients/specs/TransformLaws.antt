@@ -1,16 +1,18 @@
 -- What callers cite of the inverse transforms.
-use mathlib.Core.Path.{_≡_, refl, sym}
+use mathlib.Core.Path.{_≡_, refl, sym, ap, ap₂, _∙_}
 use mathlib.Core.Bool.{Bool, true, false, _&&_}
 use mathlib.Core.List.{List, [], _∷_}
 use mathlib.Core.Logic.{inl, inr}
 use Prim.Native.Nat.{ℕ, zero, suc, _+_, _*_, _/_, _%_, _<_}
 use native.Mathlib.Omega.{arith}
+use native.Mathlib.Nat.{div-add-mod, add-mul, mul-assoc}
 use lib.Dec.{T, ltb, lit<}
-use lib.IntN.{ℤ, pos, negsuc, _+ℤ_, +ℤ-idr}
+use lib.IntN.{ℤ, pos, negsuc, _+ℤ_, _*ℤ_, +ℤ-idr}
 use lib.ListN.{length, replicate}
-use lib.Signed.{leZ}
+use lib.Signed.{_≤ℤ_, leZ, shrZ, quotZ, remZ}
 use Rattle.numbers.specs.In.{In, Each, Each2}
-use Rattle.numbers.specs.Parts.{le-true, true-le}
+use Rattle.numbers.specs.Parts.{up, dn, of-le, le-true, true-le, add-parts, up-times, dn-times, shr-parts}
+use Rattle.numbers.specs.Floor.{floor-is}
 use Rattle.numbers.specs.Bounds.{each-[], each-∷, each2-[], each2-∷}
 use Rattle.numbers.specs.Lists.{build, build-listed, length-build, getD-build, getD-build-past, getD-constant, _∷≡_}
 use Rattle.numbers.specs.Tables.{allBelow, all-below}
@@ -19,6 +21,29 @@ use Rattle.numbers.specs.WrapLaws.{wrap-in}
 use Rattle.coefficients.specs.declared.transform.Transformed.{Transformed}
 use Rattle.coefficients.specs.Transform.{Grid, at, cell, four, rowOf, gridOf, transposeOf, scaledOf, passOf, rowsOf, verticalOf, biasOf, horizontalOf, resultOf, resultsOf, samplesOf, fits16, goodOf, transformOf}
 use Rattle.coefficients.specs.TransformBounds.{numeral-in, vertical-in, horizontal-in, result-in}
+
+-- ---- the scaled product
+-- a multiplier taken apart into fours and a rest: a quarter of the rest's product, rounded down, is all that the quotient needs of it
+pub scaled-apart : (k x : ℤ) → pos 0 ≤ℤ k → shrZ (quotZ k (pos 4) *ℤ x +ℤ shrZ (remZ k (pos 4) *ℤ x) 4) 16384 ≡ scaledOf k x
+unfolding scaledOf
+scaled-apart (negsuc n) x h = absurd (h .le)
+scaled-apart (pos n) x h =
+    let fours = pos (n / 4) *ℤ x in
+    let rest = pos (n % 4) *ℤ x in
+    let low = shrZ rest 4 in
+    let q = shrZ (fours +ℤ low) 16384 in
+    let a = shr-parts 4 rest (lit< tt) in
+    let b = shr-parts 16384 (fours +ℤ low) (lit< tt) in
+    let s = add-parts fours low in
+    let m = add-parts (pos 65536 *ℤ q) (pos 65535) in
+    let i : up (pos n *ℤ x) ≡ 4 * up fours + up rest = up-times n x ∙ whole (up x) ∙ ap₂ (λ (y z : ℕ). 4 * y + z) (sym (up-times (n / 4) x)) (sym (up-times (n % 4) x)) in
+    let j : dn (pos n *ℤ x) ≡ 4 * dn fours + dn rest = dn-times n x ∙ whole (dn x) ∙ ap₂ (λ (y z : ℕ). 4 * y + z) (sym (dn-times (n / 4) x)) (sym (dn-times (n % 4) x)) in
+    let u = up-times 65536 q in
+    let d = dn-times 65536 q in
+    sym (floor-is 65536 {z = pos n *ℤ x} {q = q} (lit< tt) (record { low = of-le (omega arith); high = of-le (omega arith) }))
+  where
+    whole : (y : ℕ) → n * y ≡ 4 * (n / 4 * y) + n % 4 * y
+    whole y = ap (λ (z : ℕ). z * y) (sym (div-add-mod n 4)) ∙ add-mul (4 * (n / 4)) (n % 4) y ∙ ap (λ (z : ℕ). z + n % 4 * y) (mul-assoc 4 (n / 4) y)
 
 -- ---- the grid
 pub below-four : (P : ℕ → Type 0) → P 0 → P 1 → P 2 → P 3 → (k : ℕ) → k < 4 → P k

@@ -7,7 +7,7 @@ ghost use lib.IntN.{ℤ, pos, negsuc, _+ℤ_};
 ghost use lib.ListN.{replicate};
 ghost use Rattle.numbers.specs.In.{In, Each, Each2};
 ghost use Rattle.numbers.specs.Wrap.{wrapZ};
-ghost use Rattle.coefficients.specs.Transform.{scaledOf, lineOf, rowsOf, transposeOf, gridOf, columnOf, rowOf, verticalOf, biasOf, horizontalOf, resultOf, resultsOf, samplesOf, goodOf, transformOf};
+ghost use Rattle.coefficients.specs.Transform.{scaledOf, lineOf, transposeOf, gridOf, columnOf, rowOf, verticalOf, biasOf, horizontalOf, resultOf, resultsOf, samplesOf, goodOf, transformOf};
 ghost use Rattle.coefficients.specs.TransformLaws.{Coefficients, PlainTo};
 
 type Grid = [[i32; 4]; 4];
@@ -24,13 +24,14 @@ struct Seen {
     plain: bool,
 }
 
-// k / 65536 of x, rounded down. Every product of the transforms is worked out here, and nothing else of theirs needs 64 bits.
+// k / 65536 of x, rounded down. Every product of the transforms is worked out here, and none leaves 32 bits: k is taken apart into fours
+// and a rest, and a quarter of the rest's product, rounded down, goes to the other (`scaled-apart`). With 35468 there is no rest.
 fn scaled(x: i32, k: i32) -> i32
     requires { ⌜ In (negsuc 199999) (pos 200000) x ⌝ }
-    requires { ⌜ In (pos 0) (pos 65535) k ⌝ }
+    requires { ⌜ In (pos 0) (pos 40000) k ⌝ }
     ensures { λ r. ⌜ r ≡ scaledOf k x ⌝ }
 {
-    ((k as i64 * x as i64) >> 16) as i32
+    (k / 4 * x + ((k % 4 * x) >> 2)) >> 14
 }
 
 // A line of four through the inverse DCT, with the RFC's names.
@@ -67,26 +68,16 @@ fn walsh_line(r: [i32; 4], bias: i32) -> [i32; 4]
     [a1 + b1, d1 + c1, a1 - b1, d1 - c1]
 }
 
-// Each row through the transform that the flag names.
-fn pass(g: Grid, bias: i32, walsh: bool) -> Grid
-    requires { ⌜ Each2 (negsuc 199999) (pos 200000) g ⌝ }
+// A line of four through the transform that the flag names.
+fn line(r: [i32; 4], bias: i32, walsh: bool) -> [i32; 4]
+    requires { ⌜ Each (negsuc 199999) (pos 200000) r ⌝ }
     requires { ⌜ In (pos 0) (pos 4) bias ⌝ }
-    ensures { λ r. ⌜ r ≡ rowsOf walsh bias g ⌝ }
+    ensures { λ q. ⌜ q ≡ lineOf walsh bias r ⌝ }
 {
     if walsh {
-        [
-            walsh_line(g[0], bias),
-            walsh_line(g[1], bias),
-            walsh_line(g[2], bias),
-            walsh_line(g[3], bias),
-        ]
+        walsh_line(r, bias)
     } else {
-        [
-            dct_line(g[0], bias),
-            dct_line(g[1], bias),
-            dct_line(g[2], bias),
-            dct_line(g[3], bias),
-        ]
+        dct_line(r, bias)
     }
 }
 
@@ -120,15 +111,12 @@ fn grid(c: &[i32; 16]) -> Grid
     [row(c, 0), row(c, 4), row(c, 8), row(c, 12)]
 }
 
-// v in 16 bits. The bounds keep `wrap16` from refusing it.
+// v in 16 bits, as `wrap16` does it, in 32 bits throughout.
 fn wrapped(v: i32) -> i32
     requires { ⌜ In (negsuc 999999) (pos 1000000) v ⌝ }
     ensures { λ r. ⌜ r ≡ wrapZ v ⌝ }
 {
-    let numbers::Wrapped::Value(z) = numbers::wrap16(v as i64) else {
-        return 0;
-    };
-    z
+    v - 65536 * ((v + 32768) >> 16)
 }
 
 // A result: an eighth of what the passes leave, rounded down; a Walsh result in 16 bits.
@@ -160,12 +148,19 @@ fn bias(walsh: bool) -> i32
     if walsh { 3 } else { 4 }
 }
 
-// The first pass, over the columns.
+// The first pass, over the columns. The four lines stand here and in `horizontal` once more: a function for them, called twice, would be
+// more than the compiler draws into the transform.
 fn vertical(g: Grid, walsh: bool) -> Grid
     requires { ⌜ Each2 (negsuc 32767) (pos 32767) g ⌝ }
     ensures { λ r. ⌜ r ≡ verticalOf walsh g ⌝ }
 {
-    transpose(pass(transpose(g), 0, walsh))
+    let t = transpose(g);
+    transpose([
+        line(t[0], 0, walsh),
+        line(t[1], 0, walsh),
+        line(t[2], 0, walsh),
+        line(t[3], 0, walsh),
+    ])
 }
 
 // The second pass, over the rows.
@@ -173,7 +168,13 @@ fn horizontal(g: Grid, walsh: bool) -> Grid
     requires { ⌜ Each2 (negsuc 199999) (pos 200000) g ⌝ }
     ensures { λ r. ⌜ r ≡ horizontalOf walsh g ⌝ }
 {
-    pass(g, bias(walsh), walsh)
+    let b = bias(walsh);
+    [
+        line(g[0], b, walsh),
+        line(g[1], b, walsh),
+        line(g[2], b, walsh),
+        line(g[3], b, walsh),
+    ]
 }
 
 // The results where every coefficient but the first is 0: one number in all sixteen places.

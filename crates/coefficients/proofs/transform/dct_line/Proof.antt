@@ -54,7 +54,7 @@ abbrev d1 : E
 d1 = v 7 ⊕ v 1 ⊕ v 8
 
 -- what `scaled` requires
-ask : (p : tie.After-d) (i : ℕ) {k : ℤ} → In (pos 0) (pos 65535) k → In (negsuc 199999) (pos 200000) (round w32 (line p i .z)) × In (pos 0) (pos 65535) k
+ask : (p : tie.After-d) (i : ℕ) {k : ℤ} → In (pos 0) (pos 40000) k → In (negsuc 199999) (pos 200000) (round w32 (line p i .z)) × In (pos 0) (pos 40000) k
 ask p i h = (passed w32 (at p i) tt tt, h)
 
 returns : tie.Need-returns

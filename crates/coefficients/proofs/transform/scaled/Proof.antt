@@ -1,23 +1,31 @@
--- `scaled` meets its contract: the product fits 64 bits, and its part in 65536 fits 32.
+-- `scaled` meets its contract: each product and the sum fit 32 bits, and taken together they are the part in 65536.
 use mathlib.Core.List.{List, [], _∷_}
-use mir.Syntax.{w32, w64}
-use Rattle.numbers.specs.Know.{fit, rounded}
-use Rattle.numbers.specs.Eval.{Var, v, _⊗_, shr, fits, know}
+use mathlib.Core.Path.{_∙_}
+use mir.Syntax.{w32}
+use Rattle.numbers.specs.Eval.{E, Var, v, _⊕_, _⊗_, shr, quot, rem, fits, is}
 use Rattle.numbers.specs.Hand.{known, there}
-use Rattle.coefficients.specs.Transform.{scaledOf}
+use Rattle.coefficients.specs.TransformLaws.{scaled-apart}
 use Rattle.coefficients.proofs.transform.scaled.Statement.{statement}
 use Rattle.coefficients.proofs.transform.scaled.Tie as tie
 
--- x and k, cast to 64 bits
+-- x and k
 abbrev ρ : tie.Start → List Var
-ρ c = known (rounded w64 (there w32 (c .pre .0) tt) tt) ∷ known (rounded w64 (there w32 (c .pre .1) tt) tt) ∷ []
+ρ c = known (there w32 (c .pre .0) tt) ∷ known (there w32 (c .pre .1) tt) ∷ []
+
+abbrev fours : E
+fours = quot (v 1) 4 ⊗ v 0
+
+abbrev rest : E
+rest = rem (v 1) 4 ⊗ v 0
+
+abbrev sum : E
+sum = fours ⊕ shr rest 2
 
 returns : tie.Need-returns
-unfolding scaledOf
-returns c = rounded w32 (know w64 (ρ c) (shr (v 1 ⊗ v 0) 16) tt) tt .eq
+returns c = is w32 (ρ c) (shr sum 14) tt ∙ scaled-apart _ _ (c .pre .1 .low)
 
 pub scaled-spec : {M : Type 1} → statement M
 scaled-spec =
     tie.close
-    (tie.spec (λ c. fit (there w32 (c .pre .1) tt) tt) (λ c. fit (there w32 (c .pre .0) tt) tt) (λ c. fits w64 (ρ c) (v 1 ⊗ v 0) tt)
-    (λ c. fit (know w64 (ρ c) (shr (v 1 ⊗ v 0) 16) tt) tt) returns)
+    (tie.spec (λ c. fits w32 (ρ c) (quot (v 1) 4) tt) (λ c. fits w32 (ρ c) fours tt) (λ c. fits w32 (ρ c) (rem (v 1) 4) tt) (λ c. fits w32 (ρ c) rest tt)
+    (λ c. fits w32 (ρ c) sum tt) returns)
