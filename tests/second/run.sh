@@ -18,7 +18,8 @@ $X86CC -std=gnu11 -O2 -Wall -Wextra -Iinclude -o $out/frame tests/second/frame.c
 echo "archive $ARCHIVE, $count pictures, seed $seed"
 python3 tests/second/images.py "$seed" "$count" $out >$out/list || exit 1
 RANDOM=$((seed % 32768))
-pick() { echo $(($1 + RANDOM % ($2 - $1 + 1))); }
+# pick NAME LOW HIGH: draws a number into the variable NAME. Not in a subshell: there bash seeds RANDOM anew, and the seed would not hold.
+pick() { printf -v "$1" %d $(($2 + RANDOM % ($3 - $2 + 1))); }
 files=0
 frames=0
 failed=0
@@ -36,12 +37,15 @@ compare() {
     cat $out/ours.log >>$out/all.log
 }
 while read -r name w h; do
-    cwebp -quiet -q "$(pick 0 100)" -m "$(pick 0 6)" -segments "$(pick 1 4)" -partition_limit "$(pick 0 100)" -sns "$(pick 0 100)" \
-        -f "$(pick 0 100)" -sharpness "$(pick 0 7)" -pass "$(pick 1 3)" "$(pick 0 1 | sed 's/0/-strong/; s/1/-nostrong/')" $out/$name.ppm -o $out/$name.webp || { failed=1; continue; }
+    pick quality 0 100; pick method 0 6; pick segments 1 4; pick limit 0 100; pick sns 0 100; pick strength 0 100; pick sharp 0 7; pick passes 1 3; pick weak 0 1
+    pick profile 0 3; pick parts 0 3; pick lo 0 50; pick span 8 13; pick vsharp 0 7; pick cpu 0 5; pick static 0 1000
+    kind=-strong
+    [ $weak -eq 0 ] || kind=-nostrong
+    cwebp -quiet -q $quality -m $method -segments $segments -partition_limit $limit -sns $sns -f $strength -sharpness $sharp -pass $passes $kind \
+        $out/$name.ppm -o $out/$name.webp || { failed=1; continue; }
     compare $out/$name.webp
-    lo=$(pick 0 50)
-    vpxenc --codec=vp8 --i420 -w "$w" -h "$h" --ivf --quiet --kf-min-dist=0 --kf-max-dist=0 --profile="$(pick 0 3)" --token-parts="$(pick 0 3)" --min-q="$lo" \
-        --max-q=$((lo + $(pick 8 13))) --sharpness="$(pick 0 7)" --cpu-used="$(pick 0 5)" --static-thresh="$(pick 0 1000)" -o $out/$name.ivf $out/$name.i420 </dev/null 2>$out/vpxenc.log || { cat $out/vpxenc.log; failed=1; continue; }
+    vpxenc --codec=vp8 --i420 -w "$w" -h "$h" --ivf --quiet --kf-min-dist=0 --kf-max-dist=0 --profile=$profile --token-parts=$parts --min-q=$lo --max-q=$((lo + span)) \
+        --sharpness=$vsharp --cpu-used=$cpu --static-thresh=$static -o $out/$name.ivf $out/$name.i420 </dev/null 2>$out/vpxenc.log || { cat $out/vpxenc.log; failed=1; continue; }
     compare $out/$name.ivf
 done <$out/list
 echo "partitions: $(grep -o 'partitions [0-9]' $out/all.log | sort | uniq -c | awk '{printf "%s of %s, ", $1, $3}' | sed 's/, $//'); with segments: $(grep -c 'segments 1' $out/all.log); filtered: $(grep -c 'level [1-9]' $out/all.log), simple $(grep -c 'level [1-9].*simple 1' $out/all.log)"
