@@ -24,7 +24,7 @@ enum hookbarley_number {
     HOOKBARLEY_PARTITION = 5, /* a partition is outside the bytes; the starting reader is out of range */
     HOOKBARLEY_NO_MODES = 6,  /* the first partition ran out in macroblock *finished */
     HOOKBARLEY_NO_TOKENS = 7, /* a token partition ran out in macroblock *finished */
-    HOOKBARLEY_ARGUMENT = 9,  /* not eight starts, not eight lengths; of hookbarley_filter: not eight samples */
+    HOOKBARLEY_ARGUMENT = 9,  /* not eight starts, not eight lengths; of hookbarley_filter and _explain: not eight samples */
     HOOKBARLEY_LIMIT = 11     /* of hookbarley_deblock: a strength record's limit is above 189 */
 };
 
@@ -101,6 +101,35 @@ uint32_t hookbarley_deblock(uint8_t *y, size_t y_len,
  * changed where there are not eight samples. */
 uint32_t hookbarley_filter(uint8_t *samples, size_t samples_len, uint8_t simple, uint8_t edge,
                            uint8_t limit, uint8_t inner, uint8_t threshold);
+
+/* Which rule acted on eight samples (hookbarley_explain). A pair that is not smooth leaves the samples as an edge test that failed does. */
+enum hookbarley_rule {
+    HOOKBARLEY_EDGE_FAILED = 1,     /* the edge test failed: the step across the edge is too large to be the coder's doing */
+    HOOKBARLEY_ROUGH = 2,           /* two neighbours on one side lie further apart than `inner`; *pair says which */
+    HOOKBARLEY_SIMPLE = 3,          /* the simple filter: p0 and q0 move */
+    HOOKBARLEY_HIGH_VARIANCE = 4,   /* high edge variance: p0 and q0 move */
+    HOOKBARLEY_MACROBLOCK_EDGE = 5, /* a macroblock's edge: three samples on each side move */
+    HOOKBARLEY_INNER_EDGE = 6       /* an inner edge: two samples on each side move */
+};
+
+/* The first pair that is not smooth, in the order in which they are tried; 0 where the rule names none. */
+enum hookbarley_pair {
+    HOOKBARLEY_P3_P2 = 1,
+    HOOKBARLEY_P2_P1 = 2,
+    HOOKBARLEY_P1_P0 = 3,
+    HOOKBARLEY_Q3_Q2 = 4,
+    HOOKBARLEY_Q2_Q1 = 5,
+    HOOKBARLEY_Q1_Q0 = 6
+};
+
+/* Why did a sample move? What hookbarley_filter does to the same samples with the same arguments, and by which rule. The samples are only
+ * read; after[k] is what samples[k] becomes, and steps[k] what the rule added to it (-127..127) before the sum was clipped to 0..255:
+ * after[k] = clip(samples[k] + steps[k]). A step is 0 where the rule leaves the sample. *rule and *pair are as above. 0; or 9, both 0 and
+ * `after` and `steps` unchanged, where samples, after or steps are not eight. */
+uint32_t hookbarley_explain(const uint8_t *samples, size_t samples_len, uint8_t simple, uint8_t edge,
+                            uint8_t limit, uint8_t inner, uint8_t threshold,
+                            uint8_t *after, size_t after_len, int32_t *steps, size_t steps_len,
+                            uint32_t *rule, uint32_t *pair);
 
 /* What the WebP calls return besides HOOKBARLEY_WHOLE. */
 enum hookbarley_webp_number {

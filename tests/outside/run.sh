@@ -1,8 +1,8 @@
 #!/usr/bin/env bash
 # The tests from outside, through the archive: tests/outside/run.sh [ARCHIVE]. Builds the archive where it is not there
 # (`rt staticlib hookbarley`), installs what is missing (Debian packages, as root), runs on x86-64 and, by emulation, on Arm:
-# the C example on the case files, damaged inputs between guard pages, faults that these must find, the WebP calls, the Rust wrapper's
-# tests; and a look at the machine code of the transform's products.
+# the C example on the case files, damaged inputs between guard pages, faults that these must find, the WebP calls, explanations, the Rust
+# wrapper's tests; and a look at the machine code of the transform's products.
 # Settings: N (damaged inputs, 20000), SEED (of these; else drawn from the clock and printed).
 set -u
 cd "$(dirname "$0")/../.." || exit 1
@@ -150,7 +150,30 @@ for fault in 0 1 2 3 4 5 6 7 8 9 10 11 12 13 14; do
 done
 say webp "$found of 14 faults found"
 
-# 5. The Rust wrapper.
+# 5. Explanations between guard pages; the faults that the test must find.
+if build explain tests/outside/explain.c && $X86RUN $out/explain "$N" "$SEED" >$out/explain.log 2>&1; then
+    sed 's/^/           /' $out/explain.log
+    say explain "$(tail -n 1 $out/explain.log)"
+else
+    tail -n 5 $out/explain.log
+    bad explain "N $N, seed $SEED"
+fi
+found=0
+for fault in 0 1 2 3 4 5 6 7 8 9 10; do
+    build explain-mutant -DFAULT=$fault -Wl,--wrap=hookbarley_explain tests/outside/explain.c tests/outside/explain_mutants.c || { bad explain "fault $fault does not build"; continue; }
+    $X86RUN $out/explain-mutant 2000 1 >$out/explain-mutant-$fault.log 2>&1
+    status=$?
+    if [ $fault -eq 0 ]; then
+        [ $status -eq 0 ] || bad explain "the call without a fault fails"
+    elif [ $status -eq 1 ] && grep -q '^FAILED at' $out/explain-mutant-$fault.log; then
+        found=$((found + 1))
+    else
+        bad explain "fault $fault was not found (status $status)"
+    fi
+done
+say explain "$found of 10 faults found"
+
+# 6. The Rust wrapper.
 if tests/outside/rust.sh "$ARCHIVE" >$out/rust.log 2>&1; then
     say rust "$(grep '^test result' $out/rust.log | awk '{s += $4} END {print s " tests passed"}')"
 else
@@ -158,7 +181,7 @@ else
     bad rust "see $out/rust.log"
 fi
 
-# 6. The machine code of the transform's products.
+# 7. The machine code of the transform's products.
 if line=$(tests/outside/products.sh "$ARCHIVE" 2>$out/products.log); then
     say products "$line"
 else

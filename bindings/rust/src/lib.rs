@@ -27,6 +27,13 @@ extern "C" {
         width: usize, height: usize, simple: u32,
     ) -> u32;
     fn hookbarley_filter(samples: *mut u8, samples_len: usize, simple: u8, edge: u8, limit: u8, inner: u8, threshold: u8) -> u32;
+    fn hookbarley_explain(
+        samples: *const u8, samples_len: usize,
+        simple: u8, edge: u8, limit: u8, inner: u8, threshold: u8,
+        after: *mut u8, after_len: usize,
+        steps: *mut i32, steps_len: usize,
+        rule: *mut u32, pair: *mut u32,
+    ) -> u32;
     fn hookbarley_webp_find(bytes: *const u8, length: usize, start: *mut usize, frame_length: *mut usize) -> u32;
     fn hookbarley_webp_wrap(frame: *const u8, frame_length: usize, out: *mut u8, room: usize, written: *mut usize) -> u32;
 }
@@ -164,6 +171,69 @@ pub fn deblock(mem: &mut Memory, width: usize, height: usize, simple: bool) -> D
 pub fn filter(samples: &mut [u8; 8], simple: bool, edge: bool, limit: u8, inner: u8, threshold: u8) {
     // Safe: eight samples.
     unsafe { hookbarley_filter(samples.as_mut_ptr(), 8, simple as u8, edge as u8, limit, inner, threshold) };
+}
+
+/// Two neighbours on one side of an edge, in the order in which the filter tries them.
+#[derive(Clone, Copy, Debug, PartialEq, Eq)]
+pub enum Pair {
+    P3P2,
+    P2P1,
+    P1P0,
+    Q3Q2,
+    Q2Q1,
+    Q1Q0,
+}
+
+/// Which rule acted on eight samples, and why.
+#[derive(Clone, Copy, Debug, PartialEq, Eq)]
+pub enum Rule {
+    /// The edge test failed: the step across the edge is too large. Nothing moves.
+    EdgeFailed,
+    /// This pair is the first that is not smooth. Nothing moves.
+    Rough(Pair),
+    /// The simple filter: p0 and q0 move.
+    Simple,
+    /// High edge variance: p0 and q0 move.
+    HighVariance,
+    /// A macroblock's edge: three samples on each side move.
+    MacroblockEdge,
+    /// An inner edge: two samples on each side move.
+    InnerEdge,
+}
+
+/// Why eight samples became what they are: `after[k]` is `before[k] + steps[k]`, clipped to a byte.
+#[derive(Clone, Copy, Debug, PartialEq, Eq)]
+pub struct Explanation {
+    pub rule: Rule,
+    pub before: [u8; 8],
+    pub after: [u8; 8],
+    pub steps: [i32; 8],
+}
+
+/// What `filter` does to the same samples with the same arguments, and by which rule.
+pub fn explain(samples: &[u8; 8], simple: bool, edge: bool, limit: u8, inner: u8, threshold: u8) -> Explanation {
+    let (mut after, mut steps, mut rule, mut pair) = ([0u8; 8], [0i32; 8], 0u32, 0u32);
+    // Safe: eight of each, and two numbers that nothing else refers to.
+    unsafe {
+        hookbarley_explain(
+            samples.as_ptr(), 8, simple as u8, edge as u8, limit, inner, threshold,
+            after.as_mut_ptr(), 8, steps.as_mut_ptr(), 8, &mut rule, &mut pair,
+        )
+    };
+    let rule = match (rule, pair) {
+        (1, _) => Rule::EdgeFailed,
+        (2, 1) => Rule::Rough(Pair::P3P2),
+        (2, 2) => Rule::Rough(Pair::P2P1),
+        (2, 3) => Rule::Rough(Pair::P1P0),
+        (2, 4) => Rule::Rough(Pair::Q3Q2),
+        (2, 5) => Rule::Rough(Pair::Q2Q1),
+        (2, _) => Rule::Rough(Pair::Q1Q0),
+        (3, _) => Rule::Simple,
+        (4, _) => Rule::HighVariance,
+        (5, _) => Rule::MacroblockEdge,
+        _ => Rule::InnerEdge,
+    };
+    Explanation { rule, before: *samples, after, steps }
 }
 
 /// Where the key frame stands in a simple lossy WebP file (RFC 9649), or the number of the refusal: 17 the marks, 18 a size at odds with

@@ -126,3 +126,17 @@ pub fn acted(e: &[u8; 8], rule: Rule) -> [u8; 8]
         Rule::InnerEdge => inner(e),
     }
 }
+
+// What the rule adds to each sample, before the sum is clipped.
+pub fn added(e: &[u8; 8], rule: Rule) -> [i32; 8]
+    ensures { λ r. ⌜ r ≡ stepsOf rule (samplesOf (now (e .entry))) ⌝ }
+{
+    match rule {
+        Rule::EdgeFailed => sides(0, 0, 0, 0, 0, 0),
+        Rule::Rough(_) => sides(0, 0, 0, 0, 0, 0),
+        Rule::Simple => common_steps(tapped(e)),
+        Rule::HighVariance => common_steps(tapped(e)),
+        Rule::MacroblockEdge => macroblock_steps(signed_byte(tapped(e))),
+        Rule::InnerEdge => inner_steps(across(e)),
+    }
+}

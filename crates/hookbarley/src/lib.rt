@@ -1,6 +1,7 @@
-// What a program in C or Rust links: the picture call, the edge kernel and, in files of their own, deblocking and the WebP calls, on numbers
-// and slices. A slice passes as a pointer and a length; include/hookbarley.h says the same in C.
+// What a program in C or Rust links: the picture call, the edge kernel and, in files of their own, deblocking, explanations and the WebP
+// calls, on numbers and slices. A slice passes as a pointer and a length; include/hookbarley.h says the same in C.
 pub mod deblocking;
+pub mod explaining;
 pub mod webp_find;
 pub mod webp_wrap;
 
@@ -85,7 +86,7 @@ pub extern "C" fn hookbarley_decode(
     d.number()
 }
 
-fn eight_samples(s: &[u8]) -> [u8; 8]
+pub(crate) fn eight_samples(s: &[u8]) -> [u8; 8]
     requires { ⌜ length (now s) ≡ 8 ⌝ }
     ensures { λ r. ⌜ r ≡ now (s .entry) ⌝ }
 {
@@ -93,7 +94,7 @@ fn eight_samples(s: &[u8]) -> [u8; 8]
 }
 
 // Stores eight samples.
-fn put(s: &mut [u8], e: [u8; 8])
+pub(crate) fn put(s: &mut [u8], e: [u8; 8])
     requires { ⌜ length (now s) ≡ 8 ⌝ }
     ensures { λ _. ⌜ now (s .exit) ≡ e ⌝ }
 {

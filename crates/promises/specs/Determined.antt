@@ -21,6 +21,7 @@ use Rattle.coefficients.specs.Tokens.{numberAnswer, signedAnswer, tableOf}
 use Rattle.coefficients.specs.Transform.{transformOf}
 use Rattle.filter.specs.declared.answers.Rule.{Rule}
 use Rattle.filter.specs.Kernel.{samplesOf, ruleOf, stepsOf, movedOf, filterOf, pixelOf}
+use Rattle.filter.specs.Explain.{explainOf}
 use Rattle.modes.specs.Answers.{prefixAnswer, mainAnswer, blockAnswer, smallAnswer, modesAnswer}
 use Rattle.modes.specs.Modes as Modes
 use Rattle.modes.specs.Modes.{bottomOf}
@@ -41,6 +42,7 @@ use Rattle.picture.specs.Memory.{Memory}
 use Rattle.casefile.specs.Run.{ranOf}
 use Rattle.deblock.specs.Deblock.{deblockOf}
 use Rattle.hookbarley.specs.Calls.{calledOf, deblockCalledOf, filteredOf}
+use Rattle.hookbarley.specs.ExplainCalls.{explainCalledOf}
 use Rattle.picture.specs.declared.rows.Decoded.{Decoded}
 use Rattle.picture.specs.Picture.{numberOf, pictureOf, valuesOf}
 use Rattle.hookbarley.specs.WebpCalls.{webpFoundOf, webpWrappedOf}
@@ -144,6 +146,12 @@ kernel-rule e simple edge limit inner threshold = determined (ruleOf (samplesOf 
 pub kernel-acted : (e : List ℕ) (rule : Rule) → One (λ x. x ≡ movedOf e (stepsOf rule (samplesOf e)))
 kernel-acted e rule = determined (movedOf e (stepsOf rule (samplesOf e)))
 
+pub kernel-added : (e : List ℕ) (rule : Rule) → One (λ x. x ≡ stepsOf rule (samplesOf e))
+kernel-added e rule = determined (stepsOf rule (samplesOf e))
+
+pub kernel-explain : (e : List ℕ) (simple edge : Bool) (limit inner threshold : ℕ) → One (λ x. x ≡ explainOf e simple edge limit inner threshold)
+kernel-explain e simple edge limit inner threshold = determined (explainOf e simple edge limit inner threshold)
+
 -- ---- modes
 pub modes-prefix : (s : List ℕ) (r : Reader) (h : List ℤ) → One (λ x. x ≡ prefixAnswer s r h)
 modes-prefix s r h = determined (prefixAnswer s r h)
@@ -239,6 +247,11 @@ hookbarley-deblock d strengths w h simple = determined (deblockCalledOf d streng
 
 pub hookbarley-filter : (samples : List ℕ) (simple edge limit inner threshold : ℕ) → One (λ x. x ≡ filteredOf samples simple edge limit inner threshold)
 hookbarley-filter samples simple edge limit inner threshold = determined (filteredOf samples simple edge limit inner threshold)
+
+pub hookbarley-explain : (samples : List ℕ) (simple edge limit inner threshold : ℕ) (after : List ℕ) (steps : List ℤ)
+    → One (λ x. x ≡ explainCalledOf samples simple edge limit inner threshold after steps)
+hookbarley-explain samples simple edge limit inner threshold after steps =
+    determined (explainCalledOf samples simple edge limit inner threshold after steps)
 
 pub hookbarley-webp-find : (bytes : List ℕ) → One (λ x. x ≡ webpFoundOf bytes)
 hookbarley-webp-find bytes = determined (webpFoundOf bytes)
