@@ -172,6 +172,12 @@ for fault in 0 1 2 3 4 5 6 7 8 9 10; do
     fi
 done
 say explain "$found of 10 faults found"
+# whole tiles replayed by what the program's `explain` uses: the last value told of every sample is deblocking's
+if build explain-tiles tests/outside/explain_tiles.c cli/explain.c && line=$($X86RUN $out/explain-tiles $cases/real/*.case bench/*.case 2>&1); then
+    say explain "${line%%;*}"
+else
+    bad explain "$line"
+fi
 
 # 6. The Rust wrapper.
 if tests/outside/rust.sh "$ARCHIVE" >$out/rust.log 2>&1; then
