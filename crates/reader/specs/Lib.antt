@@ -3,6 +3,8 @@ pub mod BooleanLaws
 pub mod BooleanFast
 pub mod Reading
 pub mod ReadingLaws
+pub mod Reads
+pub mod ReadsLaws
 pub mod Header
 pub mod HeaderLaws
 pub mod Trees

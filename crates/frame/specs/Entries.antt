@@ -1,0 +1,93 @@
+-- The 1096 entries that every layer reads, made from the fields of the coded header, each stored by its name. Those with no name are 0.
+use Prim.Native.Nat.{ℕ, zero, suc, _+_, _-_}
+use mathlib.Core.Bool.{Bool, true, false}
+use mathlib.Core.List.{List, [], _∷_}
+use lib.Dec.{ltb}
+use lib.IntN.{ℤ, pos, _-ℤ_}
+use lib.ListN.{getD, set, replicate}
+use Rattle.numbers.specs.Lists.{build}
+use Rattle.frame.specs.declared.fields.Signed.{Signed}
+use Rattle.frame.specs.declared.fields.Four.{Four}
+use Rattle.frame.specs.declared.fields.Three.{Three}
+use Rattle.frame.specs.declared.fields.Segments.{Segments}
+use Rattle.frame.specs.declared.fields.Filter.{Filter}
+use Rattle.frame.specs.declared.fields.Quantizers.{Quantizers}
+use Rattle.frame.specs.declared.fields.Header.{Header}
+use Rattle.frame.specs.Header.{none}
+use Rattle.frame.specs.Names as Name
+
+-- a coded number as a number: its magnitude, negative where its sign is not 0
+abbrev pub negative : ℕ → ℕ → ℤ
+negative zero size = pos size
+negative (suc n) size = pos 0 -ℤ pos size
+
+abbrev pub valueOf : Signed → ℤ
+valueOf x = negative (x .sign) (x .size)
+
+-- a number that is coded without a sign
+abbrev pub plain : ℕ → Signed
+plain n = record { sign = 0; size = n }
+
+-- numbers stored one after the other, each at its entry
+abbrev pub stored : List (ℕ × Signed) → List Signed → List Signed
+stored [] l = l
+stored (e ∷ rest) l = stored rest (set l (e .0) (e .1))
+
+-- ---- the entries before the coefficient probabilities
+-- one for each segment
+abbrev pub fourFrom : ℕ → Four → List (ℕ × Signed)
+fourFrom i f = (i, f .a) ∷ (i + 1, f .b) ∷ (i + 2, f .c) ∷ (i + 3, f .d) ∷ []
+
+-- one for each node of the map's tree
+abbrev pub threeFrom : ℕ → Three → List (ℕ × Signed)
+threeFrom i t = (i, plain (t .a)) ∷ (i + 1, plain (t .b)) ∷ (i + 2, plain (t .c)) ∷ []
+
+unfoldable pub withSegments : Segments → List Signed → List Signed
+withSegments g l =
+    stored (threeFrom Name.mapProbabilities (g .probs))
+    (stored (fourFrom Name.segmentLevels (g .features .levels))
+    (stored (fourFrom Name.segmentQuantizers (g .features .quantizers))
+    (stored
+    ((Name.segmentsOn, plain (g .on))
+    ∷ (Name.mapPresent, plain (g .map))
+    ∷ (Name.absolute, plain (g .features .absolute))
+    ∷ [])
+    l)))
+
+unfoldable pub withFilter : Filter → List Signed → List Signed
+withFilter f =
+    stored
+    ((Name.level, plain (f .level))
+    ∷ (Name.sharpness, plain (f .sharpness))
+    ∷ (Name.deltasOn, plain (f .on))
+    ∷ (Name.intraDelta, f .deltas .intra)
+    ∷ (Name.smallDelta, f .deltas .small)
+    ∷ [])
+
+unfoldable pub withQuantizers : Quantizers → List Signed → List Signed
+withQuantizers q =
+    stored
+    ((Name.quantizer, plain (q .base))
+    ∷ (Name.yDc, q .ydc)
+    ∷ (Name.y2Dc, q .y2dc)
+    ∷ (Name.y2Ac, q .y2ac)
+    ∷ (Name.uvDc, q .uvdc)
+    ∷ (Name.uvAc, q .uvac)
+    ∷ [])
+
+unfoldable pub numbers : Header → List Signed
+numbers h = withQuantizers (h .quantizers) (withFilter (h .filter) (withSegments (h .segments) (replicate Name.coefficients none)))
+
+-- ---- all of them: those, the coefficient probabilities, whether macroblocks may be skipped and the probability of that
+unfoldable pub numberAt : List Signed → List ℕ → ℕ → ℕ → ℕ → Signed
+numberAt first probs skip chance i =
+    elim (ltb i Name.coefficients) [
+      | true ↦ getD first i none
+      | false ↦ elim (ltb i Name.skipPresent) [
+        | true ↦ plain (getD probs (i - Name.coefficients) 0)
+        | false ↦ elim (ltb i Name.skipProbability) [ true ↦ plain skip | false ↦ plain chance ]
+      ]
+    ]
+
+unfoldable pub entries : Header → List ℤ
+entries h = build Name.entryCount (λ i. valueOf (numberAt (numbers h) (h .probs) (h .skip) (h .chance) i))

@@ -1,0 +1,65 @@
+-- What every coded header has, whatever its bytes are: each number is a byte, or has a byte for its magnitude; and there are at most eight
+-- token partitions.
+use Prim.Native.Nat.{ℕ, _<_}
+use Rattle.reader.specs.BooleanLaws.{Bytes}
+use Rattle.frame.specs.declared.fields.Signed.{Signed}
+use Rattle.frame.specs.declared.fields.Four.{Four}
+use Rattle.frame.specs.declared.fields.Three.{Three}
+use Rattle.frame.specs.declared.fields.Features.{Features}
+use Rattle.frame.specs.declared.fields.Segments.{Segments}
+use Rattle.frame.specs.declared.fields.Deltas.{Deltas}
+use Rattle.frame.specs.declared.fields.Filter.{Filter}
+use Rattle.frame.specs.declared.fields.Quantizers.{Quantizers}
+use Rattle.frame.specs.declared.fields.Header.{Header}
+
+abbrev pub Small : Signed → Type 0
+Small x = x .size < 256
+
+pub record FineFour (f : Four) : Type 0 where
+  pub a : Small (f .a)
+  pub b : Small (f .b)
+  pub c : Small (f .c)
+  pub d : Small (f .d)
+
+pub record FineThree (t : Three) : Type 0 where
+  pub a : t .a < 256
+  pub b : t .b < 256
+  pub c : t .c < 256
+
+pub record FineFeatures (f : Features) : Type 0 where
+  pub absolute : f .absolute < 256
+  pub quantizers : FineFour (f .quantizers)
+  pub levels : FineFour (f .levels)
+
+pub record FineSegments (g : Segments) : Type 0 where
+  pub on : g .on < 256
+  pub map : g .map < 256
+  pub features : FineFeatures (g .features)
+  pub probs : FineThree (g .probs)
+
+pub record FineDeltas (d : Deltas) : Type 0 where
+  pub intra : Small (d .intra)
+  pub small : Small (d .small)
+
+pub record FineFilter (f : Filter) : Type 0 where
+  pub level : f .level < 256
+  pub sharpness : f .sharpness < 256
+  pub on : f .on < 256
+  pub deltas : FineDeltas (f .deltas)
+
+pub record FineQuantizers (q : Quantizers) : Type 0 where
+  pub base : q .base < 256
+  pub ydc : Small (q .ydc)
+  pub y2dc : Small (q .y2dc)
+  pub y2ac : Small (q .y2ac)
+  pub uvdc : Small (q .uvdc)
+  pub uvac : Small (q .uvac)
+
+pub record Fine (h : Header) : Type 0 where
+  pub segments : FineSegments (h .segments)
+  pub filter : FineFilter (h .filter)
+  pub partitions : h .partitions < 4
+  pub quantizers : FineQuantizers (h .quantizers)
+  pub probs : Bytes (h .probs)
+  pub skip : h .skip < 256
+  pub chance : h .chance < 256

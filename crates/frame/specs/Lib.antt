@@ -1,0 +1,14 @@
+pub mod Tables
+pub mod Header
+pub mod Fine
+pub mod HeaderLaws
+pub mod Tag
+pub mod Places
+pub mod PlacesLaws
+pub mod Names
+pub mod Entries
+pub mod EntriesLaws
+pub mod Take
+pub mod TakeLaws
+pub mod Passes
+pub mod PassesLaws

@@ -1,0 +1,94 @@
+-- THE call: the key frame's own header made into what the picture call takes, with its refusals in order.
+use Prim.Native.Nat.{ℕ, _+_}
+use mathlib.Core.Bool.{Bool, true, false, not}
+use mathlib.Core.List.{List}
+use lib.Dec.{ltb, leb, eqb}
+use lib.IntN.{ℤ, pos}
+use lib.ListN.{length, take, drop, replicate}
+use Rattle.reader.specs.declared.boolean.Reader.{Reader}
+use Rattle.reader.specs.Boolean.{Given, given, missing, firstReader, noReader}
+use Rattle.reader.specs.Reading.{run}
+use Rattle.frame.specs.declared.fields.Header.{Header}
+use Rattle.frame.specs.declared.tile.Tile.{Tile}
+use Rattle.frame.specs.declared.take.Answer.{Answer}
+use Rattle.frame.specs.declared.take.Taken.{Taken}
+use Rattle.frame.specs.Header.{header}
+use Rattle.frame.specs.Tag.{sizeOf, widthOf, heightOf, goodOf, roundedOf}
+use Rattle.frame.specs.Places.{countOf, noSpan, tokensOf, insideOf}
+use Rattle.frame.specs.Names.{entryCount}
+use Rattle.frame.specs.Entries.{entries}
+
+-- ---- a refusal: its number, and all other numbers zero
+abbrev pub noTile : Tile
+noTile = record { first = noSpan; tokens = replicate 8 noSpan; reader = noReader; count = 0; width = 0; height = 0 }
+
+abbrev pub refusedOf : ℕ → Answer
+refusedOf number = record { number = number; tile = noTile; shown = record { width = 0; height = 0 }; simple = false }
+
+unfoldable pub nothing : ℕ → Taken
+nothing number = record { answer = refusedOf number; header = replicate entryCount (pos 0) }
+
+-- ---- what is taken of a frame whose coded header is h, the reader after it r
+-- where the token partitions' sizes stand: after the ten bytes and the first partition
+abbrev pub tableOf : List ℕ → ℕ
+tableOf b = 10 + sizeOf b
+
+abbrev pub tileOf : List ℕ → Header → Reader → Tile
+tileOf b h r =
+    record {
+      first = record { start = 10; len = sizeOf b };
+      tokens = tokensOf b (tableOf b) (countOf (h .partitions));
+      reader = r;
+      count = countOf (h .partitions);
+      width = roundedOf (widthOf b);
+      height = roundedOf (heightOf b);
+    }
+
+-- the true sizes are the frame's own; filter_type 1 is the simple filter
+abbrev pub answerOf : List ℕ → Header → Reader → Answer
+answerOf b h r =
+    record {
+      number = 0;
+      tile = tileOf b h r;
+      shown = record { width = widthOf b; height = heightOf b };
+      simple = not (eqb (h .filter .kind) 0);
+    }
+
+unfoldable pub wholeOf : List ℕ → Header → Reader → Taken
+wholeOf b h r = record { answer = answerOf b h r; header = entries h }
+
+-- ---- the refusals in order
+-- 13: the sizes of the token partitions, or one of them, past the end
+unfoldable pub placedOf : List ℕ → Header → Reader → Taken
+placedOf b h r = elim (insideOf b (tableOf b) (countOf (h .partitions))) [ true ↦ wholeOf b h r | false ↦ nothing 13 ]
+
+-- 14: the coded header ran out
+abbrev pub codedOf : List ℕ → Given Header → Taken
+codedOf b (given h r) = placedOf b h r
+codedOf b missing = nothing 14
+
+-- the first partition: after ten bytes, as long as the tag says
+abbrev pub firstOf : List ℕ → List ℕ
+firstOf b = take (sizeOf b) (drop 10 b)
+
+-- 12: the tag, start code or sizes; 13: the first partition past the end; 14: it has under two bytes
+unfoldable pub takenOf : List ℕ → Taken
+takenOf b =
+    elim (goodOf b) [
+      | false ↦ nothing 12
+      | true ↦ elim (leb (tableOf b) (length b)) [
+        | false ↦ nothing 13
+        | true ↦ elim (ltb (sizeOf b) 2) [ true ↦ nothing 14 | false ↦ codedOf b (run header (firstOf b) (firstReader (firstOf b))) ]
+      ]
+    ]
+
+-- ---- with the entries lent: 9 where there are not 1096, before anything else; a refusal leaves them as they were
+unfoldable pub intoOf : List ℕ → List ℤ → Taken
+intoOf b old =
+    elim (eqb (length old) entryCount) [
+      | false ↦ record { answer = refusedOf 9; header = old }
+      | true ↦ elim (eqb (takenOf b .answer .number) 0) [
+        | true ↦ takenOf b
+        | false ↦ record { answer = takenOf b .answer; header = old }
+      ]
+    ]

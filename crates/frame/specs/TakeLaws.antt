@@ -1,0 +1,114 @@
+-- The call, as the code makes it: one test after the other.
+use Prim.Native.Nat.{ℕ, _+_, _≤_, _<_}
+use mathlib.Core.Path.{_≡_, refl, sym, _∙_, ap}
+use mathlib.Core.Bool.{true, false, not}
+use mathlib.Core.List.{List}
+use native.Mathlib.Omega.{arith}
+use lib.Dec.{ltb, leb, eqb}
+use lib.IntN.{ℤ}
+use lib.ListN.{length}
+use borrow.Author.Tests.{lt-ltb, le-ltb, eq-eqb, ne-eqb}
+use Rattle.reader.specs.declared.boolean.Reader.{Reader}
+use Rattle.reader.specs.Boolean.{given, missing, firstReader, validOf}
+use Rattle.reader.specs.BooleanLaws.{Bytes, first-valid, valid-test, valid-fact}
+use Rattle.reader.specs.Reading.{run}
+use Rattle.reader.specs.ReadingLaws.{run-valid}
+use Rattle.frame.specs.declared.fields.Header.{Header}
+use Rattle.frame.specs.declared.tile.Span.{Span}
+use Rattle.frame.specs.declared.take.Answer.{Answer}
+use Rattle.frame.specs.declared.take.Taken.{Taken}
+use Rattle.frame.specs.Header.{header}
+use Rattle.frame.specs.Tag.{sizeOf, widthOf, heightOf, roundedOf, goodOf}
+use Rattle.frame.specs.Places.{countOf, placeOf, tokensOf, insideOf}
+use Rattle.frame.specs.Fine.{Fine}
+use Rattle.frame.specs.HeaderLaws.{header-within}
+use Rattle.frame.specs.Entries.{entries}
+use Rattle.reader.specs.Reads.{Reads}
+use Rattle.frame.specs.PlacesLaws.{inside-all, inside-not}
+use Rattle.frame.specs.Take.{refusedOf, nothing, tableOf, firstOf, wholeOf, placedOf, codedOf, takenOf, intoOf}
+
+module _ (b : List ℕ) where
+  pub take-tag : goodOf b ≡ false → nothing 12 ≡ takenOf b
+  unfolding takenOf
+  take-tag e = rw (e, takenOf)
+
+  -- after it the code has the size of the first partition, and has tried whether that lies inside
+  module _ (e : goodOf b ≡ true) {size : ℕ} (z : size ≡ sizeOf b) where
+    pub take-first : leb (10 + size) (length b) ≡ false → nothing 13 ≡ takenOf b
+    unfolding takenOf
+    take-first h = let f : leb (tableOf b) (length b) ≡ false = rw z at h in rw (e, f, takenOf)
+
+    module _ (h : leb (10 + size) (length b) ≡ true) where
+      inside : leb (tableOf b) (length b) ≡ true
+      inside = rw z at h
+
+      pub take-short : size < 2 → nothing 14 ≡ takenOf b
+      unfolding takenOf
+      take-short l = rw (e, inside, lt-ltb (sizeOf b) 2 (rw z at l), takenOf)
+
+      pub take-coded : 2 ≤ size → codedOf b (run header (firstOf b) (firstReader (firstOf b))) ≡ takenOf b
+      unfolding takenOf
+      take-coded l = rw (e, inside, le-ltb (sizeOf b) 2 (rw z at l), takenOf)
+
+  -- the token partitions
+  module _ (h : Header) (r : Reader) (l : 1 ≤ countOf (h .partitions)) (m : countOf (h .partitions) ≤ 8) where
+    pub placed-not : length b < placeOf b (tableOf b) (countOf (h .partitions)) 8 → nothing 13 ≡ placedOf b h r
+    unfolding placedOf
+    placed-not g = rw (inside-not b (tableOf b) (countOf (h .partitions)) m l g, placedOf)
+
+    pub placed-all : placeOf b (tableOf b) (countOf (h .partitions)) 8 ≤ length b → wholeOf b h r ≡ placedOf b h r
+    unfolding placedOf
+    placed-all g = rw (inside-all b (tableOf b) (countOf (h .partitions)) m g, placedOf)
+
+  -- the same of what the code has: the size, the count and the last start
+  module _ (h : Header) (r : Reader) {size n last : ℕ} (e : size ≡ sizeOf b) (f : n ≡ countOf (h .partitions)) (l : 1 ≤ n) (m : n ≤ 8) (g : last ≡ placeOf b (10 + size) n 8) where
+    pub refused-places : length b < last → nothing 13 ≡ placedOf b h r
+    refused-places k = placed-not h r (rw f at l) (rw f at m) (rw (g, e, f) at k)
+
+    pub taken-whole : {w t a d : ℕ} {tokens : List Span} {es : List ℤ} → a ≡ widthOf b → d ≡ heightOf b → w ≡ roundedOf a → t ≡ roundedOf d → tokens ≡ tokensOf b (10 + size) n → es ≡ entries h → last ≤ length b
+        → record {
+          answer = record {
+            number = 0;
+            tile = record { first = record { start = 10; len = size }; tokens = tokens; reader = r; count = n; width = w; height = t };
+            shown = record { width = a; height = d };
+            simple = not (eqb (h .filter .kind) 0);
+          };
+          header = es;
+        } ≡ placedOf b h r
+    unfolding wholeOf
+    taken-whole pa pd pw pt ps pe k = rw (pw, pt, pa, pd, ps, pe, f, e) (placed-all h r (rw f at l) (rw f at m) (rw (g, e, f) at k))
+
+-- with the entries lent
+module _ (b : List ℕ) (old : List ℤ) where
+  pub into-length : {a : Answer} → a ≡ refusedOf 9 → (length old ≡ 1096 → ⊥) → record { answer = a; header = old } ≡ intoOf b old
+  unfolding intoOf
+  into-length e h = rw (e, ne-eqb _ _ h, intoOf)
+
+  pub into-taken : {t : Taken} {l : List ℤ} → t ≡ takenOf b → l ≡ t .header → length old ≡ 1096 → t .answer .number ≡ 0 → record { answer = t .answer; header = l } ≡ intoOf b old
+  unfolding intoOf
+  into-taken {t} e g h k = go e g (rw e at k)
+    where
+      go : {t : Taken} {l : List ℤ} → t ≡ takenOf b → l ≡ t .header → takenOf b .answer .number ≡ 0 → record { answer = t .answer; header = l } ≡ intoOf b old
+      go e g k = rw (g, e, eq-eqb _ _ h, eq-eqb _ _ k, intoOf)
+
+  pub into-refused : {t : Taken} → t ≡ takenOf b → length old ≡ 1096 → (t .answer .number ≡ 0 → ⊥) → record { answer = t .answer; header = old } ≡ intoOf b old
+  unfolding intoOf
+  into-refused {t} e h k = rw (e, eq-eqb _ _ h, ne-eqb _ _ (rw e at k), intoOf)
+
+-- the coded header, from what the code read
+module _ (b s : List ℕ) (y : Bytes s) {r q : Reader} {h : Header} (e : r ≡ firstReader s) (x : Reads header s r h q) where
+  start-valid : validOf s r ≡ true
+  start-valid = rw e (valid-test s (firstReader s) (first-valid s y))
+
+  pub read-missing : validOf s q ≡ false → nothing 14 ≡ codedOf b (run header s (firstReader s))
+  read-missing f = sym (ap (codedOf b) (ap (run header s) (sym e) ∙ x .stopped start-valid f))
+
+  module _ (f : validOf s q ≡ true) where
+    given-is : run header s r ≡ given h q
+    given-is = x .went start-valid f
+
+    pub read-given : placedOf b h q ≡ codedOf b (run header s (firstReader s))
+    read-given = sym (ap (codedOf b) (ap (run header s) (sym e) ∙ given-is))
+
+    pub read-fine : Fine h
+    read-fine = run-valid header-within y (valid-fact s r start-valid) given-is .value

@@ -1,0 +1,173 @@
+// The 1096 entries that the picture call takes, made from the fields, each stored by its name.
+use crate::fields::Filter;
+use crate::fields::Four;
+use crate::fields::Header;
+use crate::fields::Quantizers;
+use crate::fields::Segments;
+use crate::fields::Signed;
+use crate::fields::Three;
+use crate::names;
+ghost use mathlib.Core.Path.{_≡_};
+ghost use Prim.Native.Nat.{_<_};
+ghost use Rattle.frame.specs.Fine.{Fine};
+ghost use Rattle.frame.specs.Entries.{valueOf, stored, fourFrom, threeFrom, withSegments, withFilter, withQuantizers};
+ghost use Rattle.frame.specs.Entries.{numbers, numberAt, entries};
+
+// A coded number as a number.
+fn value(x: Signed) -> i32
+    requires { ⌜ x .size < 256 ⌝ }
+    ensures { λ r. ⌜ r ≡ valueOf x ⌝ }
+{
+    let size = x.size as i32;
+    if x.sign == 0 {
+        return size;
+    }
+    0 - size
+}
+
+// Four numbers, and three, from entry i on.
+fn four_from(l: [Signed; 38], i: usize, f: Four) -> [Signed; 38]
+    requires { ⌜ i < 35 ⌝ }
+    ensures { λ r. ⌜ r ≡ stored (fourFrom i f) l ⌝ }
+{
+    let a = f.a;
+    let b = f.b;
+    let c = f.c;
+    let d = f.d;
+    let mut out = l;
+    out[i] = a;
+    out[i + 1] = b;
+    out[i + 2] = c;
+    out[i + 3] = d;
+    out
+}
+
+fn three_from(l: [Signed; 38], i: usize, t: Three) -> [Signed; 38]
+    requires { ⌜ i < 36 ⌝ }
+    ensures { λ r. ⌜ r ≡ stored (threeFrom i t) l ⌝ }
+{
+    let mut out = l;
+    out[i] = Signed { sign: 0, size: t.a };
+    out[i + 1] = Signed { sign: 0, size: t.b };
+    out[i + 2] = Signed { sign: 0, size: t.c };
+    out
+}
+
+fn with_segments(g: Segments, l: [Signed; 38]) -> [Signed; 38]
+    ensures { λ r. ⌜ r ≡ withSegments g l ⌝ }
+{
+    let features = g.features;
+    let mut out = l;
+    out[names::SEGMENTS_ON] = Signed {
+        sign: 0,
+        size: g.on,
+    };
+    out[names::MAP_PRESENT] = Signed {
+        sign: 0,
+        size: g.map,
+    };
+    out[names::ABSOLUTE] = Signed {
+        sign: 0,
+        size: features.absolute,
+    };
+    let quantized = four_from(out, names::SEGMENT_QUANTIZERS, features.quantizers);
+    let leveled = four_from(quantized, names::SEGMENT_LEVELS, features.levels);
+    three_from(leveled, names::MAP_PROBABILITIES, g.probs)
+}
+
+fn with_filter(f: Filter, l: [Signed; 38]) -> [Signed; 38]
+    ensures { λ r. ⌜ r ≡ withFilter f l ⌝ }
+{
+    let deltas = f.deltas;
+    let intra = deltas.intra;
+    let small = deltas.small;
+    let mut out = l;
+    out[names::LEVEL] = Signed {
+        sign: 0,
+        size: f.level,
+    };
+    out[names::SHARPNESS] = Signed {
+        sign: 0,
+        size: f.sharpness,
+    };
+    out[names::DELTAS_ON] = Signed {
+        sign: 0,
+        size: f.on,
+    };
+    out[names::INTRA_DELTA] = intra;
+    out[names::SMALL_DELTA] = small;
+    out
+}
+
+fn with_quantizers(q: Quantizers, l: [Signed; 38]) -> [Signed; 38]
+    ensures { λ r. ⌜ r ≡ withQuantizers q l ⌝ }
+{
+    let ydc = q.ydc;
+    let y2dc = q.y2dc;
+    let y2ac = q.y2ac;
+    let uvdc = q.uvdc;
+    let uvac = q.uvac;
+    let mut out = l;
+    out[names::QUANTIZER] = Signed {
+        sign: 0,
+        size: q.base,
+    };
+    out[names::Y_DC] = ydc;
+    out[names::Y2_DC] = y2dc;
+    out[names::Y2_AC] = y2ac;
+    out[names::UV_DC] = uvdc;
+    out[names::UV_AC] = uvac;
+    out
+}
+
+// The entries before the coefficient probabilities.
+fn numbers(h: Header) -> [Signed; 38]
+    ensures { λ r. ⌜ r ≡ numbers h ⌝ }
+{
+    let none = [Signed { sign: 0, size: 0 }; 38];
+    with_quantizers(
+        h.quantizers,
+        with_filter(h.filter, with_segments(h.segments, none)),
+    )
+}
+
+// What stands at entry i: the numbers, then the coefficient probabilities, then the skip flag and its probability.
+fn number_at(first: [Signed; 38], probs: &[u32; 1056], skip: u32, chance: u32, i: usize) -> Signed
+    requires { ⌜ i < 1096 ⌝ }
+    ensures { λ r. ⌜ r ≡ numberAt first (now (probs .entry)) skip chance i ⌝ }
+{
+    if i < names::COEFFICIENTS {
+        return first[i];
+    }
+    if i < names::SKIP_PRESENT {
+        return Signed {
+            sign: 0,
+            size: probs[i - names::COEFFICIENTS],
+        };
+    }
+    if i < names::SKIP_PROBABILITY {
+        return Signed {
+            sign: 0,
+            size: skip,
+        };
+    }
+    Signed {
+        sign: 0,
+        size: chance,
+    }
+}
+
+pub(crate) fn entries(h: Header) -> [i32; 1096]
+    requires { ⌜ Fine h ⌝ }
+    ensures { λ r. ⌜ r ≡ entries h ⌝ }
+{
+    let first = numbers(h);
+    let probs = h.probs;
+    let mut out = [0i32; 1096];
+    let mut i = 0;
+    while i < names::ENTRIES {
+        out[i] = value(number_at(first, &probs, h.skip, h.chance, i));
+        i = i + 1;
+    }
+    out
+}

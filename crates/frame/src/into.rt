@@ -1,0 +1,38 @@
+// The same call with the 1096 entries lent by the caller: they keep what they held unless all is taken.
+use crate::names;
+use crate::take::Answer;
+use crate::take::Taken;
+use crate::take::refused;
+use crate::take::take;
+ghost use mathlib.Core.Path.{_≡_};
+ghost use lib.ListN.{length};
+ghost use Rattle.frame.specs.declared.take.Taken.{Taken};
+ghost use Rattle.frame.specs.Take.{intoOf};
+
+fn put(header: &mut [i32], entries: [i32; 1096])
+    requires { ⌜ (length (now header) ≡ 1096) × (length entries ≡ 1096) ⌝ }
+    ensures { λ _. ⌜ now (header .exit) ≡ entries ⌝ }
+{
+    let mut i = 0;
+    while i < names::ENTRIES {
+        header[i] = entries[i];
+        i = i + 1;
+    }
+}
+
+// 9 where there are not 1096 entries, before anything else.
+pub fn take_into(bytes: &[u8], header: &mut [i32]) -> Answer
+    ensures { λ r. ⌜ _≡_ {A = Taken} (record { answer = r; header = now (header .exit) })
+        (intoOf (now (bytes .entry)) (now (header .entry))) ⌝ }
+{
+    if header.len() != names::ENTRIES {
+        return refused(9);
+    }
+    let t = take(bytes);
+    let answer = t.answer;
+    if answer.number == 0 {
+        let entries = t.header;
+        put(header, entries);
+    }
+    answer
+}

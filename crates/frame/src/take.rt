@@ -1,0 +1,155 @@
+// THE call: a key frame's own header, made into what the picture call takes.
+use crate::coded::coded;
+use crate::entries::entries;
+use crate::fields::Header;
+use crate::literal::nowhere;
+use crate::places::count;
+use crate::places::places;
+use crate::tag::good;
+use crate::tag::height;
+use crate::tag::rounded;
+use crate::tag::size;
+use crate::tag::width;
+use crate::tile::Span;
+use crate::tile::Tile;
+use reader::boolean::Reader;
+use reader::boolean::open;
+use reader::boolean::valid;
+ghost use mathlib.Core.Path.{_≡_};
+ghost use Prim.Native.Nat.{_≤_};
+ghost use lib.ListN.{length};
+ghost use Rattle.reader.specs.Boolean.{firstReader};
+ghost use Rattle.reader.specs.Reading.{run};
+ghost use Rattle.frame.specs.Header.{header};
+ghost use Rattle.frame.specs.Fine.{Fine};
+ghost use Rattle.frame.specs.Take.{refusedOf, nothing, tableOf, firstOf, answerOf, placedOf, codedOf, takenOf};
+
+pub struct Size {
+    pub width: usize,
+    pub height: usize,
+}
+
+// 0 and what the picture call takes, or the number of a refusal and zeros. The tile's sides are rounded up to 16, `shown` has the true
+// sizes; `simple` is the filter kind.
+pub struct Answer {
+    pub number: u32,
+    pub tile: Tile,
+    pub shown: Size,
+    pub simple: bool,
+}
+
+// The same with the header's entries.
+pub struct Taken {
+    pub answer: Answer,
+    pub header: [i32; 1096],
+}
+
+pub(crate) fn refused(number: u32) -> Answer
+    ensures { λ r. ⌜ r ≡ refusedOf number ⌝ }
+{
+    Answer {
+        number: number,
+        tile: Tile {
+            first: Span { start: 0, len: 0 },
+            tokens: [Span { start: 0, len: 0 }; 8],
+            reader: nowhere(),
+            count: 0,
+            width: 0,
+            height: 0,
+        },
+        shown: Size {
+            width: 0,
+            height: 0,
+        },
+        simple: false,
+    }
+}
+
+fn nothing(number: u32) -> Taken
+    ensures { λ r. ⌜ r ≡ nothing number ⌝ }
+{
+    Taken {
+        answer: refused(number),
+        header: [0; 1096],
+    }
+}
+
+// The first partition.
+fn first(b: &[u8], end: usize) -> &[u8]
+    requires { ⌜ (end ≡ tableOf (now b)) × (end ≤ length (now b)) ⌝ }
+    ensures { λ r. ⌜ now r ≡ firstOf (now (b .entry)) ⌝ }
+{
+    &b[10..end]
+}
+
+// After the coded header: the token partitions.
+fn placed(b: &[u8], h: Header, reader: Reader) -> Taken
+    requires { ⌜ Fine h ⌝ }
+    ensures { λ r. ⌜ r ≡ placedOf (now (b .entry)) h reader ⌝ }
+{
+    let size = size(b);
+    let n = count(h.partitions);
+    let found = places(b, 10 + size, n);
+    if b.len() < found.last {
+        return nothing(13);
+    }
+    let filter = h.filter;
+    let tokens = found.tokens;
+    let across = width(b);
+    let down = height(b);
+    Taken {
+        answer: Answer {
+            number: 0,
+            tile: Tile {
+                first: Span {
+                    start: 10,
+                    len: size,
+                },
+                tokens: tokens,
+                reader: reader,
+                count: n,
+                width: rounded(across),
+                height: rounded(down),
+            },
+            shown: Size {
+                width: across,
+                height: down,
+            },
+            simple: filter.kind != 0,
+        },
+        header: entries(h),
+    }
+}
+
+// In the first partition: the coded header.
+fn read(b: &[u8], s: &[u8]) -> Taken
+    ensures { λ r. ⌜ r ≡ codedOf (now (b .entry)) (run header (now (s .entry)) (firstReader (now (s .entry)))) ⌝ }
+{
+    let q = coded(s, open(s));
+    let reader = q.next;
+    let h = q.value;
+    if !valid(s, reader) {
+        return nothing(14);
+    }
+    placed(b, h, reader)
+}
+
+// A key frame's own header.
+pub fn take(bytes: &[u8]) -> Taken
+    ensures { λ r. ⌜ r ≡ takenOf (now (bytes .entry)) ⌝ }
+{
+    let size = size(bytes);
+    let end = 10 + size;
+    let key = good(bytes);
+    let inside = end <= bytes.len();
+    if !key {
+        return nothing(12);
+    }
+    if !inside {
+        return nothing(13);
+    }
+    if size < 2 {
+        return nothing(14);
+    }
+    read(bytes, first(bytes, end))
+}
