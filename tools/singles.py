@@ -1,5 +1,5 @@
 #!/usr/bin/env python3
-"""Makes stdin and stdout of crates/singles: single macroblocks of every mode, and what decoding each must give.
+"""Makes stdin and stdout of crates/try_singles: single macroblocks of every mode, and what decoding each must give.
 
 Independent of the crates: written from RFC 6386 and the scope in Python's own integers. A macroblock is made up, its modes and
 tokens are written by a boolean encoder (section 7.3), and its samples are predicted (section 12), transformed and summed
@@ -415,9 +415,9 @@ def main():
     add([2], 3, (2, 1), plain=True)
     add([8, 9, 7, 4] * 4, 2, (0, 1), cut="modes")
     add([1], 1, (1, 1), cut="tokens")
-    with open("crates/singles/stdin", "wb") as f:
+    with open("crates/try_singles/stdin", "wb") as f:
         f.write(b"".join((x + 32768).to_bytes(2, "big") for x in h) + b"".join(c for c, _ in cases))
-    with open("crates/singles/stdout", "w") as f:
+    with open("crates/try_singles/stdout", "w") as f:
         f.write("".join(line + "\n" for _, line in cases))
     print(len(cases), "cases")
 

@@ -1,5 +1,5 @@
 #!/usr/bin/env python3
-"""Makes stdin and stdout of crates/symbols and crates/counted: byte strings for the reader, and what each must give.
+"""Makes stdin and stdout of crates/try_symbols and crates/try_counted: byte strings for the reader, and what each must give.
 
 Independent of the crates: a boolean encoder and a boolean decoder written from RFC 6386 section 7.3 in
 Python's own integers, the decoder by one shift at a time. Run it in the repository's root; the seed is fixed, so the two
@@ -150,12 +150,12 @@ def main():
               (14, 200, 0, 0), (1, 200, 3, 8), (15, 200, 0, 0), (5, 127, 3, 8), (5, 256, 3, 8), (5, 200, 8, 256), (5, 200, 3, 65536), (5, 200, 3, 12)):
         cases.append(case(3, s, probs(12), 0, g))
     cases.append(case(3, s[:5], [128] * 8, 0, (5, 128, 7, 128)))
-    with open("crates/symbols/stdin", "wb") as f:
+    with open("crates/try_symbols/stdin", "wb") as f:
         f.write(b"".join(c for c, _ in cases))
-    with open("crates/symbols/stdout", "w") as f:
+    with open("crates/try_symbols/stdout", "w") as f:
         f.write("".join(a + "\n" for _, a in cases))
     print(len(cases), "cases")
-    # crates/counted: leaves of the segment tree until the bytes run out
+    # crates/try_counted: leaves of the segment tree until the bytes run out
     s, n = some(500), 0
     r = Reader(s)
     try:
@@ -165,9 +165,9 @@ def main():
             n += 1
     except Missing:
         pass
-    with open("crates/counted/stdin", "wb") as f:
+    with open("crates/try_counted/stdin", "wb") as f:
         f.write(b"\2" + s)
-    with open("crates/counted/stdout", "w") as f:
+    with open("crates/try_counted/stdout", "w") as f:
         f.write(f"{n}\n")
 
 

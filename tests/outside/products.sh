@@ -1,6 +1,6 @@
 #!/usr/bin/env bash
 # No product of the transforms leaves 32 bits: tests/outside/products.sh [ARCHIVE]. Reads the machine code of the functions of
-# `coefficients::transform` in the archive and fails where one multiplies 64 bits, calls a routine that does, or where none is found.
+# crate `transform` in the archive and fails where one multiplies 64 bits, calls a routine that does, or where none is found.
 # A multiplication of 64 bits names a 64-bit register (%rax, %r8, not %eax, %r8d) outside an address, or ends in q; an `lea` is an
 # address or a sum and no multiplication. The vector forms that give products of 64 bits count too.
 set -u
@@ -29,7 +29,7 @@ grep -qE "$wide" $out/product64.txt || { echo "a product of 64 bits was not foun
 
 # The transform in the archive.
 "$dump" -d -C --no-show-raw-insn "$ARCHIVE" 2>/dev/null |
-    awk '/^[0-9a-f]+ <.*>:$/ { on = /coefficients::transform::/; if (on) count++ } on { print } END { print count + 0 " functions" }' >$out/transform.txt
+    awk '/^[0-9a-f]+ <.*>:$/ { on = /<transform::/; if (on) count++ } on { print } END { print count + 0 " functions" }' >$out/transform.txt
 functions=$(tail -n 1 $out/transform.txt | cut -d' ' -f1)
 multiplies <$out/transform.txt >$out/products.txt
 products=$(wc -l <$out/products.txt)

@@ -7,10 +7,11 @@ use lib.Dec.{leb, ltb, eqb}
 use lib.IntN.{ℤ, pos, _-ℤ_}
 use lib.ListN.{length, getD}
 use Rattle.numbers.specs.Lists.{build}
-use Rattle.reader.specs.declared.boolean.Reader.{Reader}
 use Rattle.reader.specs.Boolean.{firstReader}
-use Rattle.picture.specs.Partitions.{partOf}
-use Rattle.picture.specs.Checks.{Tile}
+use Rattle.tile.specs.declared.Span.{Span}
+use Rattle.tile.specs.declared.Tile.{Tile}
+use Rattle.tile.specs.Partitions.{partOf, noSpan}
+use Rattle.picture.specs.Checks.{Call, callOf}
 
 -- ---- numbers of one, two and four bytes
 abbrev pub byteAt : List ℕ → ℕ → ℕ
@@ -57,15 +58,15 @@ unfoldable pub startAt : List ℕ → ℕ → ℕ
 startAt s zero = 2206 + 4 * countOf s
 startAt s (suc i) = startAt s i + lengthAt s i
 
--- what is handed on of the token partitions: eight, and 0 past the count
-unfoldable pub slotOf : ℕ → (ℕ → ℕ) → ℕ → ℕ
-slotOf count f i = elim (ltb i count) [ true ↦ f (i + 1) | false ↦ 0 ]
+abbrev pub partitionAt : List ℕ → ℕ → Span
+partitionAt s i = record { start = startAt s i; len = lengthAt s i }
 
-unfoldable pub startsOf : List ℕ → List ℕ
-startsOf s = build 8 (slotOf (countOf s) (startAt s))
+-- what is handed on of the token partitions: eight, and past the count the empty span
+unfoldable pub slotOf : List ℕ → ℕ → Span
+slotOf s i = elim (ltb i (countOf s)) [ true ↦ partitionAt s (i + 1) | false ↦ noSpan ]
 
-unfoldable pub lengthsOf : List ℕ → List ℕ
-lengthsOf s = build 8 (slotOf (countOf s) (lengthAt s))
+unfoldable pub spansOf : List ℕ → List Span
+spansOf s = build 8 (slotOf s)
 
 -- ---- well-formed: version 1, as long as the file says, no byte missing or left over; at most 64 KiB, and no side over 64
 unfoldable pub wholeOf : List ℕ → Bool
@@ -80,14 +81,13 @@ wellFormed s =
 -- the first partition is opened afresh
 abbrev pub tileOf : List ℕ → Tile
 tileOf s = record {
-  bytes = s;
-  firstStart = startAt s 0;
-  firstLength = lengthAt s 0;
-  reader = firstReader (partOf s (startAt s 0) (lengthAt s 0));
-  starts = startsOf s;
-  lengths = lengthsOf s;
+  first = partitionAt s 0;
+  tokens = spansOf s;
+  reader = firstReader (partOf s (partitionAt s 0));
   count = countOf s;
-  header = headerOf s;
   width = widthOf s;
   height = heightOf s;
 }
+
+abbrev pub givenOf : List ℕ → Call
+givenOf s = callOf s (tileOf s) (headerOf s)

@@ -1,12 +1,12 @@
 -- What a well-formed file has, and the laws of its parts.
-use Prim.Native.Nat.{ℕ, zero, suc, _+_, _*_, _≤_, _<_}
+use Prim.Native.Nat.{ℕ, _+_, _*_, _≤_, _<_}
 use mathlib.Core.Path.{_≡_, refl, _∙_, ap, subst}
 use mathlib.Core.Bool.{true, false, _&&_}
 use mathlib.Core.List.{List}
 use mathlib.Core.Logic.{⊎-elim}
 use native.Mathlib.Omega.{arith}
 use native.Mathlib.Numerals.{add-one}
-use borrow.Author.Tests.{leb-true, eqb-true, le-leb, lt-leb, lt-ltb, le-ltb}
+use borrow.Author.Tests.{leb-true, le-leb, lt-leb, lt-ltb, le-ltb}
 use lib.Dec.{leb, eqb}
 use lib.IntN.{ℤ, pos, negsuc, _-ℤ_}
 use mir.Syntax.{w32}
@@ -15,14 +15,18 @@ use Rattle.numbers.specs.Tests.{lt-or, both-left, both-right}
 use Rattle.numbers.specs.In.{In}
 use Rattle.numbers.specs.Know.{Know, num, plainly, round, wider, know-sub}
 use Rattle.numbers.specs.Hand.{unsigned-below, answered}
-use Rattle.casefile.specs.CaseFile.{byteAt, halfAt, wordAt, signedOf, widthOf, heightOf, countOf, versionOf, restOf, entryAt, lengthAt, startAt, slotOf, wholeOf, wellFormed}
+use Rattle.reader.specs.declared.boolean.Reader.{Reader}
+use Rattle.reader.specs.Boolean.{firstReader}
+use Rattle.tile.specs.declared.Span.{Span}
+use Rattle.tile.specs.declared.Tile.{Tile}
+use Rattle.tile.specs.Partitions.{partOf, noSpan}
+use Rattle.casefile.specs.CaseFile.{byteAt, halfAt, wordAt, signedOf, widthOf, heightOf, countOf, versionOf, restOf, entryAt, lengthAt, startAt, partitionAt, slotOf, spansOf, wholeOf, wellFormed, tileOf}
 
 pub record Formed (s : List ℕ) : Type 0 where
   pub long : 2206 ≤ length s
   pub width : widthOf s ≤ 64
   pub height : heightOf s ≤ 64
   pub room : 2206 + 4 * countOf s ≤ length s
-  pub first : startAt s 0 + lengthAt s 0 ≤ length s
 
 -- ---- where partitions start
 module _ (s : List ℕ) where
@@ -33,12 +37,6 @@ module _ (s : List ℕ) where
   pub start-next : (i : ℕ) → startAt s (i + 1) ≡ startAt s i + lengthAt s i
   unfolding startAt
   start-next i = rw (add-one i)
-
-  -- the first partition ends where the next one starts, or before
-  first-before : (i : ℕ) → startAt s 0 + lengthAt s 0 ≤ startAt s (suc i)
-  unfolding startAt
-  first-before zero = omega arith
-  first-before (suc i) = let h = first-before i in omega arith
 
 -- ---- well-formed
 module _ (s : List ℕ) where
@@ -68,13 +66,11 @@ module _ (s : List ℕ) where
       let b = both-right (leb 2206 (length s)) _ e in
       let w = both-right high (wholeOf s) b in
       let h = both-left high (wholeOf s) b in
-      let t : startAt s (countOf s + 1) ≡ length s = eqb-true _ _ (both-right fields _ w) in
       record {
         long = leb-true 2206 _ (both-left _ _ e);
         width = leb-true _ 64 (both-right plain _ (both-left wide _ h));
         height = leb-true _ 64 (both-right wide _ h);
         room = leb-true _ _ (both-left fields _ w);
-        first = rw (← t, add-one (countOf s)) (first-before s (countOf s));
       }
 
 -- ---- numbers
@@ -110,11 +106,14 @@ pub entry-stored : (s : List ℕ) (i : ℕ) {n : ℕ} {r : ℤ} → (n ≡ halfA
 entry-stored s i {n} p e = answered w32 e (signed-in n (omega arith)) tt .eq ∙ ap signedOf (p .0)
 
 -- ---- what is handed on
-module _ (count : ℕ) (f : ℕ → ℕ) (i : ℕ) where
-  pub slot-past : count ≤ i → 0 ≡ slotOf count f i
+module _ (s : List ℕ) (i : ℕ) where
+  pub slot-past : countOf s ≤ i → noSpan ≡ slotOf s i
   unfolding slotOf
-  slot-past h = rw (le-ltb i count h, slotOf)
+  slot-past h = rw (le-ltb i (countOf s) h, slotOf)
 
-  pub slot-below : i < count → f (i + 1) ≡ slotOf count f i
+  pub slot-below : i < countOf s → partitionAt s (i + 1) ≡ slotOf s i
   unfolding slotOf
-  slot-below h = rw (lt-ltb i count h, slotOf)
+  slot-below h = rw (lt-ltb i (countOf s) h, slotOf)
+
+pub tile-is : (s : List ℕ) {first : Span} {tokens : List Span} {part : List ℕ} {r : Reader} {n w h : ℕ} → first ≡ partitionAt s 0 → tokens ≡ spansOf s → part ≡ partOf s first → r ≡ firstReader part → n ≡ countOf s → w ≡ widthOf s → h ≡ heightOf s → _≡_ {A = Tile} (record { first = first; tokens = tokens; reader = r; count = n; width = w; height = h }) (tileOf s)
+tile-is s a b c d n w h = rw (d, c, a, b, n, w, h)

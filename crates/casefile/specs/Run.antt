@@ -4,24 +4,25 @@ use mathlib.Core.Bool.{true, false, _&&_}
 use mathlib.Core.List.{List}
 use lib.Dec.{leb}
 use lib.ListN.{replicate}
-use Rattle.picture.specs.Memory.{Memory}
-use Rattle.picture.specs.Checks.{blocksOf}
+use Rattle.tile.specs.Checks.{blocksOf}
+use Rattle.lent.specs.Memory.{Memory, memoryOf}
+use Rattle.lent.specs.Records.{columnWidth, modeWidth, strengthWidth}
 use Rattle.picture.specs.Picture.{Ended, numberOf, valuesOf, pictureOf}
 use Rattle.casefile.specs.declared.run.Sums.{Sums}
 use Rattle.casefile.specs.declared.run.Hashes.{Hashes}
 use Rattle.casefile.specs.declared.run.Ran.{Ran}
-use Rattle.casefile.specs.CaseFile.{widthOf, heightOf, wellFormed, tileOf}
+use Rattle.casefile.specs.CaseFile.{widthOf, heightOf, wellFormed, givenOf}
 use Rattle.casefile.specs.Measures.{sumOf, fnvOf}
 
 abbrev pub lentOf : ℕ → ℕ → Memory
-lentOf w h = record {
-  y = replicate (w * h) 165;
-  u = replicate (w / 2 * (h / 2)) 165;
-  v = replicate (w / 2 * (h / 2)) 165;
-  columns = replicate (13 * (w / 16)) 165;
-  modes = replicate (20 * blocksOf w h) 165;
-  strengths = replicate (4 * blocksOf w h) 165;
-}
+lentOf w h =
+    memoryOf
+    (replicate (w * h) 165)
+    (replicate (w / 2 * (h / 2)) 165)
+    (replicate (w / 2 * (h / 2)) 165)
+    (replicate (columnWidth * (w / 16)) 165)
+    (replicate (modeWidth * blocksOf w h) 165)
+    (replicate (strengthWidth * blocksOf w h) 165)
 
 -- the sum of a plane, 0 after 1 to 5
 unfoldable pub sumAfter : ℕ → List ℕ → ℕ
@@ -50,4 +51,4 @@ malformedRan = record {
 }
 
 unfoldable pub ranOf : List ℕ → Ran
-ranOf s = elim (wellFormed s) [ true ↦ reportOf (pictureOf (tileOf s) (lentOf (widthOf s) (heightOf s))) | false ↦ malformedRan ]
+ranOf s = elim (wellFormed s) [ true ↦ reportOf (pictureOf (givenOf s) (lentOf (widthOf s) (heightOf s))) | false ↦ malformedRan ]

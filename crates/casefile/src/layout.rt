@@ -1,9 +1,14 @@
 // The layout of a case file, big-endian: version (1 byte); length of the rest (4); width, height (2 each); count (1); 1096
 // header entries (2 each, signed); the lengths of the first partition and of `count` token partitions (4 each); their bytes.
+use reader::boolean::open;
+use tile::Span;
+use tile::Tile;
+use tile::partitions::part;
 ghost use mathlib.Core.Path.{_≡_};
 ghost use Prim.Native.Nat.{_+_, _*_, _<_, _≤_};
 ghost use lib.ListN.{length};
-ghost use Rattle.casefile.specs.CaseFile.{byteAt, halfAt, wordAt, widthOf, heightOf, countOf, signedOf, headerOf, lengthAt, startAt, startsOf, lengthsOf, slotOf, wholeOf, wellFormed};
+ghost use Rattle.casefile.specs.CaseFile.{byteAt, halfAt, wordAt, widthOf, heightOf, countOf, signedOf, headerOf};
+ghost use Rattle.casefile.specs.CaseFile.{lengthAt, startAt, partitionAt, slotOf, spansOf, wholeOf, wellFormed, tileOf};
 
 fn wide(x: u8) -> usize
     ensures { λ r. ⌜ (r ≡ x) × (r < 256) ⌝ }
@@ -46,7 +51,7 @@ pub(crate) fn height(file: &[u8]) -> usize
     half(file, 7)
 }
 
-pub(crate) fn count(file: &[u8]) -> usize
+fn count(file: &[u8]) -> usize
     requires { ⌜ 2206 ≤ length (now file) ⌝ }
     ensures { λ r. ⌜ (r ≡ countOf (now (file .entry))) × (r < 256) ⌝ }
 {
@@ -79,7 +84,7 @@ pub(crate) fn header(file: &[u8]) -> [i32; 1096]
 }
 
 // The length of partition i: 0 is the first, then the token partitions.
-pub(crate) fn length_at(file: &[u8], i: usize) -> usize
+fn length_at(file: &[u8], i: usize) -> usize
     requires { ⌜ 2206 + 4 * i ≤ length (now file) ⌝ }
     ensures { λ r. ⌜ (r ≡ lengthAt (now (file .entry)) i) × (r < 4294967296) ⌝ }
 {
@@ -87,7 +92,7 @@ pub(crate) fn length_at(file: &[u8], i: usize) -> usize
 }
 
 // Where partition i starts: behind the lengths and the partitions before it.
-pub(crate) fn start_at(file: &[u8], i: usize) -> usize
+fn start_at(file: &[u8], i: usize) -> usize
     requires { ⌜ (2206 + 4 * countOf (now file) ≤ length (now file)) × (i ≤ countOf (now file) + 1) ⌝ }
     ensures { λ r. ⌜ r ≡ startAt (now (file .entry)) i ⌝ }
 {
@@ -127,52 +132,54 @@ pub(crate) fn well_formed(file: &[u8]) -> bool
     (n <= 65536) & (version == 1) & (rest + 5 == n) & (w <= 64) & (h <= 64) & whole(file)
 }
 
-// Where token partition i starts; past the count, 0.
-fn start_below(file: &[u8], n: usize, i: usize) -> usize
-    requires { ⌜ (2206 + 4 * countOf (now file) ≤ length (now file)) × (n ≡ countOf (now file)) × (i < 8) ⌝ }
-    ensures { λ r. ⌜ r ≡ slotOf (countOf (now (file .entry))) (startAt (now (file .entry))) i ⌝ }
+// Partition i as a span of the file.
+fn span_at(file: &[u8], i: usize) -> Span
+    requires { ⌜ (2206 + 4 * countOf (now file) ≤ length (now file)) × (i ≤ countOf (now file)) ⌝ }
+    ensures { λ r. ⌜ r ≡ partitionAt (now (file .entry)) i ⌝ }
 {
-    if n <= i {
-        return 0;
+    Span {
+        start: start_at(file, i),
+        len: length_at(file, i),
     }
-    start_at(file, i + 1)
 }
 
-pub(crate) fn starts(file: &[u8]) -> [usize; 8]
-    requires { ⌜ 2206 + 4 * countOf (now file) ≤ length (now file) ⌝ }
-    ensures { λ r. ⌜ r ≡ startsOf (now (file .entry)) ⌝ }
+// Token partition i of the n; past them, the empty span.
+fn slot(file: &[u8], n: usize, i: usize) -> Span
+    requires { ⌜ (2206 + 4 * countOf (now file) ≤ length (now file)) × (n ≡ countOf (now file)) × (i < 8) ⌝ }
+    ensures { λ r. ⌜ r ≡ slotOf (now (file .entry)) i ⌝ }
 {
-    let mut all = [0; 8];
+    if n <= i {
+        return Span { start: 0, len: 0 };
+    }
+    span_at(file, i + 1)
+}
+
+fn spans(file: &[u8]) -> [Span; 8]
+    requires { ⌜ 2206 + 4 * countOf (now file) ≤ length (now file) ⌝ }
+    ensures { λ r. ⌜ r ≡ spansOf (now (file .entry)) ⌝ }
+{
+    let mut all = [Span { start: 0, len: 0 }; 8];
     let n = count(file);
     let mut i = 0;
     while i < 8 {
-        all[i] = start_below(file, n, i);
+        all[i] = slot(file, n, i);
         i = i + 1;
     }
     all
 }
 
-// The length of token partition i; past the count, 0.
-fn length_below(file: &[u8], n: usize, i: usize) -> usize
-    requires { ⌜ (2206 + 4 * countOf (now file) ≤ length (now file)) × (n ≡ countOf (now file)) × (i < 8) ⌝ }
-    ensures { λ r. ⌜ r ≡ slotOf (countOf (now (file .entry))) (lengthAt (now (file .entry))) i ⌝ }
-{
-    if n <= i {
-        return 0;
-    }
-    length_at(file, i + 1)
-}
-
-pub(crate) fn lengths(file: &[u8]) -> [usize; 8]
+// The tile, with the first partition opened afresh.
+pub(crate) fn tile_of(file: &[u8]) -> Tile
     requires { ⌜ 2206 + 4 * countOf (now file) ≤ length (now file) ⌝ }
-    ensures { λ r. ⌜ r ≡ lengthsOf (now (file .entry)) ⌝ }
+    ensures { λ r. ⌜ r ≡ tileOf (now (file .entry)) ⌝ }
 {
-    let mut all = [0; 8];
-    let n = count(file);
-    let mut i = 0;
-    while i < 8 {
-        all[i] = length_below(file, n, i);
-        i = i + 1;
+    let first = span_at(file, 0);
+    Tile {
+        first: first,
+        tokens: spans(file),
+        reader: open(part(file, first)),
+        count: count(file),
+        width: width(file),
+        height: height(file),
     }
-    all
 }

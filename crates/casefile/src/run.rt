@@ -1,24 +1,22 @@
 // A case file run through the picture call, over memory whose every byte was 165.
-use crate::layout::count;
 use crate::layout::header;
 use crate::layout::height;
-use crate::layout::length_at;
-use crate::layout::lengths;
-use crate::layout::start_at;
-use crate::layout::starts;
+use crate::layout::tile_of;
 use crate::layout::well_formed;
 use crate::layout::width;
 use crate::measures::hash;
 use crate::measures::sum;
+use lent::columns::COLUMN_WIDTH;
+use lent::macroblocks::MODE_WIDTH;
+use lent::macroblocks::STRENGTH_WIDTH;
 use picture::decode;
 use picture::rows::Decoded;
-use reader::boolean::Reader;
-use reader::boolean::open;
 ghost use mathlib.Core.Path.{_≡_};
-ghost use Prim.Native.Nat.{_+_, _*_, _/_, _<_, _≤_};
+ghost use Prim.Native.Nat.{_*_, _≤_};
 ghost use lib.ListN.{length, replicate};
-ghost use Rattle.picture.specs.Picture.{Ended, pictureOf};
-ghost use Rattle.casefile.specs.CaseFile.{widthOf, heightOf, tileOf};
+ghost use Rattle.lent.specs.Memory.{memoryOf};
+ghost use Rattle.picture.specs.Picture.{endedOf, pictureOf};
+ghost use Rattle.casefile.specs.CaseFile.{widthOf, heightOf, givenOf};
 ghost use Rattle.casefile.specs.CaseFileLaws.{Formed};
 ghost use Rattle.casefile.specs.Run.{lentOf, sumAfter, reportOf, malformedRan, ranOf};
 
@@ -84,7 +82,9 @@ fn report(
     strengths: &[u8],
 ) -> Ran
     requires { ⌜ (length (now y) ≤ 4096) × (length (now u) ≤ 4096) × (length (now v) ≤ 4096) ⌝ }
-    ensures { λ r. ⌜ r ≡ reportOf (record { answer = d; mem = record { y = now (y .entry); u = now (u .entry); v = now (v .entry); columns = now (columns .entry); modes = now (modes .entry); strengths = now (strengths .entry) } }) ⌝ }
+    ensures { λ r. ⌜ r ≡ reportOf (endedOf d
+        (memoryOf (now (y .entry)) (now (u .entry)) (now (v .entry))
+        (now (columns .entry)) (now (modes .entry)) (now (strengths .entry)))) ⌝ }
 {
     let number = d.number();
     Ran {
@@ -117,31 +117,15 @@ fn through(
     strengths: &mut [u8],
 ) -> Decoded
     requires { ⌜ Formed (now file) ⌝ }
-    ensures { λ q. ⌜ _≡_ {A = Ended} (record { answer = q; mem = record { y = now (y .exit); u = now (u .exit); v = now (v .exit); columns = now (columns .exit); modes = now (modes .exit); strengths = now (strengths .exit) } })
-        (pictureOf (tileOf (now (file .entry))) (record { y = now (y .entry); u = now (u .entry); v = now (v .entry); columns = now (columns .entry); modes = now (modes .entry); strengths = now (strengths .entry) })) ⌝ }
+    ensures { λ q. ⌜ endedOf q
+        (memoryOf (now (y .exit)) (now (u .exit)) (now (v .exit))
+        (now (columns .exit)) (now (modes .exit)) (now (strengths .exit)))
+        ≡ pictureOf (givenOf (now (file .entry)))
+        (memoryOf (now (y .entry)) (now (u .entry)) (now (v .entry))
+        (now (columns .entry)) (now (modes .entry)) (now (strengths .entry))) ⌝ }
 {
     let h = header(file);
-    let from = start_at(file, 0);
-    let len = length_at(file, 0);
-    let to = from + len;
-    decode(
-        file,
-        from,
-        len,
-        starts(file),
-        lengths(file),
-        open(&file[from..to]),
-        count(file),
-        &h,
-        width(file),
-        height(file),
-        y,
-        u,
-        v,
-        columns,
-        modes,
-        strengths,
-    )
+    decode(file, tile_of(file), &h, y, u, v, columns, modes, strengths)
 }
 
 // The picture call and what is told of it.
@@ -156,7 +140,9 @@ fn told(
 ) -> Ran
     requires { ⌜ Formed (now file) ⌝ }
     requires { ⌜ (length (now y) ≤ 4096) × (length (now u) ≤ 4096) × (length (now v) ≤ 4096) ⌝ }
-    ensures { λ r. ⌜ r ≡ reportOf (pictureOf (tileOf (now (file .entry))) (record { y = now (y .entry); u = now (u .entry); v = now (v .entry); columns = now (columns .entry); modes = now (modes .entry); strengths = now (strengths .entry) })) ⌝ }
+    ensures { λ r. ⌜ r ≡ reportOf (pictureOf (givenOf (now (file .entry)))
+        (memoryOf (now (y .entry)) (now (u .entry)) (now (v .entry))
+        (now (columns .entry)) (now (modes .entry)) (now (strengths .entry)))) ⌝ }
 {
     let d = through(
         file,
@@ -201,14 +187,14 @@ fn area(w: usize, h: usize, top: usize) -> usize
 fn lent(file: &[u8], w: usize, h: usize) -> Ran
     requires { ⌜ Formed (now file) ⌝ }
     requires { ⌜ (w ≡ widthOf (now file)) × (h ≡ heightOf (now file)) ⌝ }
-    ensures { λ r. ⌜ r ≡ reportOf (pictureOf (tileOf (now (file .entry))) (lentOf w h)) ⌝ }
+    ensures { λ r. ⌜ r ≡ reportOf (pictureOf (givenOf (now (file .entry))) (lentOf w h)) ⌝ }
 {
     let large = area(w, h, 64);
     let small = area(w / 2, h / 2, 32);
     let blocks = area(w / 16, h / 16, 4);
-    let across = 13 * (w / 16);
-    let twenty = 20 * blocks;
-    let four = 4 * blocks;
+    let column_bytes = COLUMN_WIDTH * (w / 16);
+    let mode_bytes = MODE_WIDTH * blocks;
+    let strength_bytes = STRENGTH_WIDTH * blocks;
     let mut y = luma();
     let mut u = chroma();
     let mut v = chroma();
@@ -220,9 +206,9 @@ fn lent(file: &[u8], w: usize, h: usize) -> Ran
         &mut y[..large],
         &mut u[..small],
         &mut v[..small],
-        &mut columns[..across],
-        &mut modes[..twenty],
-        &mut strengths[..four],
+        &mut columns[..column_bytes],
+        &mut modes[..mode_bytes],
+        &mut strengths[..strength_bytes],
     )
 }
 

@@ -2,8 +2,3 @@
 pub mod Tokens
 pub mod TokenSteps
 pub mod TokenLaws
--- the two inverse transforms: definitions, how far their numbers go, laws that callers cite, and the source's own definitions
-pub mod Transform
-pub mod TransformBounds
-pub mod TransformLaws
-pub mod TransformSource

@@ -3,7 +3,7 @@ use Prim.Native.Nat.{ℕ, zero, suc, _+_, _-_, _*_, _≤_, _<_, _^_}
 use native.Mathlib.Omega.{arith}
 use mathlib.Core.Bool.{Bool, true, false, _&&_}
 use mathlib.Core.List.{List, []}
-use mathlib.Core.Logic.{inl, inr, ⊎-elim}
+use mathlib.Core.Logic.{_⊎_, inl, inr, ⊎-elim}
 use mathlib.Core.Path.{_≡_, refl, sym, _∙_, ap}
 use lib.Dec.{ltb, leb, lit<}
 use lib.IntN.{ℤ, pos, negsuc}
@@ -14,12 +14,13 @@ use Rattle.numbers.specs.In.{In, Each}
 use Rattle.numbers.specs.Lists.{length-build, getD-build}
 use Rattle.numbers.specs.Parts.{le-true}
 use Rattle.numbers.specs.Tables.{allOf, allBelow, all-of-any, all-below}
-use Rattle.numbers.specs.Tests.{lt-or, eq-or, both-left, both-right, both-true}
+use Rattle.numbers.specs.Tests.{lt-or, eq-or, not-first, both-left, both-right, both-true}
 use Rattle.numbers.specs.WrapLaws.{wrap-in}
 use Rattle.reader.specs.Boolean.{Given, given, missing, validOf}
 use Rattle.reader.specs.BooleanLaws.{Bytes, Valid, valid-test}
-use Rattle.reader.specs.Header.{entry, probabilityOf}
-use Rattle.reader.specs.HeaderLaws.{probability-below}
+use Rattle.header.specs.Entries.{coefficientProbability, entryCount}
+use Rattle.header.specs.Header.{entry, probabilityOf}
+use Rattle.header.specs.HeaderLaws.{probability-below}
 use Rattle.reader.specs.Extra.{toNumber}
 use Rattle.reader.specs.ExtraLaws.{extra-within, fromNumber}
 use Rattle.reader.specs.Reading.{run, Within, ends}
@@ -212,29 +213,40 @@ pub length-header : (h : List ℤ) → length (headerTable h) ≡ 1056
 unfolding headerTable
 length-header h = length-build 1056 _
 
-pub header-at : (h : List ℤ) (i : ℕ) → i < 1056 → getD (headerTable h) i 0 ≡ probabilityOf (entry h (38 + i))
+pub header-at : (h : List ℤ) (i : ℕ) → i < 1056 → getD (headerTable h) i 0 ≡ probabilityOf (entry h (coefficientProbability + i))
 unfolding headerTable
 header-at h i l = getD-build 1056 _ i 0 l
 
 pub header-bytes : (h : List ℤ) → Bytes (headerTable h)
 header-bytes h i =
     ⊎-elim
-    (λ (l : i < 1056). rw (header-at h i l) (probability-below (entry h (38 + i))))
+    (λ (l : i < 1056). rw (header-at h i l) (probability-below (entry h (coefficientProbability + i))))
     (λ (l : 1056 ≤ i). rw (List·getD-eq-default (headerTable h) 0 {n = i} (rw (length-header h) l)) (lit< tt))
     (lt-or i 1056)
 
--- the eleven probabilities of a position are the header's, from entry 38 + ((kind * 8 + band) * 3 + ctx) * 11 on
-pub header-probability : (h : List ℤ) (kind n ctx j : ℕ) → kind < 4 → ctx < 3 → j < 11 → getD (probabilitiesAt (headerTable h) kind n ctx) j 0 ≡ probabilityOf (entry h (38 + (placeOf kind n ctx + j)))
+-- the eleven probabilities of a position are the header's, from entry coefficientProbability + ((kind * 8 + band) * 3 + ctx) * 11 on
+pub header-probability : (h : List ℤ) (kind n ctx j : ℕ) → kind < 4 → ctx < 3 → j < 11 → getD (probabilitiesAt (headerTable h) kind n ctx) j 0 ≡ probabilityOf (entry h (coefficientProbability + (placeOf kind n ctx + j)))
 header-probability h kind n ctx j k c l = eleven-at (headerTable h) (placeOf kind n ctx) j l ∙ header-at h (placeOf kind n ctx + j) (omega (arith, place-below kind n ctx k c))
 
 -- what the table of an answer is
 module _ (h : List ℤ) {x : Table} (e : x ≡ tableOf h) where
-  pub table-taken : x .answer ≡ H.Done → (length h ≡ 1096) × (x .bytes ≡ headerTable h)
+  pub table-taken : x .answer ≡ H.Done → (length h ≡ entryCount) × (x .bytes ≡ headerTable h)
   table-taken f =
-      elim (eq-or (length h) 1096) [
+      elim (eq-or (length h) entryCount) [
         | inl k ↦ let g : x ≡ record { answer = H.Done; bytes = headerTable h } = e ∙ sym (table-done h k refl) in (k, ap (λ (y : Table). y .bytes) g)
         | inr k ↦ let g : x .answer ≡ H.Refused = ap (λ (y : Table). y .answer) (e ∙ sym (table-refused h k)) in absurd (let z : _≡_ {A = ℕ} 0 1 = cc in omega arith)
       ]
 
-  pub table-not : x .answer ≡ H.Refused → length h ≡ 1096 → ⊥
+  pub table-not : x .answer ≡ H.Refused → length h ≡ entryCount → ⊥
   table-not f k = let g : x .answer ≡ H.Done = ap (λ (y : Table). y .answer) (e ∙ sym (table-done h k refl)) in let z : _≡_ {A = ℕ} 0 1 = cc in omega arith
+
+-- ---- for `let .. else`: every answer but the one taken apart says that a byte is missing
+pub not-signed : (tag : Signed → ℕ) → ((v : ℤ) (r : Reader) → tag (G.Value v r) ≡ 0) → (x : Signed) → (tag x ≡ 1) ⊎ (tag x ≡ 2) → fromSigned x ≡ missing
+not-signed tag z (G.Value v r) e = absurd (not-first e (z v r))
+not-signed tag z G.Missing e = refl
+not-signed tag z G.Refused e = refl
+
+pub not-ended : (tag : Block → ℕ) → ((n : ℕ) (r : Reader) → tag (K.Ended n r) ≡ 0) → (l : List ℤ) (x : Block) → (tag x ≡ 1) ⊎ (tag x ≡ 2) → fromBlock l x ≡ missing
+not-ended tag z l (K.Ended n r) e = absurd (not-first e (z n r))
+not-ended tag z l K.Missing e = refl
+not-ended tag z l K.Refused e = refl

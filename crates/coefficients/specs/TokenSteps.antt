@@ -14,6 +14,7 @@ use borrow.Author.Tests.{ltb-true, leb-true, eqb-true, lt-ltb, eq-eqb, ne-eqb}
 use Rattle.numbers.specs.Tables.{all-of-any}
 use Rattle.numbers.specs.Tests.{both-left, both-right, both-true, both-false}
 use Rattle.numbers.specs.Wrap.{wrapZ}
+use Rattle.header.specs.Entries.{entryCount}
 use Rattle.reader.specs.Boolean.{given, missing, validOf}
 use Rattle.reader.specs.Extra.{extra, toNumber}
 use Rattle.reader.specs.Reading.{done, symbol, run}
@@ -164,19 +165,19 @@ module _ (s : List ℕ) (r : Reader) (table : List ℕ) (kind ctx first q0 q1 : 
   decode-values e = decode-refused (both-false (validOf s r) (both-false (argumentsOf table kind ctx first) e))
 
 -- ---- with a header
-pub table-refused : (h : List ℤ) → (length h ≡ 1096 → ⊥) → record { answer = H.Refused; bytes = replicate 1056 0 } ≡ tableOf h
+pub table-refused : (h : List ℤ) → (length h ≡ entryCount → ⊥) → record { answer = H.Refused; bytes = replicate 1056 0 } ≡ tableOf h
 unfolding tableOf
 table-refused h f = rw (ne-eqb _ _ f, tableOf)
 
-pub table-done : (h : List ℤ) {l : List ℕ} → length h ≡ 1096 → l ≡ headerTable h → record { answer = H.Done; bytes = l } ≡ tableOf h
+pub table-done : (h : List ℤ) {l : List ℕ} → length h ≡ entryCount → l ≡ headerTable h → record { answer = H.Done; bytes = l } ≡ tableOf h
 unfolding tableOf
 table-done h e f = rw (f, eq-eqb _ _ e, tableOf)
 
 module _ (s : List ℕ) (r : Reader) (h : List ℤ) (kind ctx first q0 q1 : ℕ) (old : List ℤ) where
-  pub header-good : length h ≡ 1096 → {l : List ℕ} → l ≡ headerTable h → decodeOf s r l kind ctx first q0 q1 old ≡ decodeHeaderOf s r h kind ctx first q0 q1 old
+  pub header-good : length h ≡ entryCount → {l : List ℕ} → l ≡ headerTable h → decodeOf s r l kind ctx first q0 q1 old ≡ decodeHeaderOf s r h kind ctx first q0 q1 old
   unfolding decodeHeaderOf
   header-good e f = rw (f, eq-eqb _ _ e, decodeHeaderOf)
 
-  pub header-refused : (length h ≡ 1096 → ⊥) → refusedBlock old ≡ decodeHeaderOf s r h kind ctx first q0 q1 old
+  pub header-refused : (length h ≡ entryCount → ⊥) → refusedBlock old ≡ decodeHeaderOf s r h kind ctx first q0 q1 old
   unfolding decodeHeaderOf
   header-refused f = rw (ne-eqb _ _ f, decodeHeaderOf)

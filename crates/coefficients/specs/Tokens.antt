@@ -10,7 +10,8 @@ use Rattle.numbers.specs.Lists.{build}
 use Rattle.numbers.specs.Wrap.{wrapZ}
 use Rattle.reader.specs.Boolean.{Given, given, missing, validOf, noReader}
 use Rattle.reader.specs.Extra.{extra, toNumber}
-use Rattle.reader.specs.Header.{entry, probabilityOf}
+use Rattle.header.specs.Entries.{coefficientProbability, entryCount}
+use Rattle.header.specs.Header.{entry, probabilityOf}
 use Rattle.reader.specs.Reading.{Reading, done, symbol, run, _>>=_}
 use Rattle.reader.specs.Token.{token, elevenAt}
 use Rattle.reader.specs.declared.boolean.Reader.{Reader}
@@ -110,9 +111,9 @@ module _ (table : List ℕ) (kind q0 q1 : ℕ) where
   abbrev pub block : ℕ → ℕ → List ℤ → Reading Coefficients
   block ctx first values = blockFrom (16 - first) first ctx false values
 
--- ---- the header's 1056 probabilities, from entry 38 on, as bytes: each modulo 256
+-- ---- the header's 1056 probabilities as bytes: each entry modulo 256
 unfoldable pub headerTable : List ℤ → List ℕ
-headerTable h = build 1056 (λ i. probabilityOf (entry h (38 + i)))
+headerTable h = build 1056 (λ i. probabilityOf (entry h (coefficientProbability + i)))
 
 -- ---- the calls' answers
 abbrev pub toSigned : Given ℤ → Signed
@@ -169,18 +170,18 @@ module _ (s : List ℕ) (r : Reader) where
         | false ↦ refusedBlock old
       ]
 
-  -- `decode_header`: refused too where the header's length is not 1096
+  -- `decode_header`: refused too where the header's length is not its own
   unfoldable pub decodeHeaderOf : List ℤ → ℕ → ℕ → ℕ → ℕ → ℕ → List ℤ → Called
   decodeHeaderOf h kind ctx first q0 q1 old =
-      elim (eqb (length h) 1096) [
+      elim (eqb (length h) entryCount) [
         | true ↦ decodeOf (headerTable h) kind ctx first q0 q1 old
         | false ↦ refusedBlock old
       ]
 
--- `probabilities`: refused where the header's length is not 1096
+-- `probabilities`: refused where the header's length is not its own
 unfoldable pub tableOf : List ℤ → Table
 tableOf h =
-    elim (eqb (length h) 1096) [
+    elim (eqb (length h) entryCount) [
       | true ↦ record { answer = H.Done; bytes = headerTable h }
       | false ↦ record { answer = H.Refused; bytes = replicate 1056 0 }
     ]

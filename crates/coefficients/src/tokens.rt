@@ -1,5 +1,8 @@
 // The coefficients of a block: tokens, the numbers and signs that follow them, where they stand and what they are multiplied by
 // (RFC 6386, sections 13 and 14.1). A token itself is `reader::token::walk_token`.
+use header::entries::COEFFICIENT_PROBABILITY;
+use header::entries::ENTRY_COUNT;
+use header::entries::probability;
 use numbers::Wrapped;
 use numbers::wrap16;
 use reader::boolean::Reader;
@@ -7,7 +10,6 @@ use reader::boolean::Symbol;
 use reader::boolean::valid;
 use reader::extra::Number;
 use reader::extra::extra_bits;
-use reader::header::probability;
 use reader::token::Token;
 use reader::token::walk_token;
 ghost use mathlib.Core.Path.{_≡_};
@@ -19,7 +21,9 @@ ghost use Rattle.numbers.specs.Wrap.{wrapZ};
 ghost use Rattle.reader.specs.BooleanLaws.{Valid};
 ghost use Rattle.reader.specs.Reading.{run};
 ghost use Rattle.reader.specs.Extra.{toNumber};
-ghost use Rattle.coefficients.specs.Tokens.{category, signOf, bands, zigzag, placeOf, quantizerAt, contextAfter, magnitudeOf, signedOf, numericOf, numberAnswer, signedAnswer, blockOf, smallOf, argumentsOf, decodeOf, decodeHeaderOf, tableOf};
+ghost use Rattle.coefficients.specs.Tokens.{category, signOf, bands, zigzag, placeOf, quantizerAt, contextAfter, magnitudeOf};
+ghost use Rattle.coefficients.specs.Tokens.{signedOf, numericOf, numberAnswer, signedAnswer, blockOf, smallOf, argumentsOf, decodeOf};
+ghost use Rattle.coefficients.specs.Tokens.{decodeHeaderOf, tableOf};
 
 // The band of a position, and where its number stands in the block.
 const BANDS: [u8; 16] = [0, 1, 2, 3, 6, 4, 5, 6, 6, 6, 6, 6, 6, 6, 6, 7];
@@ -188,7 +192,8 @@ pub(crate) fn read_block(
 ) -> Block
     requires { ⌜ Valid (now s) r ⌝ }
     requires { ⌜ (length (now table) ≡ 1056) × ((kind < 4) × ((ctx < 3) × (first ≤ 1))) ⌝ }
-    ensures { λ a. ⌜ record { answer = a; out = now (out .exit) } ≡ blockOf (now (s .entry)) r (now (table .entry)) kind ctx first q0 q1 (now (out .entry)) ⌝ }
+    ensures { λ a. ⌜ record { answer = a; out = now (out .exit) }
+        ≡ blockOf (now (s .entry)) r (now (table .entry)) kind ctx first q0 q1 (now (out .entry)) ⌝ }
 {
     let bands = BANDS;
     let zigzag = ZIGZAG;
@@ -293,7 +298,8 @@ pub fn decode(
     q1: u16,
     out: &mut [i32; 16],
 ) -> Block
-    ensures { λ a. ⌜ record { answer = a; out = now (out .exit) } ≡ decodeOf (now (s .entry)) r (now (table .entry)) kind ctx first q0 q1 (now (out .entry)) ⌝ }
+    ensures { λ a. ⌜ record { answer = a; out = now (out .exit) }
+        ≡ decodeOf (now (s .entry)) r (now (table .entry)) kind ctx first q0 q1 (now (out .entry)) ⌝ }
 {
     if !valid(s, r) {
         return Block::Refused;
@@ -307,12 +313,12 @@ pub fn decode(
     read_block(s, r, table, kind, ctx, first, q0, q1, out)
 }
 
-// The probabilities of a header of 1096 entries, once for every block of a picture.
+// The probabilities of a header, once for every block of a picture.
 pub fn probabilities(h: &[i32]) -> Table
     ensures { λ r. ⌜ r ≡ tableOf (now (h .entry)) ⌝ }
 {
     let mut bytes = [0u8; 1056];
-    if h.len() != 1096 {
+    if h.len() != ENTRY_COUNT {
         return Table {
             answer: Taken::Refused,
             bytes: bytes,
@@ -320,7 +326,7 @@ pub fn probabilities(h: &[i32]) -> Table
     }
     let mut i = 0;
     while i < 1056 {
-        bytes[i] = probability(h[38 + i]);
+        bytes[i] = probability(h[COEFFICIENT_PROBABILITY + i]);
         i = i + 1;
     }
     Table {
@@ -341,7 +347,8 @@ pub fn decode_header(
     q1: u16,
     out: &mut [i32; 16],
 ) -> Block
-    ensures { λ a. ⌜ record { answer = a; out = now (out .exit) } ≡ decodeHeaderOf (now (s .entry)) r (now (h .entry)) kind ctx first q0 q1 (now (out .entry)) ⌝ }
+    ensures { λ a. ⌜ record { answer = a; out = now (out .exit) }
+        ≡ decodeHeaderOf (now (s .entry)) r (now (h .entry)) kind ctx first q0 q1 (now (out .entry)) ⌝ }
 {
     let t = probabilities(h);
     let answer = t.answer;

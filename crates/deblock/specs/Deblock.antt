@@ -5,7 +5,7 @@
 --     p3 p2 p1 p0 | q0 q1 q2 q3
 --
 -- from left to right over a vertical edge and from top to bottom over a horizontal one.
-use Prim.Native.Nat.{ℕ, zero, suc, _+_, _-_, _*_, _/_, _%_, _≤_}
+use Prim.Native.Nat.{ℕ, zero, suc, _+_, _-_, _*_, _/_, _%_}
 use mathlib.Core.Path.{_≡_}
 use mathlib.Core.Bool.{Bool, true, false, cond, not, _&&_}
 use mathlib.Core.List.{List}
@@ -15,7 +15,9 @@ use Rattle.numbers.specs.Lists.{build}
 use Rattle.numbers.specs.Tables.{allBelow}
 use Rattle.filter.specs.Kernel.{filterOf}
 use Rattle.filter.specs.declared.strengths.Strength.{Strength}
-use Rattle.macroblock.specs.StrengthRecords.{strengthAt}
+use Rattle.lent.specs.Records.{recordsIn, strengthWidth, strengthAt}
+use Rattle.lent.specs.Sizes.{lumaFine, chromaFine, strengthsFine}
+use Rattle.tile.specs.Checks.{sidesOf, blocksOf}
 use Rattle.macroblock.specs.Macroblock.{Planes}
 use Rattle.deblock.specs.declared.edges.Edge.{Edge}
 use Rattle.deblock.specs.declared.Deblocked.{Deblocked}
@@ -108,35 +110,26 @@ planesDeblocked simple strengths wide high m = record {
 }
 
 -- ---- the call
--- 1: width and height, each a multiple of 16 in 16..16384
-unfoldable pub sideOf : ℕ → Bool
-sideOf n = leb 16 n && leb n 16384 && eqb (n % 16) 0
-
--- as a fact
-pub record Side (n : ℕ) : Type 0 where
-  pub least : 16 ≤ n
-  pub most : n ≤ 16384
-  pub whole : n % 16 ≡ 0
-
+-- 1: the sides: `sidesOf` of crate tile
 -- 4: the lengths of what is lent
 unfoldable pub lengthsOf : (w h y u v strengths : ℕ) → Bool
-lengthsOf w h y u v strengths = eqb y (w * h) && eqb u (w / 2 * (h / 2)) && eqb v (w / 2 * (h / 2)) && eqb strengths (4 * (w / 16 * (h / 16)))
+lengthsOf w h y u v strengths = lumaFine w h y && chromaFine w h u && chromaFine w h v && strengthsFine w h strengths
 
 -- as a fact
 pub record Lengths (w h y u v s : ℕ) : Type 0 where
   pub luma : y ≡ w * h
   pub blue : u ≡ w / 2 * (h / 2)
   pub red : v ≡ w / 2 * (h / 2)
-  pub records : s ≡ 4 * (w / 16 * (h / 16))
+  pub records : s ≡ strengthWidth * blocksOf w h
 
 -- 11: every limit at most 189
 unfoldable pub limitsOf : List ℕ → Bool
-limitsOf strengths = allBelow (length strengths / 4) (λ k. leb (strengthAt strengths k .limit) 189)
+limitsOf strengths = allBelow (recordsIn strengthWidth strengths) (λ k. leb (strengthAt strengths k .limit) 189)
 
 -- the number of the first check that fails, 0 where none does
 unfoldable pub refusalOf : (w h y u v : ℕ) (strengths : List ℕ) → ℕ
 refusalOf w h y u v strengths =
-    cond (sideOf w && sideOf h) (cond (lengthsOf w h y u v (length strengths)) (cond (limitsOf strengths) 0 11) 4) 1
+    cond (sidesOf w h) (cond (lengthsOf w h y u v (length strengths)) (cond (limitsOf strengths) 0 11) 4) 1
 
 -- what the call answers, and the planes after it
 pub record Outcome : Type 0 where

@@ -1,32 +1,27 @@
 -- Laws of deblocking that the proofs of the code cite: changes one after the other, and what one position does.
 use Prim.Native.Nat.{ℕ, zero, suc, _+_, _-_, _*_, _/_, _%_, _≤_, _<_}
 use mathlib.Core.Path.{_≡_, refl, sym, _∙_, ap}
-use mathlib.Core.Bool.{Bool, true, false, not, _&&_}
+use mathlib.Core.Bool.{Bool, true, false, not}
 use mathlib.Core.List.{List, [], _∷_}
 use mathlib.Core.Logic.{inl, inr}
 use native.Mathlib.Omega.{arith}
 use native.Mathlib.Numerals.{add-one}
-use native.Mathlib.Nat.{mul-le-mul-right, suc-mul, one-mul}
+use native.Mathlib.Nat.{mul-le-mul-right, suc-mul}
 use lib.Dec.{eqb}
 use borrow.Author.Tests.{eqb-false, eq-eqb, ne-eqb}
 use lib.IntN.{ℤ, pos, _+ℤ_}
 use Rattle.filter.specs.declared.strengths.Strength.{Strength}
-use Rattle.macroblock.specs.StrengthRecords.{strengthAt}
+use Rattle.lent.specs.Records.{strengthAt}
 use lib.ListN.{length, getD, set, length-set}
 use lib.Seq.{getD-set-same, getD-set-other, set-getD}
 use Rattle.numbers.specs.Tests.{lt-or, never}
 use Rattle.numbers.specs.Clamp.{clipZ}
-use Rattle.numbers.specs.Tables.{allBelow}
 use Rattle.numbers.specs.Lists.{build, _∷≡_, length-build, getD-build, getD-build-past}
 use Rattle.filter.specs.declared.answers.Rule.{Rule}
 use Rattle.filter.specs.Kernel.{samplesOf, ruleOf, stepsOf, movedOf, filterOf}
 use Rattle.filter.specs.KernelLaws.{Bytes, clip-still, outermost-stay}
 use Rattle.deblock.specs.declared.edges.Edge.{Edge}
 use Rattle.deblock.specs.Deblock.{Change, turns, when, acrossOf, laidOf, keptOf, positionOf, sweepOf, verticalOf, horizontalOf, verticalsOf, horizontalsOf, outerEdge, innerEdge, squareOf, blockOf, rasterOf}
-
--- ---- a test of every number below k
-pub all-next : (f : ℕ → Bool) (k : ℕ) {b : Bool} → b ≡ allBelow k f → f k && b ≡ allBelow (k + 1) f
-all-next f k e = rw (e, add-one)
 
 -- ---- changes one after the other
 pub turns-none : (f : ℕ → Change) (p : List ℕ) → turns f 0 p ≡ p

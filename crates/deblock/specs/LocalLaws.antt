@@ -14,7 +14,7 @@ use lib.Seq.{getD-set-same, getD-set-other, set-out}
 use Rattle.numbers.specs.Tests.{lt-or, eq-or}
 use Rattle.numbers.specs.Lists.{build-same}
 use Rattle.filter.specs.declared.strengths.Strength.{Strength}
-use Rattle.macroblock.specs.StrengthRecords.{strengthAt}
+use Rattle.lent.specs.Records.{strengthAt}
 use Rattle.planes.specs.Predict.{Size}
 use Rattle.planes.specs.Places.{size-some, next-row}
 use Rattle.deblock.specs.declared.edges.Edge.{Edge}

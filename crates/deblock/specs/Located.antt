@@ -5,7 +5,7 @@ use mathlib.Core.List.{List}
 use native.Mathlib.Nat.{add-mul, one-mul, mul-comm, mul-le-mul-right, mod-lt, div-lt-iff-lt-mul}
 use native.Mathlib.Omega.{arith}
 use lib.ListN.{length}
-use Rattle.macroblock.specs.StrengthRecords.{strengthAt}
+use Rattle.lent.specs.Records.{strengthWidth, strengthAt}
 use Rattle.planes.specs.Predict.{Size}
 use Rattle.planes.specs.Places.{Square, by-size}
 
@@ -36,7 +36,7 @@ pub record Grid (len n wide high : ℕ) : Type 0 where
 -- the same with strengths for each
 pub record Whole (len n wide high : ℕ) (strengths : List ℕ) : Type 0 where
   pub grid : Grid len n wide high
-  pub long : length strengths ≡ 4 * (wide * high)
+  pub long : length strengths ≡ strengthWidth * (wide * high)
   pub limits : (k : ℕ) → k < wide * high → strengthAt strengths k .limit ≤ 189
 
 pub size-eight : {n : ℕ} → Size n → (8 ≤ n) × (n ≤ 16)

@@ -2,28 +2,15 @@
 use crate::edges::Edge;
 use crate::edges::sweep;
 use filter::strengths::Strength;
+use lent::macroblocks::read_strength;
 ghost use mathlib.Core.Path.{_≡_};
-ghost use Prim.Native.Nat.{_*_, _/_, _<_, _≤_};
+ghost use Prim.Native.Nat.{_*_, _≤_};
 ghost use lib.ListN.{length};
-ghost use Rattle.macroblock.specs.StrengthRecords.{strengthAt};
 ghost use Rattle.planes.specs.Predict.{Size};
 ghost use Rattle.planes.specs.Places.{Square};
-ghost use Rattle.deblock.specs.Deblock.{outerEdge, innerEdge, verticalOf, horizontalOf, verticalsOf, horizontalsOf, squareOf, rasterOf};
+ghost use Rattle.deblock.specs.Deblock.{outerEdge, innerEdge, verticalOf, horizontalOf, verticalsOf, horizontalsOf, squareOf};
+ghost use Rattle.deblock.specs.Deblock.{rasterOf};
 ghost use Rattle.deblock.specs.Located.{Upright, Level, Whole};
-
-// The strengths of macroblock k.
-fn strength(mem: &[u8], k: usize) -> Strength
-    requires { ⌜ k < length (now mem) / 4 ⌝ }
-    ensures { λ r. ⌜ r ≡ strengthAt (now (mem .entry)) k ⌝ }
-{
-    let at = k * 4;
-    Strength {
-        limit: mem[at],
-        inner: mem[at + 1],
-        threshold: mem[at + 2],
-        inside: mem[at + 3],
-    }
-}
 
 // What the kernel is told of a macroblock's own edges, and of the inner ones.
 fn outer_of(simple: bool, t: Strength) -> Edge
@@ -129,7 +116,8 @@ pub(crate) fn squares(
     let w = wide * n;
     let m = wide * high;
     for k in 0..m {
-        let t = strength(strengths, k);
+        let found = read_strength(strengths, k);
+        let t = found.strength;
         if t.limit != 0 {
             square(&mut p[..], w, n, k % wide, k / wide, simple, t);
         }

@@ -1,6 +1,6 @@
 -- The strengths of a macroblock's edge filter (RFC 6386, sections 9.6 and 15.2 to 15.4).
 use Prim.Native.Nat.{ℕ, _+_, _-_, _*_, _/_, min, max}
-use mathlib.Core.Bool.{Bool, true, false}
+use mathlib.Core.Bool.{Bool, true, false, _&&_}
 use mathlib.Core.List.{List, [], _∷_}
 use lib.Dec.{ltb, leb, eqb}
 use Rattle.numbers.specs.Flags.{bitOf}
@@ -29,6 +29,10 @@ strengthOf level sharp inside =
       | true ↦ noStrength
       | false ↦ record { limit = level + level + innerOf level sharp; inner = innerOf level sharp; threshold = thresholdOf level; inside = bitOf inside }
     ]
+
+-- in range: what can be kept in strength memory
+abbrev pub strengthFine : Strength → Bool
+strengthFine t = leb (t .limit) 189 && leb (t .inner) 63 && leb (t .threshold) 2 && leb (t .inside) 1
 
 -- `at_level`: refused where the level is above 63
 unfoldable pub strengthAnswer : ℕ → ℕ → Bool → Strengths

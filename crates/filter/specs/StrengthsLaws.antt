@@ -6,13 +6,13 @@ use mathlib.Core.Bool.{Bool, true, false}
 use native.Mathlib.Omega.{arith}
 use lib.Dec.{ltb, leb, eqb}
 use borrow.Author.Tests.{lt-ltb, le-ltb, le-leb, lt-leb, eq-eqb, ne-eqb}
-use Rattle.numbers.specs.Tests.{lt-or, eq-or}
+use Rattle.numbers.specs.Tests.{lt-or, eq-or, both-true}
 use Rattle.numbers.specs.Flags.{bitOf}
 use Rattle.numbers.specs.Flags.{bit-small}
 use Rattle.filter.specs.declared.strengths.Strength.{Strength}
 use Rattle.filter.specs.declared.strengths.Strengths.{Strengths}
 use Rattle.filter.specs.declared.strengths.Strengths.the-variants as T
-use Rattle.filter.specs.Strengths.{slowed, innerOf, thresholdOf, noStrength, strengthOf, strengthAnswer}
+use Rattle.filter.specs.Strengths.{slowed, innerOf, thresholdOf, noStrength, strengthOf, strengthFine, strengthAnswer}
 
 -- ---- the interior limit
 module _ (level sharp : ℕ) where
@@ -100,3 +100,21 @@ module _ (level sharp : ℕ) (inside : Bool) where
 
   pub strength-never : level ≤ 63 → T.Refused ≡ strengthAnswer level sharp inside → ⊥
   strength-never h e = let k = strength-good h in let z : _≡_ {A = ℕ} 0 1 = cc in omega arith
+
+-- ---- the strengths that are made are in range
+threshold-most : (level : ℕ) → thresholdOf level ≤ 2
+threshold-most level =
+    ⊎-elim
+    (λ h. ⊎-elim (λ k. rw (threshold-none level k) (omega arith)) (λ k. rw (threshold-one level h k) (omega arith)) (lt-or level 15))
+    (λ h. rw (threshold-two level h) (omega arith))
+    (lt-or level 40)
+
+pub strength-fine : (level sharp : ℕ) (inside : Bool) → level ≤ 63 → strengthFine (strengthOf level sharp inside) ≡ true
+strength-fine level sharp inside h =
+    ⊎-elim
+    (λ e. rw (strength-none level sharp inside e))
+    (λ e. rw (strength-some level sharp inside e)
+    (both-true
+    (both-true (both-true (le-leb (level + level + innerOf level sharp) 189 (omega (arith, inner-in level sharp .1))) (le-leb (innerOf level sharp) 63 (omega (arith, inner-in level sharp .1)))) (le-leb (thresholdOf level) 2 (threshold-most level)))
+    (le-leb (bitOf inside) 1 (omega (arith, bit-small inside)))))
+    (eq-or level 0)

@@ -8,7 +8,8 @@ ghost use mathlib.Core.Path.{_≡_};
 ghost use lib.IntN.{pos, negsuc};
 ghost use Rattle.numbers.specs.In.{In, Each};
 ghost use Rattle.numbers.specs.Clamp.{signedByteZ};
-ghost use Rattle.filter.specs.Kernel.{samplesOf, across, tapped, eighth, sides, noSteps, commonSteps, macroblockSteps, innerSteps, stepsOf, movedOf};
+ghost use Rattle.filter.specs.Kernel.{samplesOf, across, tapped, eighth, sides, noSteps, commonSteps, macroblockSteps, innerSteps};
+ghost use Rattle.filter.specs.Kernel.{stepsOf, movedOf};
 
 // Three times the step across the edge.
 fn across(e: &[u8; 8]) -> i32

@@ -2,13 +2,20 @@
 ghost use mathlib.Core.Path.{_≡_};
 ghost use Prim.Native.Nat.{_+_, _≤_, min, max};
 ghost use Rattle.numbers.specs.Flags.{bitOf};
-ghost use Rattle.filter.specs.Strengths.{innerOf, thresholdOf, strengthOf, strengthAnswer};
+ghost use Rattle.filter.specs.Strengths.{innerOf, thresholdOf, strengthOf, strengthFine, strengthAnswer};
 
 pub struct Strength {
     pub limit: u8,
     pub inner: u8,
     pub threshold: u8,
     pub inside: u8,
+}
+
+// Whether each number is one that a macroblock can have.
+pub fn strength_fine(t: Strength) -> bool
+    ensures { λ r. ⌜ r ≡ strengthFine t ⌝ }
+{
+    (t.limit <= 189) & (t.inner <= 63) & (t.threshold <= 2) & (t.inside <= 1)
 }
 
 pub enum Strengths {

@@ -20,7 +20,7 @@ use Rattle.reader.specs.Reading.{symbol, run}
 use Rattle.reader.specs.ReadingLaws.{fromSymbol, symboled, within-symbol}
 use Rattle.reader.specs.Extra.{extraAnswer}
 use Rattle.reader.specs.ExtraLaws.{fromNumber, numbered, extra-within, extra-reader}
-use Rattle.reader.proofs.Answers.{not-value, not-got}
+use Rattle.reader.specs.AnswersLaws.{not-value, not-got}
 use Rattle.reader.proofs.extra.Number as number
 use Rattle.reader.proofs.boolean.Symbol as symbol-type
 use Rattle.frame.specs.Header.{literal}
@@ -48,7 +48,7 @@ module _ (s : List ℕ) (r : Reader) (n : ℕ) (h : n ≤ 8) {x : Number} (e : x
   ran v = numbered s (replicate n 128) r (valid-fact s r v) (rw (length-replicate {A = ℕ} n 128) (omega arith)) same
 
   pub literal-missing : (tagOf number.the-type x ≡ 1) ⊎ (tagOf number.the-type x ≡ 2) → Reads (literal n) s r 0 noReader
-  literal-missing t = reads-missing 0 (λ v. ran v ∙ not-value x t)
+  literal-missing t = reads-missing 0 (λ v. ran v ∙ not-value (tagOf number.the-type) (λ v r. refl) x t)
 
   pub literal-got : Bytes s → {a : ℕ} {q : Reader} → x ≡ N.Value a q → Reads (literal n) s r a q
   unfolding literal
@@ -57,7 +57,7 @@ module _ (s : List ℕ) (r : Reader) (n : ℕ) (h : n ≤ 8) {x : Number} (e : x
 
 module _ (s : List ℕ) (r : Reader) (p : ℕ) {x : Symbol} (e : x ≡ symbolAnswer s r p) where
   pub symbol-missing : (b : Bool) → (tagOf symbol-type.the-type x ≡ 1) ⊎ (tagOf symbol-type.the-type x ≡ 2) → Reads (symbol p) s r b noReader
-  symbol-missing b t = reads-missing b (λ v. symboled s r p (valid-fact s r v) e ∙ not-got x t)
+  symbol-missing b t = reads-missing b (λ v. symboled s r p (valid-fact s r v) e ∙ not-got (tagOf symbol-type.the-type) (λ b r. refl) x t)
 
   pub symbol-got : Bytes s → p < 256 → {b c : Bool} {q : Reader} → x ≡ S.Got b q → b ≡ c → Reads (symbol p) s r c q
   symbol-got y h {b} {c} {q} f k =

@@ -3,13 +3,15 @@ use Prim.Native.Nat.{ℕ}
 use mathlib.Core.Bool.{Bool, true, false, not, _&&_}
 use mathlib.Core.List.{List}
 use lib.Dec.{eqb}
-use lib.ListN.{length}
+use lib.ListN.{length, getD}
 use Rattle.filter.specs.Kernel.{filterOf}
 use Rattle.macroblock.specs.Macroblock.{Planes}
 use Rattle.deblock.specs.Deblock as Deblock
 use Rattle.deblock.specs.Deblock.{Outcome, deblockOf}
-use Rattle.picture.specs.Memory.{Memory}
-use Rattle.picture.specs.Checks.{Tile}
+use Rattle.numbers.specs.Lists.{listed}
+use Rattle.tile.specs.declared.Span.{Span}
+use Rattle.lent.specs.Memory.{Memory}
+use Rattle.picture.specs.Checks.{Call}
 use Rattle.picture.specs.Picture.{Ended, numberOf, valuesOf, pictureOf}
 
 pub record Called : Type 0 where
@@ -20,12 +22,22 @@ pub record Called : Type 0 where
 abbrev pub toCalled : Ended → Called
 toCalled e = record { number = numberOf (e .answer); finished = valuesOf (e .answer); mem = e .mem }
 
+abbrev pub calledNumbers : (number finished : ℕ) → Memory → Called
+calledNumbers number finished mem = record { number = number; finished = finished; mem = mem }
+
+-- the spans of the eight token partitions, from their starts and lengths
+abbrev pub spanOf : (starts lengths : List ℕ) → ℕ → Span
+spanOf starts lengths i = record { start = getD starts i 0; len = getD lengths i 0 }
+
+abbrev pub spansOf : (starts lengths : List ℕ) → List Span
+spansOf starts lengths = listed 8 (spanOf starts lengths)
+
 -- eight starts and eight lengths, else 9
-unfoldable pub calledOf : Tile → Memory → Called
-calledOf t m =
-    elim (eqb (length (t .starts)) 8 && eqb (length (t .lengths)) 8) [
-      | true ↦ toCalled (pictureOf t m)
-      | false ↦ record { number = 9; finished = 0; mem = m }
+unfoldable pub calledOf : (starts lengths : List ℕ) → Call → Memory → Called
+calledOf starts lengths c m =
+    elim (eqb (length starts) 8 && eqb (length lengths) 8) [
+      | true ↦ toCalled (pictureOf c m)
+      | false ↦ calledNumbers 9 0 m
     ]
 
 -- a flag is true where its number is not 0

@@ -9,39 +9,40 @@ use borrow.Author.Tests.{eq-eqb, ne-eqb}
 use Rattle.numbers.specs.Tests.{both-true, both-false}
 use Rattle.numbers.specs.Lists.{build, listed, build-listed, length-build, getD-build}
 use Rattle.filter.specs.Kernel.{filterOf}
-use Rattle.picture.specs.Memory.{Memory}
-use Rattle.picture.specs.Checks.{Tile}
+use Rattle.tile.specs.declared.Span.{Span}
+use Rattle.lent.specs.Memory.{Memory}
+use Rattle.picture.specs.Checks.{Call, callOf}
 use Rattle.picture.specs.declared.rows.Decoded.{Decoded}
-use Rattle.picture.specs.Picture.{Ended, numberOf, valuesOf, pictureOf}
+use Rattle.picture.specs.Picture.{endedOf, numberOf, valuesOf, pictureOf}
 use Rattle.macroblock.specs.Macroblock.{Planes}
 use Rattle.deblock.specs.declared.Deblocked.{Deblocked}
 use Rattle.deblock.specs.Deblock as Deblock
 use Rattle.deblock.specs.Deblock.{Outcome, deblockOf}
-use Rattle.hookbarley.specs.Calls.{Called, toCalled, calledOf, DeblockCalled, toDeblockCalled, deblockCalledOf, Filtered, flagOf, filteredOf}
+use Rattle.hookbarley.specs.Calls.{toCalled, calledNumbers, calledOf, DeblockCalled, toDeblockCalled, deblockCalledOf, Filtered, flagOf, filteredOf}
 
-module _ (t : Tile) (m : Memory) where
-  pub called-starts : (length (t .starts) ≡ 8 → ⊥) → record { number = 9; finished = 0; mem = m } ≡ calledOf t m
+module _ (starts lengths : List ℕ) (c : Call) (m : Memory) where
+  pub called-starts : (length starts ≡ 8 → ⊥) → calledNumbers 9 0 m ≡ calledOf starts lengths c m
   unfolding calledOf
   called-starts e = rw (ne-eqb _ _ e, calledOf)
 
-  pub called-lengths : length (t .starts) ≡ 8 → (length (t .lengths) ≡ 8 → ⊥) → record { number = 9; finished = 0; mem = m } ≡ calledOf t m
+  pub called-lengths : length starts ≡ 8 → (length lengths ≡ 8 → ⊥) → calledNumbers 9 0 m ≡ calledOf starts lengths c m
   unfolding calledOf
   called-lengths d e = rw (eq-eqb _ _ d, ne-eqb _ _ e, calledOf)
 
-  pub called-picture : length (t .starts) ≡ 8 → length (t .lengths) ≡ 8 → {n k : ℕ} {d : Decoded} {q : Memory} → n ≡ numberOf d → k ≡ valuesOf d → record { answer = d; mem = q } ≡ pictureOf t m
-      → record { number = n; finished = k; mem = q } ≡ calledOf t m
+  pub called-picture : length starts ≡ 8 → length lengths ≡ 8 → {n k : ℕ} {d : Decoded} {q : Memory} → n ≡ numberOf d → k ≡ valuesOf d → endedOf d q ≡ pictureOf c m
+      → calledNumbers n k q ≡ calledOf starts lengths c m
   unfolding calledOf
   called-picture d e {n} {k} {d = x} {q} f g h =
-      let z : calledOf t m ≡ toCalled (pictureOf t m) = rw (eq-eqb _ _ d, eq-eqb _ _ e, calledOf) in
-      (λ i. record { number = f i; finished = g i; mem = q }) ∙ ap toCalled h ∙ sym z
+      let z : calledOf starts lengths c m ≡ toCalled (pictureOf c m) = rw (eq-eqb _ _ d, eq-eqb _ _ e, calledOf) in
+      (λ i. calledNumbers (f i) (g i) q) ∙ ap toCalled h ∙ sym z
 
--- the same with the eight starts and lengths as the code copied them
-abbrev pub withParts : Tile → (starts lengths : List ℕ) → Tile
-withParts t a b = record { bytes = t .bytes; firstStart = t .firstStart; firstLength = t .firstLength; reader = t .reader; starts = a; lengths = b; count = t .count; header = t .header; width = t .width; height = t .height }
+-- the same with the spans as the code made them
+abbrev pub withTokens : Call → List Span → Call
+withTokens c s = let t = c .tile in callOf (c .bytes) (record { first = t .first; tokens = s; reader = t .reader; count = t .count; width = t .width; height = t .height }) (c .header)
 
-pub called-found : (t : Tile) (m : Memory) → length (t .starts) ≡ 8 → length (t .lengths) ≡ 8 → {n k : ℕ} {d : Decoded} {q : Memory} → n ≡ numberOf d → k ≡ valuesOf d
-    → {a b : List ℕ} → a ≡ t .starts → b ≡ t .lengths → record { answer = d; mem = q } ≡ pictureOf (withParts t a b) m → record { number = n; finished = k; mem = q } ≡ calledOf t m
-called-found t m d e f g {a} {b} p q h = called-picture t m d e f g (h ∙ (λ i. pictureOf (withParts t (p i) (q i)) m))
+pub called-found : (starts lengths : List ℕ) (c : Call) (m : Memory) → length starts ≡ 8 → length lengths ≡ 8 → {n k : ℕ} {d : Decoded} {q : Memory} → n ≡ numberOf d → k ≡ valuesOf d
+    → {s : List Span} → s ≡ c .tile .tokens → endedOf d q ≡ pictureOf (withTokens c s) m → calledNumbers n k q ≡ calledOf starts lengths c m
+called-found starts lengths c m d e f g p h = called-picture starts lengths c m d e f g (h ∙ (λ i. pictureOf (withTokens c (p i)) m))
 
 pub deblock-called : (d : Planes) (s : List ℕ) (w h simple : ℕ) {n : ℕ} {a : Deblocked} {p : Planes} → n ≡ Deblock.numberOf a
     → _≡_ {A = Outcome} (record { answer = a; planes = p }) (deblockOf d s w h (flagOf simple)) → record { number = n; planes = p } ≡ deblockCalledOf d s w h simple

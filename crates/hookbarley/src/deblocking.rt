@@ -3,6 +3,7 @@ use deblock::Deblocked;
 use deblock::deblock;
 ghost use mathlib.Core.Path.{_≡_};
 ghost use Rattle.deblock.specs.Deblock.{numberOf};
+ghost use Rattle.macroblock.specs.Macroblock.{planesOf};
 ghost use Rattle.hookbarley.specs.Calls.{DeblockCalled, deblockCalledOf};
 
 fn number_of(d: Deblocked) -> u32
@@ -25,8 +26,10 @@ pub extern "C" fn hookbarley_deblock(
     height: usize,
     simple: u32,
 ) -> u32
-    ensures { λ r. ⌜ _≡_ {A = DeblockCalled} (record { number = r; planes = record { y = now (y .exit); u = now (u .exit); v = now (v .exit) } })
-        (deblockCalledOf (record { y = now (y .entry); u = now (u .entry); v = now (v .entry) }) (now (strengths .entry)) width height simple) ⌝ }
+    ensures { λ r. ⌜ _≡_ {A = DeblockCalled}
+        (record { number = r; planes = planesOf (now (y .exit)) (now (u .exit)) (now (v .exit)) })
+        (deblockCalledOf (planesOf (now (y .entry)) (now (u .entry)) (now (v .entry)))
+        (now (strengths .entry)) width height simple) ⌝ }
 {
     number_of(deblock(y, u, v, strengths, width, height, simple != 0))
 }

@@ -8,15 +8,39 @@ pub mod webp_wrap;
 use filter::filter;
 use picture::decode;
 use reader::boolean::Reader;
+use tile::Span;
+use tile::Tile;
 ghost use mathlib.Core.Path.{_≡_};
+ghost use Prim.Native.Nat.{_<_};
 ghost use lib.ListN.{length};
-ghost use Rattle.hookbarley.specs.Calls.{Called, calledOf, Filtered, filteredOf};
+ghost use Rattle.lent.specs.Memory.{memoryOf};
+ghost use Rattle.picture.specs.Checks.{callOf};
+ghost use Rattle.hookbarley.specs.Calls.{calledNumbers, calledOf, spanOf, spansOf, Filtered, filteredOf};
 
-fn eight(s: &[usize]) -> [usize; 8]
-    requires { ⌜ length (now s) ≡ 8 ⌝ }
-    ensures { λ r. ⌜ r ≡ now (s .entry) ⌝ }
+fn span_at(starts: &[usize], lengths: &[usize], i: usize) -> Span
+    requires { ⌜ (length (now starts) ≡ 8) × (length (now lengths) ≡ 8) × (i < 8) ⌝ }
+    ensures { λ r. ⌜ r ≡ spanOf (now (starts .entry)) (now (lengths .entry)) i ⌝ }
 {
-    [s[0], s[1], s[2], s[3], s[4], s[5], s[6], s[7]]
+    Span {
+        start: starts[i],
+        len: lengths[i],
+    }
+}
+
+fn eight_spans(starts: &[usize], lengths: &[usize]) -> [Span; 8]
+    requires { ⌜ (length (now starts) ≡ 8) × (length (now lengths) ≡ 8) ⌝ }
+    ensures { λ r. ⌜ r ≡ spansOf (now (starts .entry)) (now (lengths .entry)) ⌝ }
+{
+    [
+        span_at(starts, lengths, 0),
+        span_at(starts, lengths, 1),
+        span_at(starts, lengths, 2),
+        span_at(starts, lengths, 3),
+        span_at(starts, lengths, 4),
+        span_at(starts, lengths, 5),
+        span_at(starts, lengths, 6),
+        span_at(starts, lengths, 7),
+    ]
 }
 
 // The picture call. The eight starts and lengths are slices of eight (else 9); `at`, `range`, `shifts` and `window` are the
@@ -44,9 +68,21 @@ pub extern "C" fn hookbarley_decode(
     strengths: &mut [u8],
     finished: &mut usize,
 ) -> u32
-    ensures { λ r. ⌜ _≡_ {A = Called} (record { number = r; finished = now (finished .exit); mem = record { y = now (y .exit); u = now (u .exit); v = now (v .exit); columns = now (columns .exit); modes = now (modes .exit); strengths = now (strengths .exit) } })
-        (calledOf (record { bytes = now (bytes .entry); firstStart = start; firstLength = len; reader = record { at = at; range = range; shifts = shifts; window = window }; starts = now (starts .entry); lengths = now (lengths .entry); count = count; header = now (header .entry); width = width; height = height })
-        (record { y = now (y .entry); u = now (u .entry); v = now (v .entry); columns = now (columns .entry); modes = now (modes .entry); strengths = now (strengths .entry) })) ⌝ }
+    ensures { λ r. ⌜ calledNumbers r (now (finished .exit))
+        (memoryOf (now (y .exit)) (now (u .exit)) (now (v .exit)) (now (columns .exit)) (now (modes .exit)) (now (strengths .exit)))
+        ≡ calledOf (now (starts .entry)) (now (lengths .entry))
+        (callOf (now (bytes .entry))
+        (record {
+          first = record { start = start; len = len };
+          tokens = spansOf (now (starts .entry)) (now (lengths .entry));
+          reader = record { at = at; range = range; shifts = shifts; window = window };
+          count = count;
+          width = width;
+          height = height;
+        })
+        (now (header .entry)))
+        (memoryOf (now (y .entry)) (now (u .entry)) (now (v .entry))
+        (now (columns .entry)) (now (modes .entry)) (now (strengths .entry))) ⌝ }
 {
     if starts.len() != 8 {
         *finished = 0;
@@ -62,26 +98,19 @@ pub extern "C" fn hookbarley_decode(
         shifts: shifts,
         window: window,
     };
-    let eight_starts = eight(starts);
-    let eight_lengths = eight(lengths);
-    let d = decode(
-        bytes,
-        start,
-        len,
-        eight_starts,
-        eight_lengths,
-        reader,
-        count,
-        header,
-        width,
-        height,
-        y,
-        u,
-        v,
-        columns,
-        modes,
-        strengths,
-    );
+    let tokens = eight_spans(starts, lengths);
+    let tile = Tile {
+        first: Span {
+            start: start,
+            len: len,
+        },
+        tokens: tokens,
+        reader: reader,
+        count: count,
+        width: width,
+        height: height,
+    };
+    let d = decode(bytes, tile, header, y, u, v, columns, modes, strengths);
     *finished = d.finished();
     d.number()
 }
@@ -116,7 +145,8 @@ pub extern "C" fn hookbarley_filter(
     inner: u8,
     threshold: u8,
 ) -> u32
-    ensures { λ r. ⌜ _≡_ {A = Filtered} (record { number = r; samples = now (samples .exit) }) (filteredOf (now (samples .entry)) simple edge limit inner threshold) ⌝ }
+    ensures { λ r. ⌜ _≡_ {A = Filtered} (record { number = r; samples = now (samples .exit) })
+        (filteredOf (now (samples .entry)) simple edge limit inner threshold) ⌝ }
 {
     if samples.len() != 8 {
         return 9;

@@ -35,7 +35,8 @@ fn length_of(f: Found) -> usize
 // The frame's place and length go through `start` and `len`; both are 0 after a refusal.
 #[no_mangle]
 pub extern "C" fn hookbarley_webp_find(bytes: &[u8], start: &mut usize, len: &mut usize) -> u32
-    ensures { λ r. ⌜ _≡_ {A = WebpFound} (record { number = r; start = now (start .exit); len = now (len .exit) }) (webpFoundOf (now (bytes .entry))) ⌝ }
+    ensures { λ r. ⌜ _≡_ {A = WebpFound} (record { number = r; start = now (start .exit); len = now (len .exit) })
+        (webpFoundOf (now (bytes .entry))) ⌝ }
 {
     let f = find(bytes);
     *start = start_of(f);

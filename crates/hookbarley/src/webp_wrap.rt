@@ -26,7 +26,8 @@ fn length_of(w: Wrapped) -> usize
 // The file's length goes through `written`; it is 0 after a refusal, and then `out` is as it was.
 #[no_mangle]
 pub extern "C" fn hookbarley_webp_wrap(frame: &[u8], out: &mut [u8], written: &mut usize) -> u32
-    ensures { λ r. ⌜ _≡_ {A = WebpWrapped} (record { number = r; written = now (written .exit); out = now (out .exit) }) (webpWrappedOf (now (frame .entry)) (now (out .entry))) ⌝ }
+    ensures { λ r. ⌜ _≡_ {A = WebpWrapped} (record { number = r; written = now (written .exit); out = now (out .exit) })
+        (webpWrappedOf (now (frame .entry)) (now (out .entry))) ⌝ }
 {
     let w = wrap(frame, out);
     *written = length_of(w);

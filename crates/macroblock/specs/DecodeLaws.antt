@@ -7,23 +7,26 @@ use native.Mathlib.Nat.{mul-div-cancel}
 use native.Mathlib.Omega.{arith}
 use borrow.Author.Tests.{eqb-true, ltb-true, leb-true, lt-ltb, le-ltb, le-leb, lt-leb, eq-eqb}
 use lib.Dec.{ltb, leb, eqb}
-use lib.IntN.{ℤ}
 use lib.ListN.{length, getD, List·getD-eq-default}
 use Rattle.numbers.specs.Tests.{both-left, both-right, both-true, both-false}
-use Rattle.reader.specs.declared.boolean.Reader.{Reader}
 use Rattle.reader.specs.Boolean.{validOf}
 use Rattle.reader.specs.BooleanLaws.{Valid, valid-test, valid-fact}
-use Rattle.modes.specs.declared.columns.Context.{Context}
+use Rattle.modes.specs.declared.contexts.Context.{Context}
 use Rattle.modes.specs.Answers.{eachBelow, contextsOf}
 use Rattle.modes.specs.ModesLaws.{each-fact, each-all}
-use Rattle.modes.specs.Records.{contextFine}
-use Rattle.modes.specs.RecordsLaws.{contexts-fine}
+use Rattle.modes.specs.Contexts.{contextFine}
+use Rattle.modes.specs.ContextsLaws.{contexts-fine}
 use Rattle.residual.specs.Residual.{Flags}
-use Rattle.segments.specs.declared.frame.Frame.{Frame}
-use Rattle.macroblock.specs.declared.whole.Whole.{Whole}
+use Rattle.header.specs.declared.frame.Frame.{Frame}
+use Rattle.header.specs.FrameLaws.{Probabilities, Sound}
+use Rattle.macroblock.specs.declared.arguments.Place.{Place}
+use Rattle.macroblock.specs.declared.arguments.Readers.{Readers}
+use Rattle.macroblock.specs.declared.arguments.Around.{Around}
+use Rattle.macroblock.specs.declared.whole.Outcome.{Outcome}
 use Rattle.macroblock.specs.declared.whole.Finish.the-variants as F
-use Rattle.segments.specs.Frame.{levelAt}
-use Rattle.macroblock.specs.Macroblock.{Planes, Laid, Ready, Step, finished, no-modes, no-tokens, Called, toCalled, levelsFine, readyOf, laidOf, stepOf, wholeOf, decodeOf, nothing, finishNumberOf}
+use Rattle.header.specs.Frame.{levelAt}
+use Rattle.macroblock.specs.Macroblock.{Planes, Step, finished, no-modes, no-tokens, Called, toCalled, levelsFine, readyOf, laidOf, stepOf, decodeOf, nothing, finishNumberOf}
+use Rattle.macroblock.specs.MacroblockLaws.{Laid, Ready}
 
 -- ---- levels
 levels-fact : (l : List ℕ) → length l ≡ 4 → levelsFine l ≡ true → (i : ℕ) → getD l i 0 ≤ 63
@@ -60,69 +63,93 @@ pub context-test : (c : Context) → eachBelow 10 (c .modes) ≡ true → Flags 
 context-test c e f = both-true e (each-all 2 (c .flags) (λ i h. omega (arith, f .each i)))
 
 -- ---- what is read
--- the arrays of a frame and of two contexts
-pub record Sizes (f : Frame) (top left : Context) : Type 0 where
+-- what the types of a frame and of two contexts say: the arrays' lengths, and that a byte is one
+pub record FrameSizes (f : Frame) : Type 0 where
   pub large : length (f .large) ≡ 4
   pub small : length (f .small) ≡ 4
-  pub above : length (top .flags) ≡ 9
-  pub beside : length (left .flags) ≡ 9
+  pub probabilities : Probabilities (f .announced)
 
-module _ (s : List ℕ) (r : Reader) (tokens : List ℕ) (t : Reader) (h : List ℤ) (table : List ℕ) (f : Frame) (top left : Context) where
-  pub ready-out : Sizes f top left → readyOf s r tokens t (length h) (length table) f top left ≡ true → Ready s r tokens t h table f top left
+pub record AroundSizes (around : Around) : Type 0 where
+  pub top : length (around .top .flags) ≡ 9
+  pub left : length (around .left .flags) ≡ 9
+
+module _ (first tokens : List ℕ) (readers : Readers) (f : Frame) (table : List ℕ) (around : Around) where
+  pub ready-out : FrameSizes f → AroundSizes around → readyOf first tokens readers f (length table) around ≡ true → Ready first tokens readers f table around
   unfolding readyOf
-  ready-out z e =
-      let readers = both-left (validOf s r && validOf tokens t) _ e in
-      let e1 = both-right (validOf s r && validOf tokens t) _ e in
-      let sizes = both-left (eqb (length h) 1096 && eqb (length table) 1056) _ e1 in
-      let e2 = both-right (eqb (length h) 1096 && eqb (length table) 1056) _ e1 in
+  ready-out y z e =
+      let top = around .top in
+      let left = around .left in
+      let r = readers .first in
+      let t = readers .token in
+      let two = both-left (validOf first r && validOf tokens t) _ e in
+      let e1 = both-right (validOf first r && validOf tokens t) _ e in
+      let e2 = both-right (eqb (length table) 1056) _ e1 in
       let contexts = both-left (contextFine top && contextFine left) _ e2 in
       let levels = both-right (contextFine top && contextFine left) _ e2 in
       let a = both-left (contextFine top) _ contexts in
       let b = both-right (contextFine top) _ contexts in
       record {
-        reader = valid-fact s r (both-left _ _ readers);
-        token = valid-fact tokens t (both-right (validOf s r) _ readers);
-        entries = eqb-true _ _ (both-left _ _ sizes);
-        size = eqb-true _ _ (both-right (eqb (length h) 1096) _ sizes);
+        reader = valid-fact first r (both-left _ _ two);
+        token = valid-fact tokens t (both-right (validOf first r) _ two);
+        size = eqb-true _ _ (both-left _ _ e1);
         contexts = contexts-fine top left a b;
-        above = flags-of top (z .above) a;
-        beside = flags-of left (z .beside) b;
-        levels = levels-of f (levels-fact (f .large) (z .large) (both-left _ _ levels)) (levels-fact (f .small) (z .small) (both-right (levelsFine (f .large)) _ levels));
+        top = flags-of top (z .top) a;
+        left = flags-of left (z .left) b;
+        sound =
+            record {
+              levels = levels-of f (levels-fact (f .large) (y .large) (both-left _ _ levels)) (levels-fact (f .small) (y .small) (both-right (levelsFine (f .large)) _ levels));
+              announced = y .probabilities;
+            };
       }
 
-  pub ready-test : Ready s r tokens t h table f top left → readyOf s r tokens t (length h) (length table) f top left ≡ true
+  pub ready-test : Ready first tokens readers f table around → readyOf first tokens readers f (length table) around ≡ true
   unfolding readyOf
   ready-test g =
-      both-true (both-true (valid-test s r (g .reader)) (valid-test tokens t (g .token)))
-      (both-true (both-true (eq-eqb _ _ (g .entries)) (eq-eqb _ _ (g .size)))
-      (both-true (both-true (context-test top (both-left _ _ (g .contexts)) (g .above)) (context-test left (both-right (eachBelow 10 (top .modes)) _ (g .contexts)) (g .beside)))
-      (both-true (levels-test (f .large) (g .levels false)) (levels-test (f .small) (g .levels true)))))
+      both-true (both-true (valid-test first (readers .first) (g .reader)) (valid-test tokens (readers .token) (g .token)))
+      (both-true (eq-eqb _ _ (g .size))
+      (both-true
+      (both-true
+      (context-test (around .top) (both-left _ _ (g .contexts)) (g .top))
+      (context-test (around .left) (both-right (eachBelow 10 (around .top .modes)) _ (g .contexts)) (g .left)))
+      (both-true (levels-test (f .large) (g .sound .levels false)) (levels-test (f .small) (g .sound .levels true)))))
 
 -- ---- where it is painted
 -- as the code finds it
-module _ (y u v w column row : ℕ) where
-  pub laid-column : w / 16 ≤ column → false ≡ laidOf y u v w column row
+module _ (y u v : ℕ) (place : Place) where
+  abbrev w : ℕ
+  w = place .width
+
+  abbrev column : ℕ
+  column = place .column
+
+  abbrev row : ℕ
+  row = place .row
+
+  pub laid-column : w / 16 ≤ column → false ≡ laidOf y u v place
   unfolding laidOf
   laid-column h = rw (le-ltb column (w / 16) h)
 
-  pub laid-wide : 16384 < w → false ≡ laidOf y u v w column row
+  pub laid-wide : 16384 < w → false ≡ laidOf y u v place
   unfolding laidOf
   laid-wide h = sym (both-false (ltb column (w / 16)) (rw (lt-leb w 16384 h)))
 
-  pub laid-high : 1024 < y / w / 16 → false ≡ laidOf y u v w column row
+  pub laid-high : 1024 < y / w / 16 → false ≡ laidOf y u v place
   unfolding laidOf
   laid-high h = sym (both-false (ltb column (w / 16)) (rw (both-false (leb w 16384) (lt-leb (y / w / 16) 1024 h))))
 
   pub laid-rest : column < w / 16 → w ≤ 16384 → y / w / 16 ≤ 1024 → {luma chroma : ℕ} → luma ≡ y / w / 16 * 16 * w → chroma ≡ y / w / 16 * 8 * (w / 2)
-      → (eqb (w % 16) 0 && ltb row (y / w / 16)) && (eqb y luma && (eqb u chroma && eqb v chroma)) ≡ laidOf y u v w column row
+      → (eqb (w % 16) 0 && ltb row (y / w / 16)) && (eqb y luma && (eqb u chroma && eqb v chroma)) ≡ laidOf y u v place
   unfolding laidOf
   laid-rest a b c e f = rw (lt-ltb column (w / 16) a, le-leb w 16384 b, le-leb (y / w / 16) 1024 c, e, f)
 
 -- and what it says
-module _ (w column row : ℕ) (p : Planes) where
-  pub laid-out : laidOf (length (p .y)) (length (p .u)) (length (p .v)) w column row ≡ true → Laid w column row p
+module _ (place : Place) (p : Planes) where
+  pub laid-out : laidOf (length (p .y)) (length (p .u)) (length (p .v)) place ≡ true → Laid place p
   unfolding laidOf
   laid-out e =
+      let w = place .width in
+      let column = place .column in
+      let row = place .row in
       let rows = length (p .y) / w / 16 in
       let chroma = rows * 8 * (w / 2) in
       let e1 = both-right (ltb column (w / 16)) _ e in
@@ -147,9 +174,11 @@ module _ (w column row : ℕ) (p : Planes) where
         red = eqb-true _ _ (both-right (eqb (length (p .u)) chroma) _ two);
       }
 
-  pub laid-test : Laid w column row p → laidOf (length (p .y)) (length (p .u)) (length (p .v)) w column row ≡ true
+  pub laid-test : Laid place p → laidOf (length (p .y)) (length (p .u)) (length (p .v)) place ≡ true
   unfolding laidOf
   laid-test g =
+      let w = place .width in
+      let column = place .column in
       let some : 0 < w = omega (arith, g .across, g .width) in
       let tall : length (p .y) / w ≡ g .rows * 16 = ap (λ (k : ℕ). k / w) (g .luma) ∙ mul-div-cancel (g .rows * 16) some in
       let e : length (p .y) / w / 16 ≡ g .rows = omega (arith, tall) in
@@ -172,46 +201,47 @@ step-kept p no-modes n = refl
 step-kept p no-tokens n = refl
 
 -- ---- the call
-module _ (s : List ℕ) (r : Reader) (tokens : List ℕ) (t : Reader) (h : List ℤ) (table : List ℕ) (f : Frame) (top left : Context) (w column row : ℕ) (p : Planes) where
+module _ (first tokens : List ℕ) (readers : Readers) (f : Frame) (table : List ℕ) (around : Around) (place : Place) (p : Planes) where
   abbrev fine : Bool
-  fine = laidOf (length (p .y)) (length (p .u)) (length (p .v)) w column row
+  fine = laidOf (length (p .y)) (length (p .u)) (length (p .v)) place
 
   abbrev able : Bool
-  able = readyOf s r tokens t (length h) (length table) f top left
+  able = readyOf first tokens readers f (length table) around
 
-  pub decode-passed : able ≡ true → fine ≡ true → wholeOf s r tokens t h table f top left w column row p ≡ decodeOf s r tokens t h table f top left w column row p
+  abbrev whole : Called
+  whole = toCalled p (stepOf first tokens readers f table around place p)
+
+  abbrev call : Called
+  call = decodeOf first tokens readers f table around place p
+
+  pub decode-passed : able ≡ true → fine ≡ true → whole ≡ call
   unfolding decodeOf
   decode-passed a b = rw (both-true a b, decodeOf)
 
-  refused : able && fine ≡ false → {x : Whole} → x ≡ nothing F.Refused → record { answer = x; planes = p } ≡ decodeOf s r tokens t h table f top left w column row p
+  refused : able && fine ≡ false → {x : Outcome} → x ≡ nothing F.Refused → record { answer = x; planes = p } ≡ call
   unfolding decodeOf
   refused e g = rw (g, e, decodeOf)
 
-  pub decode-unready : able ≡ false → {x : Whole} → x ≡ nothing F.Refused → record { answer = x; planes = p } ≡ decodeOf s r tokens t h table f top left w column row p
+  pub decode-unready : able ≡ false → {x : Outcome} → x ≡ nothing F.Refused → record { answer = x; planes = p } ≡ call
   decode-unready e = refused (rw e)
 
-  pub decode-unlaid : fine ≡ false → {x : Whole} → x ≡ nothing F.Refused → record { answer = x; planes = p } ≡ decodeOf s r tokens t h table f top left w column row p
+  pub decode-unlaid : fine ≡ false → {x : Outcome} → x ≡ nothing F.Refused → record { answer = x; planes = p } ≡ call
   decode-unlaid e = refused (both-false able e)
 
   -- THE LAW for callers: with good arguments it is the macroblock
-  pub decode-good : Ready s r tokens t h table f top left → Laid w column row p → decodeOf s r tokens t h table f top left w column row p ≡ wholeOf s r tokens t h table f top left w column row p
-  decode-good a b = sym (decode-passed (ready-test s r tokens t h table f top left a) (laid-test w column row p b))
+  pub decode-good : Ready first tokens readers f table around → Laid place p → call ≡ whole
+  decode-good a b = sym (decode-passed (ready-test first tokens readers f table around a) (laid-test place p b))
 
   -- refused: the zero answer, and the planes as they were
-  pub decode-refused : able && fine ≡ false → decodeOf s r tokens t h table f top left w column row p ≡ record { answer = nothing F.Refused; planes = p }
+  pub decode-refused : able && fine ≡ false → call ≡ record { answer = nothing F.Refused; planes = p }
   decode-refused e = sym (refused e refl)
 
   -- whatever is not finished changes nothing: the answer is its number and zeros, and the planes are as they were
-  pub whole-kept : (let c = wholeOf s r tokens t h table f top left w column row p in Unfinished c → Untouched p c)
-  unfolding wholeOf
-  whole-kept n = step-kept p (stepOf s r tokens t h table f top left w column row p) n
-
-  pub decode-kept : (let c = decodeOf s r tokens t h table f top left w column row p in Unfinished c → Untouched p c)
+  pub decode-kept : Unfinished call → Untouched p call
   decode-kept n = go (able && fine) refl
     where
-      c : Called
-      c = decodeOf s r tokens t h table f top left w column row p
-
-      go : (b : Bool) → able && fine ≡ b → Untouched p c
-      go true e = let k = decode-passed (both-left able fine e) (both-right able fine e) in subst (Untouched p) k (whole-kept (subst Unfinished (sym k) n))
+      go : (b : Bool) → able && fine ≡ b → Untouched p call
+      go true e =
+          let k = decode-passed (both-left able fine e) (both-right able fine e) in
+          subst (Untouched p) k (step-kept p (stepOf first tokens readers f table around place p) (subst Unfinished (sym k) n))
       go false e = subst (Untouched p) (sym (decode-refused e)) refl

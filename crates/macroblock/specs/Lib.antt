@@ -1,5 +1,3 @@
-pub mod StrengthRecords
-pub mod StrengthRecordsLaws
 pub mod Macroblock
 pub mod MacroblockLaws
 pub mod DecodeLaws

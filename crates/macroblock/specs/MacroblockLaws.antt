@@ -1,8 +1,8 @@
--- The laws of one macroblock: what its three squares ask and give.
+-- The laws of one macroblock: what its inner functions ask, and what its three squares and its two grammars give.
 use Prim.Native.Nat.{ℕ, _+_, _*_, _/_, _≤_, _<_}
 use mathlib.Core.Path.{_≡_, refl, sym, _∙_, ap}
 use mathlib.Core.Logic.{⊎-elim, inl, inr}
-use mathlib.Core.Bool.{Bool, true, false, not, _||_}
+use mathlib.Core.Bool.{Bool, true, false}
 use mathlib.Core.List.{List}
 use native.Mathlib.Omega.{arith}
 use lib.IntN.{ℤ, pos, negsuc}
@@ -12,27 +12,72 @@ use Rattle.numbers.specs.Tests.{lt-or, never}
 use Rattle.numbers.specs.In.{In, Each}
 use Rattle.numbers.specs.Parts.{of-le}
 use Rattle.reader.specs.declared.boolean.Reader.{Reader}
-use Rattle.modes.specs.Modes.{Macroblock, modesOf, bottomOf, rightOf}
-use Rattle.modes.specs.Answers.{kindsOf}
-use Rattle.segments.specs.declared.frame.Frame.{Frame}
-use Rattle.filter.specs.declared.strengths.Strength.{Strength}
-use Rattle.macroblock.specs.declared.whole.Finish.the-variants as F
 use Rattle.reader.specs.Boolean.{Given, given, missing}
+use Rattle.reader.specs.BooleanLaws.{Valid}
 use Rattle.reader.specs.Reading.{run}
+use Rattle.header.specs.declared.frame.Frame.{Frame}
+use Rattle.header.specs.Frame.{factorsAt}
+use Rattle.header.specs.FrameLaws.{Sound}
+use Rattle.modes.specs.declared.contexts.Context.{Context}
+use Rattle.modes.specs.Modes.{Macroblock, modesOf, bottomOf, rightOf}
 use Rattle.modes.specs.ModesLaws.{InRange}
-use Rattle.residual.specs.Residual as Residual
-use Rattle.residual.specs.Residual.{Model, residualOf}
+use Rattle.modes.specs.Answers.{kindsOf, contextsOf}
+use Rattle.modes.specs.Contexts.{emptyContext}
+use Rattle.residual.specs.Residual.{Model, ModelInRange, Flags, residualOf}
 use Rattle.planes.specs.declared.Painted.{Painted}
-use Rattle.planes.specs.Paint.{squarePainted, paintOf, Outcome}
+use Rattle.planes.specs.Paint.{PaintedPlane, paintOf}
 use Rattle.planes.specs.PaintLaws.{Proper, paint-good}
-use Rattle.modes.specs.declared.columns.Context.{Context}
-use Rattle.modes.specs.Records.{emptyContext}
+use Rattle.filter.specs.declared.strengths.Strength.{Strength}
+use Rattle.filter.specs.Strengths.{noStrength}
+use Rattle.macroblock.specs.declared.arguments.Place.{Place}
+use Rattle.macroblock.specs.declared.arguments.Readers.{Readers}
+use Rattle.macroblock.specs.declared.arguments.Around.{Around}
 use Rattle.macroblock.specs.declared.whole.Finish.{Finish}
-use Rattle.macroblock.specs.declared.whole.Whole.{Whole}
-use Rattle.filter.specs.Strengths.{noStrength, strengthOf}
-use Rattle.segments.specs.Frame.{factorsAt, levelAt}
-use Rattle.macroblock.specs.Macroblock.{Planes, Laid, Painting, paintedPlanes, endOf, endedOf, afterTokens, afterModes, tokenStep, stepOf, toCalled, tokensOf, wholeOf, nothing}
+use Rattle.macroblock.specs.declared.whole.Finish.the-variants as F
+use Rattle.macroblock.specs.declared.whole.Outcome.{Outcome}
+use Rattle.macroblock.specs.Macroblock.{Planes, paintedPlanes, strengthIn, below, beside, endOf, afterTokens, afterModes, tokenStep, stepOf, Called, toCalled, nothing}
 
+-- ---- what the inner functions ask
+-- the planes hold whole macroblocks, and the one at this place is among them
+pub record Laid (place : Place) (p : Planes) : Type 0 where
+  pub columns : ℕ
+  pub rows : ℕ
+  pub width : place .width ≡ columns * 16
+  pub wide : place .width ≤ 16384
+  pub high : rows * 16 ≤ 16384
+  pub across : place .column < columns
+  pub down : place .row < rows
+  pub luma : length (p .y) ≡ rows * 16 * place .width
+  pub blue : length (p .u) ≡ rows * 8 * (place .width / 2)
+  pub red : length (p .v) ≡ rows * 8 * (place .width / 2)
+
+-- what can be painted: modes and coefficients in range
+pub record Painting (m : Macroblock) (c : List ℤ) : Type 0 where
+  pub chroma : m .chroma < 4
+  pub large : m .small ≡ false → getD (m .modes) 0 0 < 4
+  pub small : m .small ≡ true → (k : ℕ) → k < 16 → getD (m .modes) k 0 < 10
+  pub long : length c ≡ 384
+  pub each : Each (negsuc 32767) (pos 32767) c
+
+-- what is read, and what it is read by
+pub record Ready (first tokens : List ℕ) (readers : Readers) (f : Frame) (table : List ℕ) (around : Around) : Type 0 where
+  pub reader : Valid first (readers .first)
+  pub token : Valid tokens (readers .token)
+  pub size : length table ≡ 1056
+  pub contexts : contextsOf (around .top .modes) (around .left .modes) ≡ true
+  pub top : Flags (around .top .flags)
+  pub left : Flags (around .left .flags)
+  pub sound : Sound f
+
+-- of these, what the tokens ask
+pub record Tokens (tokens : List ℕ) (t : Reader) (f : Frame) (table : List ℕ) (around : Around) : Type 0 where
+  pub token : Valid tokens t
+  pub size : length table ≡ 1056
+  pub top : Flags (around .top .flags)
+  pub left : Flags (around .left .flags)
+  pub sound : Sound f
+
+-- ---- the three squares
 -- a part of numbers in range
 each-part : (c : List ℤ) (n k : ℕ) → Each (negsuc 32767) (pos 32767) c → Each (negsuc 32767) (pos 32767) (take n (drop k c))
 each-part c n k e =
@@ -46,7 +91,16 @@ each-part c n k e =
     short : (i : ℕ) → n ≤ i → length (take n (drop k c)) ≤ i
     short i g = rw (length-take n (drop k c)) (omega arith)
 
-module _ {w column row : ℕ} {p : Planes} {m : Macroblock} {c : List ℤ} (g : Laid w column row p) (h : Painting m c) where
+module _ {place : Place} {p : Planes} {m : Macroblock} {c : List ℤ} (g : Laid place p) (h : Painting m c) where
+  abbrev w : ℕ
+  w = place .width
+
+  abbrev column : ℕ
+  column = place .column
+
+  abbrev row : ℕ
+  row = place .row
+
   pub luma-proper : Proper (length (p .y)) w (g .columns) (g .rows) column row 16 (m .small) (getD (m .modes) 0 0) (m .modes) (take 256 c)
   luma-proper =
       record {
@@ -82,14 +136,14 @@ module _ {w column row : ℕ} {p : Planes} {m : Macroblock} {c : List ℤ} (g : 
       }
 
   -- what the three calls answer
-  plane-is : {a : Painted} {q : List ℕ} {o r : Outcome} → record { answer = a; plane = q } ≡ o → o ≡ r → q ≡ r .plane
-  plane-is e f = ap (λ (x : Outcome). x .plane) (e ∙ f)
+  plane-is : {a : Painted} {q : List ℕ} {o r : PaintedPlane} → record { answer = a; plane = q } ≡ o → o ≡ r → q ≡ r .plane
+  plane-is e f = ap (λ (x : PaintedPlane). x .plane) (e ∙ f)
 
   pub planes-painted : {a b d : Painted} {y u v : List ℕ}
       → record { answer = a; plane = y } ≡ paintOf (p .y) w column row 16 (m .small) (getD (m .modes) 0 0) (m .modes) (take 256 c)
       → record { answer = b; plane = u } ≡ paintOf (p .u) (w / 2) column row 8 false (m .chroma) (m .modes) (take 64 (drop 256 c))
       → record { answer = d; plane = v } ≡ paintOf (p .v) (w / 2) column row 8 false (m .chroma) (m .modes) (take 64 (drop 320 c))
-      → _≡_ {A = Planes} (record { y = y; u = u; v = v }) (paintedPlanes w column row m c p)
+      → _≡_ {A = Planes} (record { y = y; u = u; v = v }) (paintedPlanes place m c p)
   planes-painted e f k =
       let a = plane-is e (paint-good (p .y) w column row 16 (m .small) (getD (m .modes) 0 0) (m .modes) (take 256 c) luma-proper) in
       let b = plane-is f (paint-good (p .u) (w / 2) column row 8 false (m .chroma) (m .modes) (take 64 (drop 256 c)) (chroma-proper (p .u) (g .blue) 256 (omega arith))) in
@@ -98,31 +152,47 @@ module _ {w column row : ℕ} {p : Planes} {m : Macroblock} {c : List ℤ} (g : 
 
 -- ---- the answers
 pub nothing-is : {a : Finish} {x y : Context} → x ≡ emptyContext → y ≡ emptyContext
-    → _≡_ {A = Whole} (record { answer = a; kinds = record { segment = 0; skip = false; small = false; chroma = 0 }; modes = replicate 16 0; strength = noStrength; top = x; left = y }) (nothing a)
+    → _≡_ {A = Outcome} (record { answer = a; kinds = record { segment = 0; skip = false; small = false; chroma = 0 }; modes = replicate 16 0; strength = noStrength; top = x; left = y }) (nothing a)
 nothing-is e f = rw (e, f)
 
+-- the answer of a finished macroblock, from its parts
+abbrev pub endedOf : Frame → Macroblock → (next : Reader) → (top left : List ℕ) → (empty : Bool) → (after : Reader) → Outcome
+endedOf f m next top left empty after = record {
+  answer = F.Done (record { first = next; token = after });
+  kinds = kindsOf m;
+  modes = m .modes;
+  strength = strengthIn f m empty;
+  top = below m top;
+  left = beside m left;
+}
+
 pub ended-is : (f : Frame) (m : Macroblock) (empty : Bool) {r t : Reader} {top left : List ℕ} {x : Strength} {a b : List ℕ}
-    → x ≡ strengthOf (levelAt f (m .small) (m .segment)) (f .sharp) (m .small || not empty) → a ≡ bottomOf (m .modes) → b ≡ rightOf (m .modes)
-    → _≡_ {A = Whole}
-    (record { answer = F.Done r t; kinds = kindsOf m; modes = m .modes; strength = x; top = record { modes = a; flags = top }; left = record { modes = b; flags = left } })
+    → x ≡ strengthIn f m empty → a ≡ bottomOf (m .modes) → b ≡ rightOf (m .modes)
+    → _≡_ {A = Outcome}
+    (record { answer = F.Done (record { first = r; token = t }); kinds = kindsOf m; modes = m .modes; strength = x; top = record { modes = a; flags = top }; left = record { modes = b; flags = left } })
     (endedOf f m r top left empty t)
 ended-is f m empty e g h = rw (e, g, h)
 
 -- ---- from where the modes are read
-module _ (tokens : List ℕ) (t : Reader) (table : List ℕ) (f : Frame) (top left : List ℕ) (m : Macroblock) (r : Reader) (w column row : ℕ) (p : Planes) where
-  pub tokens-missing : run (residualOf table (factorsAt f (m .segment)) (m .small) (m .skip) top left) tokens t ≡ missing → {x : Whole} → x ≡ nothing F.NoTokens
-      → record { answer = x; planes = p } ≡ tokensOf tokens t table f top left m r w column row p
-  unfolding tokensOf
-  tokens-missing e g = rw g (sym (ap (λ (x : Given Model). toCalled p (afterTokens (endOf f w column row p m r) x)) e))
+unfoldable pub tokensOf : (tokens : List ℕ) → Reader → Frame → (table : List ℕ) → Around → Place → Macroblock → (next : Reader) → Planes → Called
+tokensOf tokens t f table around place m next p = toCalled p (tokenStep tokens t f table around place p m next)
 
-  pub tokens-done : {d : Model} {q : Reader} → run (residualOf table (factorsAt f (m .segment)) (m .small) (m .skip) top left) tokens t ≡ given d q
-      → {x : Whole} → x ≡ endedOf f m r (d .top) (d .left) (d .empty) q → {z : Planes} → z ≡ paintedPlanes w column row m (d .coefficients) p
-      → record { answer = x; planes = z } ≡ tokensOf tokens t table f top left m r w column row p
+module _ (tokens : List ℕ) (t : Reader) (f : Frame) (table : List ℕ) (around : Around) (place : Place) (m : Macroblock) (next : Reader) (p : Planes) where
+  abbrev given-tokens : Given Model
+  given-tokens = run (residualOf table (factorsAt f (m .segment)) (m .small) (m .skip) (around .top .flags) (around .left .flags)) tokens t
+
+  pub tokens-missing : given-tokens ≡ missing → {x : Outcome} → x ≡ nothing F.NoTokens → record { answer = x; planes = p } ≡ tokensOf tokens t f table around place m next p
+  unfolding tokensOf
+  tokens-missing e g = rw g (sym (ap (λ (x : Given Model). toCalled p (afterTokens (endOf f place p m next) x)) e))
+
+  pub tokens-done : {d : Model} {q : Reader} → given-tokens ≡ given d q
+      → {x : Outcome} → x ≡ endedOf f m next (d .top) (d .left) (d .empty) q → {z : Planes} → z ≡ paintedPlanes place m (d .coefficients) p
+      → record { answer = x; planes = z } ≡ tokensOf tokens t f table around place m next p
   unfolding tokensOf endOf
-  tokens-done e g h = rw (g, h) (sym (ap (λ (x : Given Model). toCalled p (afterTokens (endOf f w column row p m r) x)) e))
+  tokens-done e g h = rw (g, h) (sym (ap (λ (x : Given Model). toCalled p (afterTokens (endOf f place p m next) x)) e))
 
 -- modes and coefficients that were read can be painted
-pub painting : {m : Macroblock} {d : Model} → InRange m → Residual.Whole d → Painting m (d .coefficients)
+pub painting : {m : Macroblock} {d : Model} → InRange m → ModelInRange d → Painting m (d .coefficients)
 painting i d =
     record {
       chroma = i .chroma;
@@ -133,13 +203,16 @@ painting i d =
     }
 
 -- ---- the whole
-module _ (s : List ℕ) (r : Reader) (tokens : List ℕ) (t : Reader) (h : List ℤ) (table : List ℕ) (f : Frame) (top left : Context) (w column row : ℕ) (p : Planes) where
-  pub whole-missing : run (modesOf h (top .modes) (left .modes)) s r ≡ missing → {x : Whole} → x ≡ nothing F.NoModes
-      → record { answer = x; planes = p } ≡ wholeOf s r tokens t h table f top left w column row p
-  unfolding wholeOf stepOf
-  whole-missing e g = rw g (sym (ap (λ (x : Given Macroblock). toCalled p (afterModes (tokenStep tokens t table f (top .flags) (left .flags) w column row p) x)) e))
+module _ (first tokens : List ℕ) (readers : Readers) (f : Frame) (table : List ℕ) (around : Around) (place : Place) (p : Planes) where
+  abbrev given-modes : Given Macroblock
+  given-modes = run (modesOf (f .announced) (around .top .modes) (around .left .modes)) first (readers .first)
 
-  pub whole-tokens : {m : Macroblock} {q : Reader} → run (modesOf h (top .modes) (left .modes)) s r ≡ given m q
-      → tokensOf tokens t table f (top .flags) (left .flags) m q w column row p ≡ wholeOf s r tokens t h table f top left w column row p
-  unfolding wholeOf stepOf tokensOf
-  whole-tokens e = sym (ap (λ (x : Given Macroblock). toCalled p (afterModes (tokenStep tokens t table f (top .flags) (left .flags) w column row p) x)) e)
+  pub whole-missing : given-modes ≡ missing → {x : Outcome} → x ≡ nothing F.NoModes
+      → record { answer = x; planes = p } ≡ toCalled p (stepOf first tokens readers f table around place p)
+  unfolding stepOf
+  whole-missing e g = rw g (sym (ap (λ (x : Given Macroblock). toCalled p (afterModes (tokenStep tokens (readers .token) f table around place p) x)) e))
+
+  pub whole-tokens : {m : Macroblock} {q : Reader} → given-modes ≡ given m q
+      → tokensOf tokens (readers .token) f table around place m q p ≡ toCalled p (stepOf first tokens readers f table around place p)
+  unfolding stepOf tokensOf
+  whole-tokens e = sym (ap (λ (x : Given Macroblock). toCalled p (afterModes (tokenStep tokens (readers .token) f table around place p) x)) e)

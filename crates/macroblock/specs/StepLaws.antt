@@ -8,38 +8,40 @@ use native.Mathlib.Omega.{arith}
 use lib.IntN.{ℤ}
 use lib.ListN.{length, getD, take, drop}
 use Rattle.numbers.specs.Clamp.{upTo}
-use Rattle.reader.specs.Header.{entry}
+use Rattle.header.specs.Entries.{sharpness}
+use Rattle.header.specs.Header.{entry}
 use Rattle.reader.specs.declared.boolean.Reader.{Reader}
 use Rattle.reader.specs.Boolean.{Given, given, missing}
 use Rattle.reader.specs.BooleanLaws.{Bytes, Valid}
 use Rattle.reader.specs.Reading.{run}
 use Rattle.reader.specs.ReadingLaws.{Ended, run-valid}
-use Rattle.segments.specs.declared.quantizers.Factors.{Factors}
-use Rattle.segments.specs.Quantizers.{factorsOf}
-use Rattle.segments.specs.Levels.{levelOf}
-use Rattle.modes.specs.declared.columns.Context.{Context}
+use Rattle.header.specs.declared.quantizers.Factors.{Factors}
+use Rattle.header.specs.Quantizers.{factorsOf}
+use Rattle.header.specs.Levels.{levelOf}
+use Rattle.modes.specs.declared.contexts.Context.{Context}
 use Rattle.modes.specs.Answers.{macroblockOf}
 use Rattle.modes.specs.Modes.{Macroblock, modesOf, bottomOf, rightOf}
 use Rattle.modes.specs.ModesLaws.{InRange, modes-within, modes-test, bottom-modes, right-modes}
-use Rattle.modes.specs.Records.{contextFine}
-use Rattle.modes.specs.RecordsLaws.{Sized}
-use Rattle.residual.specs.Residual as Residual
-use Rattle.residual.specs.Residual.{Model, Flags, residualOf}
+use Rattle.modes.specs.Contexts.{contextFine}
+use Rattle.modes.specs.Contexts.{Shaped}
+use Rattle.residual.specs.Residual.{Model, ModelInRange, Flags, residualOf}
 use Rattle.residual.specs.ResidualLaws.{residual-within}
-use Rattle.planes.specs.Paint.{sampleAt, squarePainted, paintOf, Outcome}
+use Rattle.planes.specs.Paint.{PaintedPlane, sampleAt, squarePainted, paintOf}
 use Rattle.planes.specs.PaintLaws.{length-paint, paint-bytes, paint-off, paint-good}
 use Rattle.planes.specs.Places.{Outside}
-use Rattle.segments.specs.declared.frame.Frame.{Frame}
+use Rattle.header.specs.declared.frame.Frame.{Frame}
 use Rattle.macroblock.specs.declared.whole.Finish.{Finish}
 use Rattle.macroblock.specs.declared.whole.Finish.the-variants as F
-use Rattle.macroblock.specs.declared.whole.Whole.{Whole}
-use Rattle.segments.specs.Frame.{frameOf}
-use Rattle.segments.specs.FrameLaws.{frame-factors, frame-level}
+use Rattle.macroblock.specs.declared.whole.Outcome.{Outcome}
+use Rattle.macroblock.specs.declared.arguments.Place.{Place}
+use Rattle.macroblock.specs.declared.arguments.Readers.{Readers}
+use Rattle.macroblock.specs.declared.arguments.Around.{Around}
+use Rattle.header.specs.FrameLaws.{Sound, frame-sound, frame-announced, frame-factors, frame-level, frame-sharp}
 use Rattle.filter.specs.Strengths.{strengthOf}
 use Rattle.filter.specs.StrengthsLaws.{limit-most}
-use Rattle.segments.specs.Frame.{factorsAt, levelAt}
-use Rattle.macroblock.specs.Macroblock.{Planes, Laid, Painting, Ready, Finished, Step, finished, no-modes, no-tokens, Called, toCalled, paintedPlanes, endOf, afterTokens, afterModes, tokenStep, stepOf, wholeOf, decodeOf, finishNumberOf}
-use Rattle.macroblock.specs.MacroblockLaws.{painting, luma-proper, chroma-proper}
+use Rattle.header.specs.Frame.{announcedOf, frameOf, factorsAt, levelAt}
+use Rattle.macroblock.specs.Macroblock.{Planes, Finished, Step, finished, no-modes, no-tokens, Called, toCalled, paintedPlanes, strengthIn, below, beside, endOf, afterTokens, afterModes, tokenStep, stepOf, decodeOf, finishNumberOf}
+use Rattle.macroblock.specs.MacroblockLaws.{Laid, Painting, Ready, painting, luma-proper, chroma-proper}
 use Rattle.macroblock.specs.DecodeLaws.{context-test, decode-good}
 
 -- ---- a plane in which one square was painted
@@ -50,44 +52,44 @@ pub record Kept (w x y n : ℕ) (old new : List ℕ) : Type 0 where
   pub off : (c r : ℕ) → c < w → Outside x y n c r → sampleAt new w c r ≡ sampleAt old w c r
 
 -- the three planes around a macroblock
-pub record Elsewhere (w column row : ℕ) (p q : Planes) : Type 0 where
-  pub y : Kept w (column * 16) (row * 16) 16 (p .y) (q .y)
-  pub u : Kept (w / 2) (column * 8) (row * 8) 8 (p .u) (q .u)
-  pub v : Kept (w / 2) (column * 8) (row * 8) 8 (p .v) (q .v)
+pub record Elsewhere (place : Place) (p q : Planes) : Type 0 where
+  pub y : Kept (place .width) (place .column * 16) (place .row * 16) 16 (p .y) (q .y)
+  pub u : Kept (place .width / 2) (place .column * 8) (place .row * 8) 8 (p .u) (q .u)
+  pub v : Kept (place .width / 2) (place .column * 8) (place .row * 8) 8 (p .v) (q .v)
 
 kept-paint : (p : List ℕ) (w column row n : ℕ) (small : Bool) (mode : ℕ) (modes : List ℕ) (c : List ℤ) → Kept w (column * n) (row * n) n p (paintOf p w column row n small mode modes c .plane)
 kept-paint p w column row n small mode modes c =
     record { long = length-paint p w column row n small mode modes c; bytes = paint-bytes p w column row n small mode modes c; off = paint-off p w column row n small mode modes c }
 
-planes-kept : {w column row : ℕ} {p : Planes} {m : Macroblock} {c : List ℤ} → Laid w column row p → Painting m c → Elsewhere w column row p (paintedPlanes w column row m c p)
-planes-kept {w} {column} {row} {p} {m} {c} g h = record { y = luma; u = chroma (p .u) (g .blue) 256 (omega arith); v = chroma (p .v) (g .red) 320 (omega arith) }
+planes-kept : {place : Place} {p : Planes} {m : Macroblock} {c : List ℤ} → Laid place p → Painting m c → Elsewhere place p (paintedPlanes place m c p)
+planes-kept {place} {p} {m} {c} g h = record { y = luma; u = chroma (p .u) (g .blue) 256 (omega arith); v = chroma (p .v) (g .red) 320 (omega arith) }
   where
-    luma : Kept w (column * 16) (row * 16) 16 (p .y) (paintedPlanes w column row m c p .y)
+    luma : Kept (place .width) (place .column * 16) (place .row * 16) 16 (p .y) (paintedPlanes place m c p .y)
     luma =
-        subst (λ (o : Outcome). Kept w (column * 16) (row * 16) 16 (p .y) (o .plane))
-        (paint-good (p .y) w column row 16 (m .small) (getD (m .modes) 0 0) (m .modes) (take 256 c) (luma-proper g h))
-        (kept-paint (p .y) w column row 16 (m .small) (getD (m .modes) 0 0) (m .modes) (take 256 c))
+        subst (λ (o : PaintedPlane). Kept (place .width) (place .column * 16) (place .row * 16) 16 (p .y) (o .plane))
+        (paint-good (p .y) (place .width) (place .column) (place .row) 16 (m .small) (getD (m .modes) 0 0) (m .modes) (take 256 c) (luma-proper g h))
+        (kept-paint (p .y) (place .width) (place .column) (place .row) 16 (m .small) (getD (m .modes) 0 0) (m .modes) (take 256 c))
 
-    chroma : (q : List ℕ) → length q ≡ g .rows * 8 * (w / 2) → (k : ℕ) → k + 64 ≤ 384
-        → Kept (w / 2) (column * 8) (row * 8) 8 q (squarePainted q (w / 2) (column * 8) (row * 8) 8 false (m .chroma) (m .modes) (take 64 (drop k c)))
+    chroma : (q : List ℕ) → length q ≡ g .rows * 8 * (place .width / 2) → (k : ℕ) → k + 64 ≤ 384
+        → Kept (place .width / 2) (place .column * 8) (place .row * 8) 8 q (squarePainted q (place .width / 2) (place .column * 8) (place .row * 8) 8 false (m .chroma) (m .modes) (take 64 (drop k c)))
     chroma q e k l =
-        subst (λ (o : Outcome). Kept (w / 2) (column * 8) (row * 8) 8 q (o .plane))
-        (paint-good q (w / 2) column row 8 false (m .chroma) (m .modes) (take 64 (drop k c)) (chroma-proper g h q e k l))
-        (kept-paint q (w / 2) column row 8 false (m .chroma) (m .modes) (take 64 (drop k c)))
+        subst (λ (o : PaintedPlane). Kept (place .width / 2) (place .column * 8) (place .row * 8) 8 q (o .plane))
+        (paint-good q (place .width / 2) (place .column) (place .row) 8 false (m .chroma) (m .modes) (take 64 (drop k c)) (chroma-proper g h q e k l))
+        (kept-paint q (place .width / 2) (place .column) (place .row) 8 false (m .chroma) (m .modes) (take 64 (drop k c)))
 
 -- ---- what a finished macroblock leaves: readers in range and no earlier, modes in range, contexts in range, a limit of at most 189
-pub record Ends (s : List ℕ) (r : Reader) (tokens : List ℕ) (t : Reader) (x : Finished) : Type 0 where
-  pub first : Valid s (x .first)
-  pub later : r .at ≤ x .first .at
-  pub token : Valid tokens (x .tokens)
-  pub token-later : t .at ≤ x .tokens .at
+pub record Ends (s tokens : List ℕ) (readers : Readers) (x : Finished) : Type 0 where
+  pub first : Valid s (x .readers .first)
+  pub later : readers .first .at ≤ x .readers .first .at
+  pub token : Valid tokens (x .readers .token)
+  pub token-later : readers .token .at ≤ x .readers .token .at
   pub modes : InRange (x .modes)
   pub top : contextFine (x .top) ≡ true
   pub left : contextFine (x .left) ≡ true
-  pub top-sized : Sized (x .top)
-  pub left-sized : Sized (x .left)
-  pub above : Flags (x .top .flags)
-  pub beside : Flags (x .left .flags)
+  pub top-sized : Shaped (x .top)
+  pub left-sized : Shaped (x .left)
+  pub top-flags : Flags (x .top .flags)
+  pub left-flags : Flags (x .left .flags)
   pub limit : x .strength .limit ≤ 189
 
 -- ---- the answers are apart
@@ -108,8 +110,8 @@ finished-is : {x y : Finished} → finished x ≡ finished y → x ≡ y
 finished-is {x} e = ap (given-or x) e
 
 -- ---- the same of the macroblock that its parts make
-module _ (f : Frame) (w column row : ℕ) (p : Planes) (m : Macroblock) (d : Model) {s tokens : List ℕ} {r t q u : Reader} where
-  end-ends : ((small : Bool) (i : ℕ) → levelAt f small i ≤ 63) → Ended InRange s r m q → Ended Residual.Whole tokens t d u → Ends s r tokens t (endOf f w column row p m q d u)
+module _ (f : Frame) (place : Place) (p : Planes) (m : Macroblock) (d : Model) {s tokens : List ℕ} {readers : Readers} {q u : Reader} where
+  end-ends : Sound f → Ended InRange s (readers .first) m q → Ended ModelInRange tokens (readers .token) d u → Ends s tokens readers (endOf f place p m q d u)
   unfolding endOf
   end-ends k i e =
       let o = i .value .luma .each in
@@ -119,56 +121,56 @@ module _ (f : Frame) (w column row : ℕ) (p : Planes) (m : Macroblock) (d : Mod
         token = e .valid;
         token-later = e .later;
         modes = i .value;
-        top = context-test (record { modes = bottomOf (m .modes); flags = d .top }) (modes-test (bottomOf (m .modes)) (bottom-modes (m .modes) o)) (e .value .top);
-        left = context-test (record { modes = rightOf (m .modes); flags = d .left }) (modes-test (rightOf (m .modes)) (right-modes (m .modes) o)) (e .value .left);
+        top = context-test (below m (d .top)) (modes-test (bottomOf (m .modes)) (bottom-modes (m .modes) o)) (e .value .top);
+        left = context-test (beside m (d .left)) (modes-test (rightOf (m .modes)) (right-modes (m .modes) o)) (e .value .left);
         top-sized = record { modes = refl; flags = e .value .top .long };
         left-sized = record { modes = refl; flags = e .value .left .long };
-        above = e .value .top;
-        beside = e .value .left;
-        limit = limit-most (levelAt f (m .small) (m .segment)) (f .sharp) (m .small || not (d .empty)) (k (m .small) (m .segment));
+        top-flags = e .value .top;
+        left-flags = e .value .left;
+        limit = limit-most (levelAt f (m .small) (m .segment)) (f .sharp) (m .small || not (d .empty)) (k .levels (m .small) (m .segment));
       }
 
-  end-outside : Laid w column row p → Ended InRange s r m q → Ended Residual.Whole tokens t d u → Elsewhere w column row p (endOf f w column row p m q d u .planes)
+  end-outside : Laid place p → Ended InRange s (readers .first) m q → Ended ModelInRange tokens (readers .token) d u → Elsewhere place p (endOf f place p m q d u .planes)
   unfolding endOf
   end-outside g i e = planes-kept g (painting (i .value) (e .value))
 
 pub record SameModes (x y : Finished) : Type 0 where
   pub modes : x .modes ≡ y .modes
-  pub first : x .first ≡ y .first
+  pub first : x .readers .first ≡ y .readers .first
   pub bottom : x .top .modes ≡ y .top .modes
   pub side : x .left .modes ≡ y .left .modes
 
-module _ (s : List ℕ) (r : Reader) (tokens : List ℕ) (t : Reader) (h : List ℤ) (table : List ℕ) (f : Frame) (top left : Context) (w column row : ℕ) (p : Planes) where
+module _ (s tokens : List ℕ) (readers : Readers) (f : Frame) (table : List ℕ) (around : Around) (place : Place) (p : Planes) where
   abbrev call : Step
-  call = stepOf s r tokens t h table f top left w column row p
+  call = stepOf s tokens readers f table around place p
 
   -- what the two grammars give
   abbrev pub modesRun : Given Macroblock
-  modesRun = run (modesOf h (top .modes) (left .modes)) s r
+  modesRun = run (modesOf (f .announced) (around .top .modes) (around .left .modes)) s (readers .first)
 
   abbrev pub tokensRun : Macroblock → Given Model
-  tokensRun m = run (residualOf table (factorsAt f (m .segment)) (m .small) (m .skip) (top .flags) (left .flags)) tokens t
+  tokensRun m = run (residualOf table (factorsAt f (m .segment)) (m .small) (m .skip) (around .top .flags) (around .left .flags)) tokens (readers .token)
 
   -- ---- the three ways
   pub step-no-modes : modesRun ≡ missing → call ≡ no-modes
   unfolding stepOf
-  step-no-modes e = ap (afterModes (tokenStep tokens t table f (top .flags) (left .flags) w column row p)) e
+  step-no-modes e = ap (afterModes (tokenStep tokens (readers .token) f table around place p)) e
 
   module _ (m : Macroblock) (q : Reader) (e : modesRun ≡ given m q) where
-    with-modes : call ≡ afterTokens (endOf f w column row p m q) (tokensRun m)
+    with-modes : call ≡ afterTokens (endOf f place p m q) (tokensRun m)
     unfolding stepOf
-    with-modes = ap (afterModes (tokenStep tokens t table f (top .flags) (left .flags) w column row p)) e
+    with-modes = ap (afterModes (tokenStep tokens (readers .token) f table around place p)) e
 
     pub step-no-tokens : tokensRun m ≡ missing → call ≡ no-tokens
-    step-no-tokens g = with-modes ∙ ap (afterTokens (endOf f w column row p m q)) g
+    step-no-tokens g = with-modes ∙ ap (afterTokens (endOf f place p m q)) g
 
-    pub step-done : {d : Model} {u : Reader} → tokensRun m ≡ given d u → call ≡ finished (endOf f w column row p m q d u)
-    step-done g = with-modes ∙ ap (afterTokens (endOf f w column row p m q)) g
+    pub step-done : {d : Model} {u : Reader} → tokensRun m ≡ given d u → call ≡ finished (endOf f place p m q d u)
+    step-done g = with-modes ∙ ap (afterTokens (endOf f place p m q)) g
 
   -- there is no other
   by-way : (P : Step → Type 0) → (modesRun ≡ missing → P no-modes)
       → ((m : Macroblock) (q : Reader) → modesRun ≡ given m q → tokensRun m ≡ missing → P no-tokens)
-      → ((m : Macroblock) (q : Reader) (d : Model) (u : Reader) → modesRun ≡ given m q → tokensRun m ≡ given d u → P (finished (endOf f w column row p m q d u)))
+      → ((m : Macroblock) (q : Reader) (d : Model) (u : Reader) → modesRun ≡ given m q → tokensRun m ≡ given d u → P (finished (endOf f place p m q d u)))
       → P call
   by-way P a b c = go modesRun refl
     where
@@ -200,71 +202,71 @@ module _ (s : List ℕ) (r : Reader) (tokens : List ℕ) (t : Reader) (h : List 
   -- both were given: `step-done` is the converse
   pub record Both (x : Finished) : Type 0 where
     pub model : Model
-    pub modes : modesRun ≡ given (x .modes) (x .first)
-    pub coefficients : tokensRun (x .modes) ≡ given model (x .tokens)
-    pub above : x .top ≡ record { modes = bottomOf (x .modes .modes); flags = model .top }
-    pub beside : x .left ≡ record { modes = rightOf (x .modes .modes); flags = model .left }
-    pub strengths : x .strength ≡ strengthOf (levelAt f (x .modes .small) (x .modes .segment)) (f .sharp) (x .modes .small || not (model .empty))
-    pub is : x ≡ endOf f w column row p (x .modes) (x .first) model (x .tokens)
+    pub modes : modesRun ≡ given (x .modes) (x .readers .first)
+    pub coefficients : tokensRun (x .modes) ≡ given model (x .readers .token)
+    pub top : x .top ≡ below (x .modes) (model .top)
+    pub left : x .left ≡ beside (x .modes) (model .left)
+    pub strengths : x .strength ≡ strengthIn f (x .modes) (model .empty)
+    pub is : x ≡ endOf f place p (x .modes) (x .readers .first) model (x .readers .token)
 
   pub step-both : {x : Finished} → call ≡ finished x → Both x
   unfolding endOf
   step-both {x} =
       by-way (λ (g : Step). g ≡ finished x → Both x) (λ e k. absurd (apart k (omega arith))) (λ m q e g k. absurd (apart k (omega arith)))
-      (λ m q d u e g k. subst Both (finished-is k) (record { model = d; modes = e; coefficients = g; above = refl; beside = refl; strengths = refl; is = refl }))
+      (λ m q d u e g k. subst Both (finished-is k) (record { model = d; modes = e; coefficients = g; top = refl; left = refl; strengths = refl; is = refl }))
 
   -- ---- a macroblock that is finished
-  module _ (a : Ready s r tokens t h table f top left) (y : Bytes s) (z : Bytes tokens) (b : Bytes table) {x : Finished} (e : call ≡ finished x) where
+  module _ (a : Ready s tokens readers f table around) (y : Bytes s) (z : Bytes tokens) (b : Bytes table) {x : Finished} (e : call ≡ finished x) where
     abbrev both : Both x
     both = step-both e
 
-    read : Ended InRange s r (x .modes) (x .first)
-    read = run-valid (modes-within h (top .modes) (left .modes)) y (a .reader) (both .modes)
+    read : Ended InRange s (readers .first) (x .modes) (x .readers .first)
+    read = run-valid (modes-within (f .announced) (a .sound .announced) (around .top .modes) (around .left .modes)) y (a .reader) (both .modes)
 
-    coded : Ended Residual.Whole tokens t (both .model) (x .tokens)
-    coded = run-valid (residual-within table (factorsAt f (x .modes .segment)) b (x .modes .small) (x .modes .skip) (a .above) (a .beside)) z (a .token) (both .coefficients)
+    coded : Ended ModelInRange tokens (readers .token) (both .model) (x .readers .token)
+    coded = run-valid (residual-within table (factorsAt f (x .modes .segment)) b (x .modes .small) (x .modes .skip) (a .top) (a .left)) z (a .token) (both .coefficients)
 
     -- its flags and coefficients are in range
-    pub step-whole : Residual.Whole (step-both e .model)
+    pub step-whole : ModelInRange (step-both e .model)
     step-whole = coded .value
 
     -- THE LAW of what it leaves
-    pub step-ends : Ends s r tokens t x
-    step-ends = subst (Ends s r tokens t) (sym (both .is)) (end-ends f w column row p (x .modes) (both .model) (a .levels) read coded)
+    pub step-ends : Ends s tokens readers x
+    step-ends = subst (Ends s tokens readers) (sym (both .is)) (end-ends f place p (x .modes) (both .model) (a .sound) read coded)
 
     -- what it does to the planes
-    pub step-outside : Laid w column row p → Elsewhere w column row p (x .planes)
-    step-outside g = subst (λ (n : Finished). Elsewhere w column row p (n .planes)) (sym (both .is)) (end-outside f w column row p (x .modes) (both .model) g read coded)
+    pub step-outside : Laid place p → Elsewhere place p (x .planes)
+    step-outside g = subst (λ (n : Finished). Elsewhere place p (n .planes)) (sym (both .is)) (end-outside f place p (x .modes) (both .model) g read coded)
 
 -- ---- with the frame of a header, in the source's words: the modes; the residual with the segment's factors; the strengths of the segment's
 -- level and of what was coded; the modes and flags that are left below and to the right
-pub record Source (s : List ℕ) (r : Reader) (tokens : List ℕ) (t : Reader) (h : List ℤ) (table : List ℕ) (top left : Context) (x : Finished) : Type 0 where
+pub record Source (h : List ℤ) (s tokens : List ℕ) (readers : Readers) (table : List ℕ) (around : Around) (x : Finished) : Type 0 where
   pub model : Model
-  pub modes : run (modesOf h (top .modes) (left .modes)) s r ≡ given (x .modes) (x .first)
-  pub coefficients : run (residualOf table (factorsOf h (x .modes .segment)) (x .modes .small) (x .modes .skip) (top .flags) (left .flags)) tokens t ≡ given model (x .tokens)
-  pub strengths : x .strength ≡ strengthOf (levelOf h (x .modes .segment) (x .modes .small)) (upTo 255 (entry h 19)) (x .modes .small || not (model .empty))
-  pub above : x .top ≡ record { modes = bottomOf (x .modes .modes); flags = model .top }
-  pub beside : x .left ≡ record { modes = rightOf (x .modes .modes); flags = model .left }
+  pub modes : run (modesOf (announcedOf h) (around .top .modes) (around .left .modes)) s (readers .first) ≡ given (x .modes) (x .readers .first)
+  pub coefficients : run (residualOf table (factorsOf h (x .modes .segment)) (x .modes .small) (x .modes .skip) (around .top .flags) (around .left .flags)) tokens (readers .token) ≡ given model (x .readers .token)
+  pub strengths : x .strength ≡ strengthOf (levelOf h (x .modes .segment) (x .modes .small)) (upTo 255 (entry h sharpness)) (x .modes .small || not (model .empty))
+  pub top : x .top ≡ below (x .modes) (model .top)
+  pub left : x .left ≡ beside (x .modes) (model .left)
 
-module _ (s : List ℕ) (r : Reader) (tokens : List ℕ) (t : Reader) (h : List ℤ) (table : List ℕ) (top left : Context) (w column row : ℕ) (p : Planes) where
-  pub step-source : Valid s r → Bytes s → {x : Finished} → stepOf s r tokens t h table (frameOf h) top left w column row p ≡ finished x → Source s r tokens t h table top left x
-  unfolding frameOf
+module _ (h : List ℤ) (s tokens : List ℕ) (readers : Readers) (table : List ℕ) (around : Around) (place : Place) (p : Planes) where
+  pub step-source : Valid s (readers .first) → Bytes s → {x : Finished} → stepOf s tokens readers (frameOf h) table around place p ≡ finished x → Source h s tokens readers table around x
   step-source v y {x} e =
-      let b = step-both s r tokens t h table (frameOf h) top left w column row p e in
-      let l : x .modes .segment < 4 = run-valid (modes-within h (top .modes) (left .modes)) y v (b .modes) .value .segment in
+      let b = step-both s tokens readers (frameOf h) table around place p e in
+      let sound = frame-sound h .announced in
+      let l : x .modes .segment < 4 = run-valid (modes-within (frameOf h .announced) sound (around .top .modes) (around .left .modes)) y v (b .modes) .value .segment in
       record {
         model = b .model;
-        modes = b .modes;
-        coefficients = ap (λ (g : Factors). run (residualOf table g (x .modes .small) (x .modes .skip) (top .flags) (left .flags)) tokens t) (sym (frame-factors h (x .modes .segment) l)) ∙ b .coefficients;
-        strengths = b .strengths ∙ ap (λ (n : ℕ). strengthOf n (upTo 255 (entry h 19)) (x .modes .small || not (b .model .empty))) (frame-level h (x .modes .small) (x .modes .segment) l);
-        above = b .above;
-        beside = b .beside;
+        modes = rw (frame-announced h) at (b .modes);
+        coefficients = rw (frame-factors h (x .modes .segment) l) at (b .coefficients);
+        strengths = b .strengths ∙ ap₂ (λ (n k : ℕ). strengthOf n k (x .modes .small || not (b .model .empty))) (frame-level h (x .modes .small) (x .modes .segment) l) (frame-sharp h);
+        top = b .top;
+        left = b .left;
       }
 
 -- ---- what an answer, with the planes behind it, says of the step. Good arguments are never refused, so a refusal may be sent anywhere
-abbrev pub fromFinish : Whole → Planes → Finish → Step
-fromFinish x q (F.Done a b) =
-    finished (record { modes = macroblockOf (x .kinds) (x .modes); strength = x .strength; top = x .top; left = x .left; first = a; tokens = b; planes = q })
+abbrev pub fromFinish : Outcome → Planes → Finish → Step
+fromFinish x q (F.Done readers) =
+    finished (record { modes = macroblockOf (x .kinds) (x .modes); strength = x .strength; top = x .top; left = x .left; readers = readers; planes = q })
 fromFinish x q F.NoModes = no-modes
 fromFinish x q F.NoTokens = no-tokens
 fromFinish x q F.Refused = no-modes
@@ -282,46 +284,44 @@ not-refused p (finished x) e = let z : _≡_ {A = ℕ} 0 9 = ap finishNumberOf e
 not-refused p no-modes e = let z : _≡_ {A = ℕ} 6 9 = ap finishNumberOf e in omega arith
 not-refused p no-tokens e = let z : _≡_ {A = ℕ} 7 9 = ap finishNumberOf e in omega arith
 
-module _ (s : List ℕ) (r : Reader) (tokens : List ℕ) (t : Reader) (h : List ℤ) (table : List ℕ) (f : Frame) (top left : Context) (w column row : ℕ) (p : Planes) where
-  pub whole-step : wholeOf s r tokens t h table f top left w column row p ≡ toCalled p (stepOf s r tokens t h table f top left w column row p)
-  unfolding wholeOf
-  whole-step = refl
+module _ (s tokens : List ℕ) (readers : Readers) (f : Frame) (table : List ℕ) (around : Around) (place : Place) (p : Planes)
+    (a : Ready s tokens readers f table around) (b : Laid place p) {x : Outcome} {q : Planes}
+    (e : record { answer = x; planes = q } ≡ decodeOf s tokens readers f table around place p) where
+  called : record { answer = x; planes = q } ≡ toCalled p (stepOf s tokens readers f table around place p)
+  called = e ∙ decode-good s tokens readers f table around place p a b
 
-  module _ (a : Ready s r tokens t h table f top left) (b : Laid w column row p) {x : Whole} {q : Planes} (e : record { answer = x; planes = q } ≡ decodeOf s r tokens t h table f top left w column row p) where
-    called : record { answer = x; planes = q } ≡ toCalled p (stepOf s r tokens t h table f top left w column row p)
-    called = e ∙ decode-good s r tokens t h table f top left w column row p a b ∙ whole-step
+  -- THE LAW for callers of `decode`
+  pub decoded : stepOf s tokens readers f table around place p ≡ fromCalled (record { answer = x; planes = q })
+  decoded = from-called p (stepOf s tokens readers f table around place p) ∙ ap fromCalled (sym called)
 
-    -- THE LAW for callers of `decode`
-    pub decoded : stepOf s r tokens t h table f top left w column row p ≡ fromCalled (record { answer = x; planes = q })
-    decoded = from-called p (stepOf s r tokens t h table f top left w column row p) ∙ ap fromCalled (sym called)
+  pub decode-never : x .answer ≡ F.Refused → ⊥
+  decode-never k = not-refused p (stepOf s tokens readers f table around place p) (sym (ap (λ (c : Called). c .answer .answer) called) ∙ k)
 
-    pub decode-never : x .answer ≡ F.Refused → ⊥
-    decode-never k = not-refused p (stepOf s r tokens t h table f top left w column row p) (sym (ap (λ (c : Called). c .answer .answer) called) ∙ k)
-
--- ---- modes are read before tokens, and from the first partition alone: two calls with the same partition, reader, header and modes
--- around, whatever else they have
-module _ (s : List ℕ) (r : Reader) (h : List ℤ)
-    (tokens : List ℕ) (t : Reader) (table : List ℕ) (f : Frame) (top left : Context) (w column row : ℕ) (p : Planes)
-    (tokens′ : List ℕ) (t′ : Reader) (table′ : List ℕ) (f′ : Frame) (top′ left′ : Context) (w′ column′ row′ : ℕ) (p′ : Planes)
-    (a : top .modes ≡ top′ .modes) (b : left .modes ≡ left′ .modes) where
-  same-run : run (modesOf h (top .modes) (left .modes)) s r ≡ run (modesOf h (top′ .modes) (left′ .modes)) s r
-  same-run = ap₂ (λ (c d : List ℕ). run (modesOf h c d) s r) a b
+-- ---- modes are read before tokens, and from the first partition alone: two calls with the same partition, reader, announcement and
+-- modes around, whatever else they have
+module _ (s : List ℕ)
+    (tokens : List ℕ) (readers : Readers) (f : Frame) (table : List ℕ) (around : Around) (place : Place) (p : Planes)
+    (tokens′ : List ℕ) (readers′ : Readers) (f′ : Frame) (table′ : List ℕ) (around′ : Around) (place′ : Place) (p′ : Planes)
+    (r : readers .first ≡ readers′ .first) (n : f .announced ≡ f′ .announced)
+    (a : around .top .modes ≡ around′ .top .modes) (b : around .left .modes ≡ around′ .left .modes) where
+  same-run : run (modesOf (f .announced) (around .top .modes) (around .left .modes)) s (readers .first) ≡ run (modesOf (f′ .announced) (around′ .top .modes) (around′ .left .modes)) s (readers′ .first)
+  same-run = λ i. run (modesOf (n i) (a i) (b i)) s (r i)
 
   -- where one runs out of modes, so does the other
-  pub step-no-modes-both : stepOf s r tokens t h table f top left w column row p ≡ no-modes → stepOf s r tokens′ t′ h table′ f′ top′ left′ w′ column′ row′ p′ ≡ no-modes
+  pub step-no-modes-both : stepOf s tokens readers f table around place p ≡ no-modes → stepOf s tokens′ readers′ f′ table′ around′ place′ p′ ≡ no-modes
   step-no-modes-both e =
-      step-no-modes s r tokens′ t′ h table′ f′ top′ left′ w′ column′ row′ p′ (sym same-run ∙ step-refused-modes s r tokens t h table f top left w column row p e)
+      step-no-modes s tokens′ readers′ f′ table′ around′ place′ p′ (sym same-run ∙ step-refused-modes s tokens readers f table around place p e)
 
   -- where both are finished, their modes, what these leave and the reader after them are the same
-  pub step-modes-only-first : {x x′ : Finished} → stepOf s r tokens t h table f top left w column row p ≡ finished x → stepOf s r tokens′ t′ h table′ f′ top′ left′ w′ column′ row′ p′ ≡ finished x′ → SameModes x x′
+  pub step-modes-only-first : {x x′ : Finished} → stepOf s tokens readers f table around place p ≡ finished x → stepOf s tokens′ readers′ f′ table′ around′ place′ p′ ≡ finished x′ → SameModes x x′
   step-modes-only-first {x} {x′} e k =
-      let c = step-both s r tokens t h table f top left w column row p e in
-      let d = step-both s r tokens′ t′ h table′ f′ top′ left′ w′ column′ row′ p′ k in
-      let g : given (x .modes) (x .first) ≡ given (x′ .modes) (x′ .first) = sym (c .modes) ∙ same-run ∙ d .modes in
+      let c = step-both s tokens readers f table around place p e in
+      let d = step-both s tokens′ readers′ f′ table′ around′ place′ p′ k in
+      let g : given (x .modes) (x .readers .first) ≡ given (x′ .modes) (x′ .readers .first) = sym (c .modes) ∙ same-run ∙ d .modes in
       let m : x .modes ≡ x′ .modes = cc in
       record {
         modes = m;
         first = cc;
-        bottom = ap (λ (n : Context). n .modes) (c .above) ∙ ap (λ (n : Macroblock). bottomOf (n .modes)) m ∙ sym (ap (λ (n : Context). n .modes) (d .above));
-        side = ap (λ (n : Context). n .modes) (c .beside) ∙ ap (λ (n : Macroblock). rightOf (n .modes)) m ∙ sym (ap (λ (n : Context). n .modes) (d .beside));
+        bottom = ap (λ (n : Context). n .modes) (c .top) ∙ ap (λ (n : Macroblock). bottomOf (n .modes)) m ∙ sym (ap (λ (n : Context). n .modes) (d .top));
+        side = ap (λ (n : Context). n .modes) (c .left) ∙ ap (λ (n : Macroblock). rightOf (n .modes)) m ∙ sym (ap (λ (n : Context). n .modes) (d .left));
       }

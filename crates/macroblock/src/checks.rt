@@ -1,12 +1,16 @@
 // Whether the arguments of a macroblock lie in their ranges. Nothing is multiplied before it is known to be small.
-use modes::columns::Context;
-use modes::columns::context_fine;
-use reader::boolean::Reader;
+use crate::arguments::Around;
+use crate::arguments::Place;
+use crate::arguments::Readers;
+use header::frame::Frame;
+use modes::contexts::context_fine;
 use reader::boolean::valid;
-use segments::frame::Frame;
 ghost use mathlib.Core.Path.{_≡_};
+ghost use mathlib.Core.Bool.{_&&_};
 ghost use Prim.Native.Nat.{_*_, _≤_};
+ghost use Rattle.modes.specs.Contexts.{contextFine};
 ghost use Rattle.macroblock.specs.Macroblock.{levelsFine, readyOf, laidOf};
+ghost use Rattle.macroblock.specs.DecodeLaws.{FrameSizes, AroundSizes};
 
 fn levels_fine(levels: [u8; 4]) -> bool
     ensures { λ b. ⌜ b ≡ levelsFine levels ⌝ }
@@ -14,26 +18,39 @@ fn levels_fine(levels: [u8; 4]) -> bool
     ((levels[0] <= 63) & (levels[1] <= 63)) & ((levels[2] <= 63) & (levels[3] <= 63))
 }
 
-// What is read and what it is read by. `entries` and `size` are the lengths of the header and of the table.
-pub(crate) fn ready(
-    s: &[u8],
-    r: Reader,
-    tokens: &[u8],
-    t: Reader,
-    entries: usize,
-    size: usize,
-    frame: Frame,
-    top: Context,
-    left: Context,
-) -> bool
-    ensures { λ b. ⌜ b ≡ readyOf (now (s .entry)) r (now (tokens .entry)) t entries size frame top left ⌝ }
+// The two tries below also say what their types do: how long the arrays are, and that a byte is one.
+fn frame_fine(frame: Frame) -> bool
+    ensures { λ b. ⌜ (b ≡ (levelsFine (frame .large) && levelsFine (frame .small))) × FrameSizes frame ⌝ }
 {
     let large = frame.large;
     let small = frame.small;
-    (valid(s, r) & valid(tokens, t))
-        & (((entries == 1096) & (size == 1056))
-            & ((context_fine(top) & context_fine(left))
-                & (levels_fine(large) & levels_fine(small))))
+    levels_fine(large) & levels_fine(small)
+}
+
+fn around_fine(around: Around) -> bool
+    ensures { λ b. ⌜ (b ≡ (contextFine (around .top) && contextFine (around .left))) × AroundSizes around ⌝ }
+{
+    let top = around.top;
+    let left = around.left;
+    context_fine(top) & context_fine(left)
+}
+
+// What is read and what it is read by. `size` is the length of the table.
+pub(crate) fn ready(
+    first: &[u8],
+    tokens: &[u8],
+    readers: Readers,
+    frame: Frame,
+    size: usize,
+    around: Around,
+) -> bool
+    ensures { λ b. ⌜ (b ≡ readyOf (now (first .entry)) (now (tokens .entry)) readers frame size around)
+        × (FrameSizes frame × AroundSizes around) ⌝ }
+{
+    let r = readers.first;
+    let t = readers.token;
+    (valid(first, r) & valid(tokens, t))
+        & ((size == 1056) & (around_fine(around) & frame_fine(frame)))
 }
 
 fn area(rows: usize, width: usize) -> usize
@@ -44,10 +61,11 @@ fn area(rows: usize, width: usize) -> usize
 }
 
 // Where it is painted: planes of whole macroblocks, given by their lengths, and this one among them.
-pub(crate) fn laid(y: usize, u: usize, v: usize, width: usize, column: usize, row: usize) -> bool
-    ensures { λ b. ⌜ b ≡ laidOf y u v width column row ⌝ }
+pub(crate) fn laid(y: usize, u: usize, v: usize, place: Place) -> bool
+    ensures { λ b. ⌜ b ≡ laidOf y u v place ⌝ }
 {
-    if width / 16 <= column {
+    let width = place.width;
+    if width / 16 <= place.column {
         return false;
     }
     let rows = y / width / 16;
@@ -59,5 +77,5 @@ pub(crate) fn laid(y: usize, u: usize, v: usize, width: usize, column: usize, ro
     }
     let luma = area(rows * 16, width);
     let chroma = area(rows * 8, width / 2);
-    ((width % 16 == 0) & (row < rows)) & ((y == luma) & ((u == chroma) & (v == chroma)))
+    ((width % 16 == 0) & (place.row < rows)) & ((y == luma) & ((u == chroma) & (v == chroma)))
 }

@@ -1,5 +1,5 @@
 // One macroblock whole: its modes, its residual, its samples, its strengths and the contexts it leaves.
+pub mod arguments;
 mod checks;
-pub mod records;
 mod squares;
 pub mod whole;

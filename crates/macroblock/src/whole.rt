@@ -1,42 +1,46 @@
 // One macroblock (the source's vp8_macroblock): its modes, then its residual, then its three squares, its strengths and the
 // contexts that it leaves. Where a byte is missing nothing is written.
+use crate::arguments::Around;
+use crate::arguments::Place;
+use crate::arguments::Readers;
 use crate::checks::laid;
 use crate::checks::ready;
 use crate::squares::squares;
 use filter::strengths::Strength;
 use filter::strengths::Strengths;
 use filter::strengths::at_level;
+use header::frame::Frame;
+use header::quantizers::Factors;
 use modes::answers::Kinds;
 use modes::answers::Stage;
-use modes::columns::Context;
-use modes::columns::bottom;
-use modes::columns::right;
+use modes::contexts::Context;
+use modes::contexts::bottom;
+use modes::contexts::right;
 use modes::whole::read_modes;
 use reader::boolean::Reader;
 use residual::Ended;
-use segments::frame::Frame;
-use segments::quantizers::Factors;
 ghost use mathlib.Core.Path.{_≡_};
-ghost use mathlib.Core.Bool.{Bool, not, _||_};
-ghost use Prim.Native.Nat.{ℕ, _<_, _≤_};
-ghost use Rattle.reader.specs.Reading.{run};
-ghost use Rattle.modes.specs.Modes.{bottomOf, rightOf};
+ghost use mathlib.Core.Bool.{not, _||_};
+ghost use Prim.Native.Nat.{_<_, _≤_};
+ghost use Rattle.header.specs.Frame.{levelAt, factorsAt};
+ghost use Rattle.header.specs.FrameLaws.{Sound};
 ghost use Rattle.modes.specs.ModesLaws.{InRange};
 ghost use Rattle.modes.specs.Answers.{macroblockOf};
-ghost use Rattle.residual.specs.Residual.{residualOf};
-ghost use Rattle.filter.specs.Strengths.{noStrength, strengthOf};
-ghost use Rattle.segments.specs.Frame.{levelAt, factorsAt};
-ghost use Rattle.macroblock.specs.Macroblock.{Ready, Tokens, Laid, endedOf, tokensOf, wholeOf, decodeOf, nothing};
+ghost use Rattle.filter.specs.Strengths.{strengthOf};
+ghost use Rattle.macroblock.specs.Macroblock.{planesOf, calledOf, toCalled, stepOf, decodeOf, nothing};
+ghost use Rattle.macroblock.specs.MacroblockLaws.{Ready, Tokens, Laid, endedOf, tokensOf};
 
 // Finished, with the readers after it; or where it stopped: its modes (6) or its tokens (7) ran out; or an argument (9).
 pub enum Finish {
-    Done(Reader, Reader),
+    Done(Readers),
     NoModes,
     NoTokens,
     Refused,
 }
 
-pub struct Whole {
+// What a macroblock gives beside its samples: its modes, its strengths, what it leaves to the macroblock below it and to the one right
+// of it. Zeros where it is not finished.
+pub struct Outcome {
     pub answer: Finish,
     pub kinds: Kinds,
     pub modes: [u8; 16],
@@ -45,10 +49,17 @@ pub struct Whole {
     pub left: Context,
 }
 
-fn stopped(answer: Finish) -> Whole
+// The modes of a macroblock, and the reader after them.
+struct ModeData {
+    kinds: Kinds,
+    modes: [u8; 16],
+    next: Reader,
+}
+
+fn stopped(answer: Finish) -> Outcome
     ensures { λ r. ⌜ r ≡ nothing answer ⌝ }
 {
-    Whole {
+    Outcome {
         answer: answer,
         kinds: Kinds {
             segment: 0,
@@ -113,40 +124,44 @@ fn index(x: u8) -> usize
 // The inner edges are filtered where the modes are small or something was coded.
 fn strength_of(frame: Frame, kinds: Kinds, empty: bool) -> Strength
     requires { ⌜ kinds .segment < 4 ⌝ }
-    requires { ⌜ ((small : Bool) (i : ℕ) → levelAt frame small i ≤ 63) ⌝ }
-    ensures { λ r. ⌜ r ≡ strengthOf (levelAt frame (kinds .small) (kinds .segment)) (frame .sharp) (kinds .small || not empty) ⌝ }
+    requires { ⌜ Sound frame ⌝ }
+    ensures { λ r. ⌜ r
+        ≡ strengthOf (levelAt frame (kinds .small) (kinds .segment)) (frame .sharp) (kinds .small || not empty) ⌝ }
 {
     let l = level_of(frame, kinds.small, index(kinds.segment));
     strength_at(l, frame.sharp, kinds.small | !empty)
 }
 
-// The answer of a macroblock whose bytes were all there. `top` and `left` are the flags of its residual.
+// The answer of a macroblock whose bytes were all there. `top` and `left` are the flags of its residual, `after` the reader behind it.
 fn ending(
     frame: Frame,
-    kinds: Kinds,
-    next: Reader,
-    modes: &[u8; 16],
+    m: ModeData,
     after: Reader,
     empty: bool,
     top: [u8; 9],
     left: [u8; 9],
-) -> Whole
-    requires { ⌜ kinds .segment < 4 ⌝ }
-    requires { ⌜ ((small : Bool) (i : ℕ) → levelAt frame small i ≤ 63) ⌝ }
-    ensures { λ q. ⌜ q ≡ endedOf frame (macroblockOf kinds (now (modes .entry))) next top left empty after ⌝ }
+) -> Outcome
+    requires { ⌜ m .kinds .segment < 4 ⌝ }
+    requires { ⌜ Sound frame ⌝ }
+    ensures { λ q. ⌜ q ≡ endedOf frame (macroblockOf (m .kinds) (m .modes)) (m .next) top left empty after ⌝ }
 {
-    let all = *modes;
-    Whole {
-        answer: Finish::Done(next, after),
+    let kinds = m.kinds;
+    let modes = m.modes;
+    let next = m.next;
+    Outcome {
+        answer: Finish::Done(Readers {
+            first: next,
+            token: after,
+        }),
         kinds: kinds,
-        modes: all,
+        modes: modes,
         strength: strength_of(frame, kinds, empty),
         top: Context {
-            modes: bottom(modes),
+            modes: bottom(&modes),
             flags: top,
         },
         left: Context {
-            modes: right(modes),
+            modes: right(&modes),
             flags: left,
         },
     }
@@ -156,25 +171,29 @@ fn ending(
 fn with_tokens(
     tokens: &[u8],
     t: Reader,
-    table: &[u8],
     frame: Frame,
-    top: [u8; 9],
-    left: [u8; 9],
-    kinds: Kinds,
-    next: Reader,
-    modes: &[u8; 16],
-    width: usize,
-    column: usize,
-    row: usize,
+    table: &[u8],
+    around: Around,
+    place: Place,
+    m: ModeData,
     y: &mut [u8],
     u: &mut [u8],
     v: &mut [u8],
-) -> Whole
-    requires { ⌜ Tokens (now tokens) t (now table) frame top left ⌝ }
-    requires { ⌜ InRange (macroblockOf kinds (now modes)) ⌝ }
-    requires { ⌜ Laid width column row (record { y = now y; u = now u; v = now v }) ⌝ }
-    ensures { λ q. ⌜ record { answer = q; planes = record { y = now (y .exit); u = now (u .exit); v = now (v .exit) } } ≡ tokensOf (now (tokens .entry)) t (now (table .entry)) frame top left (macroblockOf kinds (now (modes .entry))) next width column row (record { y = now (y .entry); u = now (u .entry); v = now (v .entry) }) ⌝ }
+) -> Outcome
+    requires { ⌜ Tokens (now tokens) t frame (now table) around ⌝ }
+    requires { ⌜ InRange (macroblockOf (m .kinds) (m .modes)) ⌝ }
+    requires { ⌜ Laid place (planesOf (now y) (now u) (now v)) ⌝ }
+    ensures { λ q. ⌜ calledOf q (now (y .exit)) (now (u .exit)) (now (v .exit))
+        ≡ tokensOf (now (tokens .entry)) t frame (now (table .entry)) around place
+        (macroblockOf (m .kinds) (m .modes)) (m .next)
+        (planesOf (now (y .entry)) (now (u .entry)) (now (v .entry))) ⌝ }
 {
+    let kinds = m.kinds;
+    let modes = m.modes;
+    let top = around.top;
+    let left = around.left;
+    let top_flags = top.flags;
+    let left_flags = left.flags;
     let mut c = [0; 384];
     let f = factors_of(frame, index(kinds.segment));
     let d = residual::decode(
@@ -184,120 +203,87 @@ fn with_tokens(
         f,
         kinds.small,
         kinds.skip,
-        top,
-        left,
+        top_flags,
+        left_flags,
         &mut c,
     );
     let answer = d.answer;
     let Ended::Done(after, empty) = answer else {
         return stopped(Finish::NoTokens);
     };
-    squares(
-        &mut y[..],
-        &mut u[..],
-        &mut v[..],
-        width,
-        column,
-        row,
-        kinds,
-        modes,
-        &c,
-    );
-    let above = d.top;
-    let beside = d.left;
-    ending(frame, kinds, next, modes, after, empty, above, beside)
+    squares(&mut y[..], &mut u[..], &mut v[..], place, kinds, &modes, &c);
+    let top_after = d.top;
+    let left_after = d.left;
+    ending(frame, m, after, empty, top_after, left_after)
 }
 
 // A macroblock of arguments in range.
 fn step(
-    s: &[u8],
-    r: Reader,
+    first: &[u8],
     tokens: &[u8],
-    t: Reader,
-    h: &[i32],
-    table: &[u8],
+    readers: Readers,
     frame: Frame,
-    top: Context,
-    left: Context,
-    width: usize,
-    column: usize,
-    row: usize,
+    table: &[u8],
+    around: Around,
+    place: Place,
     y: &mut [u8],
     u: &mut [u8],
     v: &mut [u8],
-) -> Whole
-    requires { ⌜ Ready (now s) r (now tokens) t (now h) (now table) frame top left ⌝ }
-    requires { ⌜ Laid width column row (record { y = now y; u = now u; v = now v }) ⌝ }
-    ensures { λ q. ⌜ record { answer = q; planes = record { y = now (y .exit); u = now (u .exit); v = now (v .exit) } } ≡ wholeOf (now (s .entry)) r (now (tokens .entry)) t (now (h .entry)) (now (table .entry)) frame top left width column row (record { y = now (y .entry); u = now (u .entry); v = now (v .entry) }) ⌝ }
+) -> Outcome
+    requires { ⌜ Ready (now first) (now tokens) readers frame (now table) around ⌝ }
+    requires { ⌜ Laid place (planesOf (now y) (now u) (now v)) ⌝ }
+    ensures { λ q. ⌜ calledOf q (now (y .exit)) (now (u .exit)) (now (v .exit))
+        ≡ (let p = planesOf (now (y .entry)) (now (u .entry)) (now (v .entry)) in
+        toCalled p (stepOf (now (first .entry)) (now (tokens .entry)) readers frame (now (table .entry)) around place p)) ⌝ }
 {
     let mut modes = [0; 16];
-    let above = top.modes;
-    let beside = left.modes;
-    let Stage::Read(kinds, next) = read_modes(s, h, r, above, beside, &mut modes) else {
+    let r = readers.first;
+    let t = readers.token;
+    let announced = frame.announced;
+    let top = around.top;
+    let left = around.left;
+    let top_modes = top.modes;
+    let left_modes = left.modes;
+    let Stage::Read(kinds, next) = read_modes(
+        first,
+        announced,
+        r,
+        top_modes,
+        left_modes,
+        &mut modes,
+    ) else {
         return stopped(Finish::NoModes);
     };
-    let over = top.flags;
-    let aside = left.flags;
-    with_tokens(
-        tokens,
-        t,
-        table,
-        frame,
-        over,
-        aside,
-        kinds,
-        next,
-        &modes,
-        width,
-        column,
-        row,
-        y,
-        u,
-        v,
-    )
+    let m = ModeData {
+        kinds: kinds,
+        modes: modes,
+        next: next,
+    };
+    with_tokens(tokens, t, frame, table, around, place, m, y, u, v)
 }
 
-// A macroblock: its modes from `s`, its tokens from `tokens`. Whatever is not finished leaves the planes as they were.
+// A macroblock: its modes from `first`, its tokens from `tokens`. Whatever is not finished leaves the planes as they were.
 pub fn decode(
-    s: &[u8],
-    r: Reader,
+    first: &[u8],
     tokens: &[u8],
-    t: Reader,
-    h: &[i32],
-    table: &[u8],
+    readers: Readers,
     frame: Frame,
-    top: Context,
-    left: Context,
-    width: usize,
-    column: usize,
-    row: usize,
+    table: &[u8],
+    around: Around,
+    place: Place,
     y: &mut [u8],
     u: &mut [u8],
     v: &mut [u8],
-) -> Whole
-    ensures { λ q. ⌜ record { answer = q; planes = record { y = now (y .exit); u = now (u .exit); v = now (v .exit) } } ≡ decodeOf (now (s .entry)) r (now (tokens .entry)) t (now (h .entry)) (now (table .entry)) frame top left width column row (record { y = now (y .entry); u = now (u .entry); v = now (v .entry) }) ⌝ }
+) -> Outcome
+    ensures { λ q. ⌜ calledOf q (now (y .exit)) (now (u .exit)) (now (v .exit))
+        ≡ decodeOf (now (first .entry)) (now (tokens .entry)) readers frame (now (table .entry)) around place
+        (planesOf (now (y .entry)) (now (u .entry)) (now (v .entry))) ⌝ }
 {
-    if !ready(s, r, tokens, t, h.len(), table.len(), frame, top, left) {
+    if !ready(first, tokens, readers, frame, table.len(), around) {
         return stopped(Finish::Refused);
     }
-    if !laid(y.len(), u.len(), v.len(), width, column, row) {
+    if !laid(y.len(), u.len(), v.len(), place) {
         return stopped(Finish::Refused);
     }
-    step(
-        s,
-        r,
-        tokens,
-        t,
-        h,
-        table,
-        frame,
-        top,
-        left,
-        width,
-        column,
-        row,
-        y,
-        u,
-        v,
-    )
+    step(first, tokens, readers, frame, table, around, place, y, u, v)
 }

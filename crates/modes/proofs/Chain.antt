@@ -14,7 +14,7 @@ use Rattle.reader.specs.Reading.{symbol, run}
 use Rattle.reader.specs.ReadingLaws.{run-valid, within-symbol, fromSymbol, symboled}
 use Rattle.reader.specs.Trees.{walk, branchAt}
 use Rattle.reader.specs.TreesLaws.{chain-missing, chain-leaf, chain-node}
-use Rattle.reader.proofs.Answers.{not-got}
+use Rattle.modes.proofs.Others.{not-got}
 use Rattle.reader.specs.declared.boolean.Symbol.the-variants as S
 use Rattle.reader.specs.declared.trees.Branch.the-variants as B
 use Rattle.reader.proofs.boolean.Symbol as symbol-type

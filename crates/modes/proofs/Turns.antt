@@ -10,7 +10,7 @@ use Rattle.reader.specs.BooleanLaws.{Bytes, Valid}
 use Rattle.reader.specs.Reading.{run}
 use Rattle.reader.specs.ReadingLaws.{Ended, run-valid}
 use Rattle.modes.specs.declared.answers.Mode.{Mode}
-use Rattle.modes.specs.Modes.{blockMode, aboveOf, leftOf, smallFrom, zeros, smallModes}
+use Rattle.modes.specs.Modes.{blockMode, modeAbove, modeLeft, smallFrom, zeros, smallModes}
 use Rattle.modes.specs.ModesLaws.{Modes, block-within, small-none, small-next, small-missing, set-modes, zeros-modes}
 use Rattle.modes.specs.Answers.{toMode}
 use Rattle.modes.specs.AnswersLaws.{fromMode, moded}
@@ -28,18 +28,18 @@ going-start above left v = record { more = 16; sum = refl; same = refl; valid = 
 
 module _ {s above left : List ℕ} {E : Given (List ℕ)} {i : ℕ} {r : Reader} {modes : List ℕ} (g : Going s above left E i r modes) where
   -- the answer of the code's call at block i, whose contexts u and b it worked out
-  module _ {u b : ℕ} {x : Mode} (e : u ≡ aboveOf above modes i) (f : b ≡ leftOf left modes i) (h : x ≡ toMode (run (blockMode u b) s r)) (l : i < 16) where
-    asked : run (blockMode (aboveOf above modes i) (leftOf left modes i)) s r ≡ fromMode x
+  module _ {u b : ℕ} {x : Mode} (e : u ≡ modeAbove above modes i) (f : b ≡ modeLeft left modes i) (h : x ≡ toMode (run (blockMode u b) s r)) (l : i < 16) where
+    asked : run (blockMode (modeAbove above modes i) (modeLeft left modes i)) s r ≡ fromMode x
     asked = rw (← e, ← f) (moded _ h)
 
     pub going-next : Bytes s → {m : ℕ} {q : Reader} → fromMode x ≡ given m q → Going s above left E (i + 1) q (set modes i m)
     going-next y {m} {q} k = go (g .more) (g .sum) (g .same)
       where
-        z : run (blockMode (aboveOf above modes i) (leftOf left modes i)) s r ≡ given m q
+        z : run (blockMode (modeAbove above modes i) (modeLeft left modes i)) s r ≡ given m q
         z = asked ∙ k
 
         d : Ended (λ v. v < 10) s r m q
-        d = run-valid (block-within (aboveOf above modes i) (leftOf left modes i)) y (g .valid) z
+        d = run-valid (block-within (modeAbove above modes i) (modeLeft left modes i)) y (g .valid) z
 
         go : (n : ℕ) → i + n ≡ 16 → run (smallFrom n i above left modes) s r ≡ E → Going s above left E (i + 1) q (set modes i m)
         go zero p w = absurd (omega arith)

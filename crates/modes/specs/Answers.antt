@@ -6,6 +6,9 @@ use lib.ListN.{length}
 use lib.IntN.{ℤ}
 use lib.Dec.{ltb, eqb}
 use Rattle.numbers.specs.Tables.{allOf}
+use Rattle.header.specs.Entries.{entryCount}
+use Rattle.header.specs.Frame.{announcedOf}
+use Rattle.header.specs.declared.frame.Announced.{Announced}
 use Rattle.reader.specs.declared.boolean.Reader.{Reader}
 use Rattle.reader.specs.Boolean.{Given, given, missing, validOf, noReader}
 use Rattle.reader.specs.Reading.{run}
@@ -46,7 +49,7 @@ abbrev pub toStaged : List ℕ → Given Macroblock → Staged
 toStaged old (given m r) = record { answer = S.Read (kindsOf m) r; modes = m .modes }
 toStaged old missing = record { answer = S.Missing; modes = old }
 
--- ---- the calls: refused where the reader, the header's length or a mode beside the macroblock is out of range
+-- ---- the calls: refused where the reader, a header's length or a mode beside the macroblock is out of range
 abbrev pub eachBelow : ℕ → List ℕ → Bool
 eachBelow m l = allOf (λ x. ltb x m) l
 
@@ -54,7 +57,7 @@ abbrev pub contextsOf : List ℕ → List ℕ → Bool
 contextsOf above left = eachBelow 10 above && eachBelow 10 left
 
 unfoldable pub prefixAnswer : List ℕ → Reader → List ℤ → Headed
-prefixAnswer s r h = elim (eqb (length h) 1096 && validOf s r) [ true ↦ toHeaded (run (prefix h) s r) | false ↦ H.Refused ]
+prefixAnswer s r h = elim (eqb (length h) entryCount && validOf s r) [ true ↦ toHeaded (run (prefix (announcedOf h)) s r) | false ↦ H.Refused ]
 
 unfoldable pub mainAnswer : List ℕ → Reader → Bool → Mode
 mainAnswer s r chroma = elim (validOf s r) [ true ↦ toMode (run (largeMode chroma) s r) | false ↦ M.Refused ]
@@ -70,10 +73,10 @@ smallAnswer s r above left old =
       | false ↦ record { answer = N.Refused; modes = old }
     ]
 
-unfoldable pub modesAnswer : List ℕ → List ℤ → Reader → List ℕ → List ℕ → List ℕ → Staged
-modesAnswer s h r above left old =
-    elim (eqb (length h) 1096 && (validOf s r && contextsOf above left)) [
-      | true ↦ toStaged old (run (modesOf h above left) s r)
+unfoldable pub modesAnswer : List ℕ → Announced → Reader → List ℕ → List ℕ → List ℕ → Staged
+modesAnswer s a r above left old =
+    elim (validOf s r && contextsOf above left) [
+      | true ↦ toStaged old (run (modesOf a above left) s r)
       | false ↦ record { answer = S.Refused; modes = old }
     ]
 

@@ -2,12 +2,17 @@
 use Prim.Native.Nat.{ℕ, _≤_, _<_}
 use mathlib.Core.Path.{_≡_, refl, sym, _∙_, ap}
 use mathlib.Core.List.{List}
+use mathlib.Core.Logic.{_⊎_}
 use mathlib.Core.Bool.{Bool, true, false, _&&_}
 use lib.ListN.{length}
 use lib.IntN.{ℤ}
 use lib.Dec.{ltb, eqb}
 use borrow.Author.Tests.{lt-ltb, le-ltb, eq-eqb, ne-eqb}
-use Rattle.numbers.specs.Tests.{both-true, both-false}
+use Rattle.numbers.specs.Tests.{both-true, both-false, not-first}
+use Rattle.header.specs.Entries.{entryCount}
+use Rattle.header.specs.Frame.{announcedOf}
+use Rattle.header.specs.FrameLaws.{Probabilities}
+use Rattle.header.specs.declared.frame.Announced.{Announced}
 use Rattle.reader.specs.declared.boolean.Reader.{Reader}
 use Rattle.reader.specs.declared.boolean.Symbol.{Symbol}
 use Rattle.reader.specs.Boolean.{Given, given, missing, validOf, toSymbol, symbolOf, symbolAnswer}
@@ -88,23 +93,23 @@ symbol-is s r p v = symbol-good s r p v ∙ go (symbolOf s r p) (answered s r p 
 
 -- ---- `prefix`
 module _ (s : List ℕ) (r : Reader) (h : List ℤ) where
-  pub prefix-good : Valid s r → length h ≡ 1096 → prefixAnswer s r h ≡ toHeaded (run (prefix h) s r)
+  pub prefix-good : Valid s r → length h ≡ entryCount → prefixAnswer s r h ≡ toHeaded (run (prefix (announcedOf h)) s r)
   unfolding prefixAnswer
-  prefix-good v e = rw (both-true (eq-eqb (length h) 1096 e) (valid-test s r v), prefixAnswer)
+  prefix-good v e = rw (both-true (eq-eqb (length h) entryCount e) (valid-test s r v), prefixAnswer)
 
-  refused : eqb (length h) 1096 && validOf s r ≡ false → H.Refused ≡ prefixAnswer s r h
+  refused : eqb (length h) entryCount && validOf s r ≡ false → H.Refused ≡ prefixAnswer s r h
   unfolding prefixAnswer
   refused e = rw (e, prefixAnswer)
 
-  pub prefix-length : (length h ≡ 1096 → ⊥) → H.Refused ≡ prefixAnswer s r h
-  prefix-length e = refused (rw (ne-eqb (length h) 1096 e))
+  pub prefix-length : (length h ≡ entryCount → ⊥) → H.Refused ≡ prefixAnswer s r h
+  prefix-length e = refused (rw (ne-eqb (length h) entryCount e))
 
   pub prefix-reader : validOf s r ≡ false → H.Refused ≡ prefixAnswer s r h
-  prefix-reader e = refused (both-false (eqb (length h) 1096) e)
+  prefix-reader e = refused (both-false (eqb (length h) entryCount) e)
 
   -- THE LAW for callers of `prefix`
-  pub prefixed : Valid s r → length h ≡ 1096 → {x : Headed} → x ≡ prefixAnswer s r h → run (prefix h) s r ≡ fromHeaded x
-  prefixed v e f = headed (run (prefix h) s r) (f ∙ prefix-good v e)
+  pub prefixed : Valid s r → length h ≡ entryCount → {x : Headed} → x ≡ prefixAnswer s r h → run (prefix (announcedOf h)) s r ≡ fromHeaded x
+  prefixed v e f = headed (run (prefix (announcedOf h)) s r) (f ∙ prefix-good v e)
 
 -- ---- `main_mode`
 module _ (s : List ℕ) (r : Reader) (chroma : Bool) where
@@ -164,31 +169,28 @@ module _ (s : List ℕ) (r : Reader) (above left old : List ℕ) where
   smalled v e f = sixteened old (run (smallModes above left) s r) (f ∙ small-good v e)
 
 -- ---- `read_modes`
-module _ (s : List ℕ) (h : List ℤ) (r : Reader) (above left old : List ℕ) where
-  pub modes-good : length h ≡ 1096 → Valid s r → contextsOf above left ≡ true → modesAnswer s h r above left old ≡ toStaged old (run (modesOf h above left) s r)
+module _ (s : List ℕ) (a : Announced) (r : Reader) (above left old : List ℕ) where
+  pub modes-good : Valid s r → contextsOf above left ≡ true → modesAnswer s a r above left old ≡ toStaged old (run (modesOf a above left) s r)
   unfolding modesAnswer
-  modes-good n v e = rw (both-true (eq-eqb (length h) 1096 n) (both-true (valid-test s r v) e), modesAnswer)
+  modes-good v e = rw (both-true (valid-test s r v) e, modesAnswer)
 
-  refused-modes : eqb (length h) 1096 && (validOf s r && contextsOf above left) ≡ false → record { answer = S.Refused; modes = old } ≡ modesAnswer s h r above left old
+  refused-modes : validOf s r && contextsOf above left ≡ false → record { answer = S.Refused; modes = old } ≡ modesAnswer s a r above left old
   unfolding modesAnswer
   refused-modes e = rw (e, modesAnswer)
 
-  pub modes-length : (length h ≡ 1096 → ⊥) → record { answer = S.Refused; modes = old } ≡ modesAnswer s h r above left old
-  modes-length e = refused-modes (rw (ne-eqb (length h) 1096 e))
+  pub modes-reader : validOf s r ≡ false → record { answer = S.Refused; modes = old } ≡ modesAnswer s a r above left old
+  modes-reader e = refused-modes (rw e)
 
-  pub modes-reader : validOf s r ≡ false → record { answer = S.Refused; modes = old } ≡ modesAnswer s h r above left old
-  modes-reader e = refused-modes (both-false (eqb (length h) 1096) (rw e))
-
-  pub modes-contexts : contextsOf above left ≡ false → record { answer = S.Refused; modes = old } ≡ modesAnswer s h r above left old
-  modes-contexts e = refused-modes (both-false (eqb (length h) 1096) (both-false (validOf s r) e))
+  pub modes-contexts : contextsOf above left ≡ false → record { answer = S.Refused; modes = old } ≡ modesAnswer s a r above left old
+  modes-contexts e = refused-modes (both-false (validOf s r) e)
 
   -- THE LAW for callers of `read_modes`
-  pub read : length h ≡ 1096 → Valid s r → contextsOf above left ≡ true → {x : Staged} → x ≡ modesAnswer s h r above left old → run (modesOf h above left) s r ≡ fromStaged x
-  read n v e f = staged old (run (modesOf h above left) s r) (f ∙ modes-good n v e)
+  pub read : Valid s r → contextsOf above left ≡ true → {x : Staged} → x ≡ modesAnswer s a r above left old → run (modesOf a above left) s r ≡ fromStaged x
+  read v e f = staged old (run (modesOf a above left) s r) (f ∙ modes-good v e)
 
   -- and where it has read them: every value is in range, and so is the reader, no earlier in s
-  pub read-ended : length h ≡ 1096 → Valid s r → contextsOf above left ≡ true → Bytes s → {x : Staged} → x ≡ modesAnswer s h r above left old → {k : Kinds} {q : Reader} → x .answer ≡ S.Read k q → Ended InRange s r (macroblockOf k (x .modes)) q
-  read-ended n v e y {x} f g = run-valid (modes-within h above left) y v (read n v e f ∙ ap (λ (a : Stage). stageGiven a (x .modes)) g)
+  pub read-ended : Probabilities a → Valid s r → contextsOf above left ≡ true → Bytes s → {x : Staged} → x ≡ modesAnswer s a r above left old → {k : Kinds} {q : Reader} → x .answer ≡ S.Read k q → Ended InRange s r (macroblockOf k (x .modes)) q
+  read-ended b v e y {x} f g = run-valid (modes-within a b above left) y v (read v e f ∙ ap (λ (z : Stage). stageGiven z (x .modes)) g)
 
 -- ---- from the inner functions' answers, which hold zeros where a byte is missing, to the calls', which keep what was lent
 module _ (g : Given (List ℕ)) (zeros old : List ℕ) {x : Sixteen} (e : x ≡ toSixteen zeros g) where
@@ -204,3 +206,24 @@ module _ (g : Given Macroblock) (zeros old : List ℕ) {x : Staged} (e : x ≡ t
 
   pub staged-missing : stageGiven (x .answer) (x .modes) ≡ missing → record { answer = S.Missing; modes = old } ≡ toStaged old g
   staged-missing f = sym (ap (toStaged old) (staged zeros g e ∙ f))
+
+-- ---- for `let .. else`: every answer but the one taken apart says that a byte is missing. `tag` numbers an enum's cases from 0.
+pub not-mode : (tag : Mode → ℕ) → ((v : ℕ) (r : Reader) → tag (M.Read v r) ≡ 0) → (x : Mode) → (tag x ≡ 1) ⊎ (tag x ≡ 2) → fromMode x ≡ missing
+not-mode tag z (M.Read v r) e = absurd (not-first e (z v r))
+not-mode tag z M.Missing e = refl
+not-mode tag z M.Refused e = refl
+
+pub not-headed : (tag : Headed → ℕ) → ((p : Prefix) (r : Reader) → tag (H.Read p r) ≡ 0) → (x : Headed) → (tag x ≡ 1) ⊎ (tag x ≡ 2) → fromHeaded x ≡ missing
+not-headed tag z (H.Read p r) e = absurd (not-first e (z p r))
+not-headed tag z H.Missing e = refl
+not-headed tag z H.Refused e = refl
+
+pub not-next : (tag : Next → ℕ) → ((r : Reader) → tag (N.At r) ≡ 0) → (x : Next) (l : List ℕ) → (tag x ≡ 1) ⊎ (tag x ≡ 2) → nextGiven x l ≡ missing
+not-next tag z (N.At r) l e = absurd (not-first e (z r))
+not-next tag z N.Missing l e = refl
+not-next tag z N.Refused l e = refl
+
+pub not-stage : (tag : Stage → ℕ) → ((k : Kinds) (r : Reader) → tag (S.Read k r) ≡ 0) → (x : Stage) (l : List ℕ) → (tag x ≡ 1) ⊎ (tag x ≡ 2) → stageGiven x l ≡ missing
+not-stage tag z (S.Read k r) l e = absurd (not-first e (z k r))
+not-stage tag z S.Missing l e = refl
+not-stage tag z S.Refused l e = refl

@@ -4,5 +4,5 @@ pub mod Modes
 pub mod ModesLaws
 pub mod Answers
 pub mod AnswersLaws
-pub mod Records
-pub mod RecordsLaws
+pub mod Contexts
+pub mod ContextsLaws

@@ -7,7 +7,7 @@ use lib.ListN.{getD, set, replicate}
 use lib.IntN.{ℤ}
 use lib.Dec.{ltb, eqb}
 use Rattle.reader.specs.Reading.{Reading, done, _>>=_, symbol}
-use Rattle.reader.specs.Header.{entry, presentOf, probabilityOf}
+use Rattle.header.specs.declared.frame.Announced.{Announced}
 use Rattle.reader.specs.Trees.{node, leaf, walk}
 use Rattle.modes.specs.declared.answers.Prefix.{Prefix}
 use Rattle.modes.specs.Table.{probabilities}
@@ -35,13 +35,6 @@ bTree =
 abbrev pub tree : List ℕ → List ℤ → Reading ℕ
 tree ps t = walk 32 ps t 0
 
--- ---- entries of the header
-abbrev pub present : List ℤ → ℕ → Bool
-present h i = presentOf (entry h i)
-
-abbrev pub probability : List ℤ → ℕ → ℕ
-probability h i = probabilityOf (entry h i)
-
 -- what is read only where it is present; else a value that stands for it
 abbrev pub optional : {A : Type 0} → Bool → A → Reading A → Reading A
 optional true a m = m
@@ -49,18 +42,18 @@ optional false a m = done a
 
 -- ---- before the modes
 -- segment_id: read where the frame has a map
-unfoldable pub segment : List ℤ → Reading ℕ
-segment h = optional (present h 3) 0 (tree (probability h 14 ∷ probability h 15 ∷ probability h 16 ∷ []) segTree)
+unfoldable pub segment : Announced → Reading ℕ
+segment a = optional (a .map) 0 (tree (a .«map_probabilities») segTree)
 
 -- mb_skip_coeff: read where the frame has the flag
-unfoldable pub skip : List ℤ → Reading Bool
-skip h = optional (present h 1094) false (symbol (probability h 1095))
+unfoldable pub skip : Announced → Reading Bool
+skip a = optional (a .skips) false (symbol (a .«skip_probability»))
 
 -- kf_ymode_tree's root: 0 where the modes are small (B_PRED)
-unfoldable pub prefix : List ℤ → Reading Prefix
-prefix h = do
-  segment ← segment h
-  skip ← skip h
+unfoldable pub prefix : Announced → Reading Prefix
+prefix a = do
+  segment ← segment a
+  skip ← skip a
   large ← symbol 145
   done (record { segment = segment; skip = skip; small = not large })
 
@@ -75,17 +68,17 @@ abbrev pub blockMode : ℕ → ℕ → Reading ℕ
 blockMode above left = tree (probabilities above left) bTree
 
 -- the mode above small block i, and the mode left of it; `modes` are those read so far, in rows of four
-unfoldable pub aboveOf : List ℕ → List ℕ → ℕ → ℕ
-aboveOf above modes i = elim (ltb i 4) [ true ↦ getD above i 0 | false ↦ getD modes (i - 4) 0 ]
+unfoldable pub modeAbove : List ℕ → List ℕ → ℕ → ℕ
+modeAbove above modes i = elim (ltb i 4) [ true ↦ getD above i 0 | false ↦ getD modes (i - 4) 0 ]
 
-unfoldable pub leftOf : List ℕ → List ℕ → ℕ → ℕ
-leftOf left modes i = elim (eqb (i % 4) 0) [ true ↦ getD left (i / 4) 0 | false ↦ getD modes (i - 1) 0 ]
+unfoldable pub modeLeft : List ℕ → List ℕ → ℕ → ℕ
+modeLeft left modes i = elim (eqb (i % 4) 0) [ true ↦ getD left (i / 4) 0 | false ↦ getD modes (i - 1) 0 ]
 
 -- n more small modes, from block i on
 unfoldable pub smallFrom : ℕ → ℕ → List ℕ → List ℕ → List ℕ → Reading (List ℕ)
 smallFrom zero i above left modes = done modes
 smallFrom (suc n) i above left modes = do
-  m ← blockMode (aboveOf above modes i) (leftOf left modes i)
+  m ← blockMode (modeAbove above modes i) (modeLeft left modes i)
   smallFrom n (i + 1) above left (set modes i m)
 
 abbrev pub zeros : List ℕ
@@ -109,9 +102,9 @@ pub record Macroblock : Type 0 where
   pub modes : List ℕ
   pub chroma : ℕ
 
-unfoldable pub modesOf : List ℤ → List ℕ → List ℕ → Reading Macroblock
-modesOf h above left = do
-  p ← prefix h
+unfoldable pub modesOf : Announced → List ℕ → List ℕ → Reading Macroblock
+modesOf a above left = do
+  p ← prefix a
   modes ← luma (p .small) above left
   chroma ← largeMode true
   done (record { segment = p .segment; skip = p .skip; small = p .small; modes = modes; chroma = chroma })

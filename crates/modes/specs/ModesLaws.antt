@@ -5,10 +5,9 @@ use mathlib.Core.Logic.{⊎-elim}
 use mathlib.Core.List.{List, [], _∷_}
 use mathlib.Core.Bool.{Bool, true, false, not}
 use native.Mathlib.Omega.{arith}
-use native.Mathlib.Nat.{mod-lt}
 use lib.ListN.{length, getD, set, length-set, replicate}
 use lib.Seq.{ext-getD, getD-set-same, getD-set-other}
-use lib.IntN.{ℤ, pos, negsuc}
+use lib.IntN.{ℤ}
 use lib.Dec.{ltb, lit<, lit≤}
 use borrow.Author.Tests.{ltb-true, lt-ltb, le-ltb, eq-eqb, ne-eqb}
 use Rattle.numbers.specs.Tests.{lt-or, eq-or, never, both-left, both-right, both-true}
@@ -19,12 +18,13 @@ use Rattle.reader.specs.Boolean.{given, missing}
 use Rattle.reader.specs.BooleanLaws.{Bytes}
 use Rattle.reader.specs.Reading.{Reading, done, _>>=_, symbol, run, Within, ends, depth}
 use Rattle.reader.specs.ReadingLaws.{run-done, run-then, run-stops, within-bind, within-more, within-symbol, within-depth}
-use Rattle.reader.specs.Header.{probabilityOf}
+use Rattle.header.specs.declared.frame.Announced.{Announced}
+use Rattle.header.specs.FrameLaws.{Probabilities}
 use Rattle.reader.specs.TreesLaws.{reachOf, walk-below}
 use Rattle.modes.specs.declared.answers.Prefix.{Prefix}
 use Rattle.modes.specs.Table.{probabilities}
 use Rattle.modes.specs.TableLaws.{probabilities-bytes}
-use Rattle.modes.specs.Modes.{segTree, yTree, uvTree, bTree, tree, present, probability, optional, segment, skip, prefix, largeMode, blockMode, aboveOf, leftOf, smallFrom, zeros, smallModes, luma, Macroblock, modesOf, bottomOf, rightOf}
+use Rattle.modes.specs.Modes.{segTree, yTree, uvTree, bTree, tree, optional, segment, skip, prefix, largeMode, blockMode, modeAbove, modeLeft, smallFrom, zeros, smallModes, luma, Macroblock, modesOf, bottomOf, rightOf}
 use Rattle.modes.specs.Answers.{eachBelow, contextsOf}
 
 -- every one a mode; past the end `getD` gives 0, so no index has to be within the list
@@ -58,18 +58,6 @@ above-fact above left e = modes-fact above (both-left _ _ e)
 pub left-fact : (above left : List ℕ) → contextsOf above left ≡ true → Modes left
 left-fact above left e = modes-fact left (both-right (eachBelow 10 above) _ e)
 
--- ---- entries of the header
-pub probability-byte : (z : ℤ) → probabilityOf z < 256
-probability-byte (pos n) = mod-lt n (lit< tt)
-probability-byte (negsuc n) = omega arith
-
--- the entry and its probability differ by a multiple of 256
-pub probability-pos : (n : ℕ) → n ≡ probabilityOf (pos n) + 256 * (n / 256)
-probability-pos n = omega arith
-
-pub probability-neg : (n : ℕ) → probabilityOf (negsuc n) + suc n ≡ 256 * (n / 256 + 1)
-probability-neg n = omega arith
-
 -- ---- trees: all may be walked with enough probabilities, and every path ends in time at a mode
 -- every leaf fits a byte
 unfoldable pub byteLeaves : List ℤ → Bool
@@ -87,64 +75,59 @@ leaves-within ps t y e = walk-below 32 32 256 ps t 0 (lit≤ tt) y e
 list-bytes : (ps : List ℕ) → eachBelow 256 ps ≡ true → Bytes ps
 list-bytes ps e = each-fact 256 ps (lit< tt) e
 
-probabilities-byte : (a b c : ℤ) → Bytes (probabilityOf a ∷ probabilityOf b ∷ probabilityOf c ∷ [])
-probabilities-byte a b c zero = probability-byte a
-probabilities-byte a b c (suc zero) = probability-byte b
-probabilities-byte a b c (suc (suc zero)) = probability-byte c
-probabilities-byte a b c (suc (suc (suc j))) = lit< tt
-
 -- ---- before the modes
 optional-within : {A : Type 0} {P : A → Type 0} {n : ℕ} (b : Bool) (a : A) {m : Reading A} → P a → Within P n m → Within P n (optional b a m)
 optional-within true a h w = w
 optional-within false a h w = ends h
 
-pub segment-within : (h : List ℤ) → Within (λ v. v < 4) 2 (segment h)
-unfolding segment
-segment-within h = optional-within (present h 3) 0 (lit< tt) (walk-below 2 32 4 _ segTree 0 (lit≤ tt) (probabilities-byte (getD h 14 (pos 0)) (getD h 15 (pos 0)) (getD h 16 (pos 0))) refl)
+module _ (a : Announced) (y : Probabilities a) where
+  pub segment-within : Within (λ v. v < 4) 2 (segment a)
+  unfolding segment
+  segment-within = optional-within (a .map) 0 (lit< tt) (walk-below 2 32 4 (a .«map_probabilities») segTree 0 (lit≤ tt) (y .map) refl)
 
-pub skip-within : (h : List ℤ) → Within (λ (b : Bool). Unit {0}) 1 (skip h)
-unfolding skip
-skip-within h = optional-within (present h 1094) false tt (within-symbol (probability-byte (getD h 1095 (pos 0))))
+  pub skip-within : Within (λ (b : Bool). Unit {0}) 1 (skip a)
+  unfolding skip
+  skip-within = optional-within (a .skips) false tt (within-symbol (y .skip))
 
-pub prefix-within : (h : List ℤ) → Within (λ (p : Prefix). p .segment < 4) 4 (prefix h)
-unfolding prefix
-prefix-within h =
-    within-bind {k = 2} (segment-within h) (λ v l.
-    within-bind {k = 1} (skip-within h) (λ b t.
-    within-bind {k = 0} (within-symbol (lit< tt)) (λ d t. ends l)))
+  pub prefix-within : Within (λ (p : Prefix). p .segment < 4) 4 (prefix a)
+  unfolding prefix
+  prefix-within =
+      within-bind {k = 2} segment-within (λ v l.
+      within-bind {k = 1} skip-within (λ b t.
+      within-bind {k = 0} (within-symbol (lit< tt)) (λ d t. ends l)))
 
-module _ (s : List ℕ) (r : Reader) (h : List ℤ) where
-  pub segment-none : present h 3 ≡ false → run (segment h) s r ≡ given 0 r
+module _ (s : List ℕ) (r : Reader) (a : Announced) where
+  pub segment-none : a .map ≡ false → run (segment a) s r ≡ given 0 r
   unfolding segment
   segment-none e = rw e (run-done 0 s r)
 
-  pub segment-some : present h 3 ≡ true → run (tree (probability h 14 ∷ probability h 15 ∷ probability h 16 ∷ []) segTree) s r ≡ run (segment h) s r
+  pub segment-some : a .map ≡ true → run (tree (a .«map_probabilities») segTree) s r ≡ run (segment a) s r
   unfolding segment
   segment-some e = rw e
 
-  pub skip-none : present h 1094 ≡ false → run (skip h) s r ≡ given false r
+  pub skip-none : a .skips ≡ false → run (skip a) s r ≡ given false r
   unfolding skip
   skip-none e = rw e (run-done false s r)
 
-  pub skip-some : present h 1094 ≡ true → run (symbol (probability h 1095)) s r ≡ run (skip h) s r
+  pub skip-some : a .skips ≡ true → run (symbol (a .«skip_probability»)) s r ≡ run (skip a) s r
   unfolding skip
   skip-some e = rw e
 
-  pub prefix-1 : run (segment h) s r ≡ missing → run (prefix h) s r ≡ missing
+  pub prefix-1 : run (segment a) s r ≡ missing → run (prefix a) s r ≡ missing
   unfolding prefix
-  prefix-1 e = run-stops _ s (segment h) r e
+  prefix-1 e = run-stops _ s (segment a) r e
 
-  pub prefix-2 : {v : ℕ} {t : Reader} → run (segment h) s r ≡ given v t → run (skip h) s t ≡ missing → run (prefix h) s r ≡ missing
+  pub prefix-2 : {v : ℕ} {t : Reader} → run (segment a) s r ≡ given v t → run (skip a) s t ≡ missing → run (prefix a) s r ≡ missing
   unfolding prefix
-  prefix-2 {t} e f = run-then _ s (segment h) r e ∙ run-stops _ s (skip h) t f
+  prefix-2 {t} e f = run-then _ s (segment a) r e ∙ run-stops _ s (skip a) t f
 
-  pub prefix-3 : {v : ℕ} {b : Bool} {t u : Reader} → run (segment h) s r ≡ given v t → run (skip h) s t ≡ given b u → run (symbol 145) s u ≡ missing → run (prefix h) s r ≡ missing
+  pub prefix-3 : {v : ℕ} {b : Bool} {t u : Reader} → run (segment a) s r ≡ given v t → run (skip a) s t ≡ given b u → run (symbol 145) s u ≡ missing → run (prefix a) s r ≡ missing
   unfolding prefix
-  prefix-3 {t} {u} e f g = run-then _ s (segment h) r e ∙ run-then _ s (skip h) t f ∙ run-stops _ s (symbol 145) u g
+  prefix-3 {t} {u} e f g = run-then _ s (segment a) r e ∙ run-then _ s (skip a) t f ∙ run-stops _ s (symbol 145) u g
 
-  pub prefix-4 : {v : ℕ} {b d : Bool} {t u q : Reader} → run (segment h) s r ≡ given v t → run (skip h) s t ≡ given b u → run (symbol 145) s u ≡ given d q → run (prefix h) s r ≡ given (record { segment = v; skip = b; small = not d }) q
+  pub prefix-4 : {v : ℕ} {b d : Bool} {t u q : Reader} → run (segment a) s r ≡ given v t → run (skip a) s t ≡ given b u → run (symbol 145) s u ≡ given d q → run (prefix a) s r ≡ given (record { segment = v; skip = b; small = not d }) q
   unfolding prefix
-  prefix-4 {t} {u} {q} e f g = run-then _ s (segment h) r e ∙ run-then _ s (skip h) t f ∙ run-then _ s (symbol 145) u g ∙ run-done _ s q
+  prefix-4 {t} {u} {q} e f g = run-then _ s (segment a) r e ∙ run-then _ s (skip a) t f ∙ run-then _ s (symbol 145) u g ∙ run-done _ s q
 
 -- ---- large and small modes
 pub large-within : (chroma : Bool) → Within (λ v. v < 4) 3 (largeMode chroma)
@@ -156,26 +139,26 @@ block-within above left = walk-below 7 32 10 (probabilities above left) bTree 0 
 
 -- the mode above a small block, and the mode left of it
 module _ (l modes : List ℕ) (i : ℕ) where
-  pub above-first : i < 4 → getD l i 0 ≡ aboveOf l modes i
-  unfolding aboveOf
-  above-first h = rw (lt-ltb i 4 h, aboveOf)
+  pub above-first : i < 4 → getD l i 0 ≡ modeAbove l modes i
+  unfolding modeAbove
+  above-first h = rw (lt-ltb i 4 h, modeAbove)
 
-  pub above-later : 4 ≤ i → getD modes (i - 4) 0 ≡ aboveOf l modes i
-  unfolding aboveOf
-  above-later h = rw (le-ltb i 4 h, aboveOf)
+  pub above-later : 4 ≤ i → getD modes (i - 4) 0 ≡ modeAbove l modes i
+  unfolding modeAbove
+  above-later h = rw (le-ltb i 4 h, modeAbove)
 
-  pub left-first : i % 4 ≡ 0 → getD l (i / 4) 0 ≡ leftOf l modes i
-  unfolding leftOf
-  left-first h = rw (eq-eqb (i % 4) 0 h, leftOf)
+  pub left-first : i % 4 ≡ 0 → getD l (i / 4) 0 ≡ modeLeft l modes i
+  unfolding modeLeft
+  left-first h = rw (eq-eqb (i % 4) 0 h, modeLeft)
 
-  pub left-later : (i % 4 ≡ 0 → ⊥) → getD modes (i - 1) 0 ≡ leftOf l modes i
-  unfolding leftOf
-  left-later h = rw (ne-eqb (i % 4) 0 h, leftOf)
+  pub left-later : (i % 4 ≡ 0 → ⊥) → getD modes (i - 1) 0 ≡ modeLeft l modes i
+  unfolding modeLeft
+  left-later h = rw (ne-eqb (i % 4) 0 h, modeLeft)
 
-  pub above-mode : Modes l → Modes modes → aboveOf l modes i < 10
+  pub above-mode : Modes l → Modes modes → modeAbove l modes i < 10
   above-mode t m = ⊎-elim (λ h. rw (above-first h) at (t i)) (λ h. rw (above-later h) at (m (i - 4))) (lt-or i 4)
 
-  pub left-mode : Modes l → Modes modes → leftOf l modes i < 10
+  pub left-mode : Modes l → Modes modes → modeLeft l modes i < 10
   left-mode t m = ⊎-elim (λ h. rw (left-first h) at (t (i / 4))) (λ h. rw (left-later h) at (m (i - 1))) (eq-or (i % 4) 0)
 
 pub set-modes : (l : List ℕ) (i v : ℕ) → v < 10 → Modes l → Modes (set l i v)
@@ -185,13 +168,13 @@ pub zeros-modes : Modes zeros
 zeros-modes = each-fact 10 zeros (lit< tt) refl
 
 module _ (n i : ℕ) (above left modes s : List ℕ) (r : Reader) where
-  pub small-next : {m : ℕ} {q : Reader} → run (blockMode (aboveOf above modes i) (leftOf left modes i)) s r ≡ given m q → run (smallFrom (suc n) i above left modes) s r ≡ run (smallFrom n (i + 1) above left (set modes i m)) s q
+  pub small-next : {m : ℕ} {q : Reader} → run (blockMode (modeAbove above modes i) (modeLeft left modes i)) s r ≡ given m q → run (smallFrom (suc n) i above left modes) s r ≡ run (smallFrom n (i + 1) above left (set modes i m)) s q
   unfolding smallFrom
-  small-next e = run-then _ s (blockMode (aboveOf above modes i) (leftOf left modes i)) r e
+  small-next e = run-then _ s (blockMode (modeAbove above modes i) (modeLeft left modes i)) r e
 
-  pub small-missing : run (blockMode (aboveOf above modes i) (leftOf left modes i)) s r ≡ missing → run (smallFrom (suc n) i above left modes) s r ≡ missing
+  pub small-missing : run (blockMode (modeAbove above modes i) (modeLeft left modes i)) s r ≡ missing → run (smallFrom (suc n) i above left modes) s r ≡ missing
   unfolding smallFrom
-  small-missing e = run-stops _ s (blockMode (aboveOf above modes i) (leftOf left modes i)) r e
+  small-missing e = run-stops _ s (blockMode (modeAbove above modes i) (modeLeft left modes i)) r e
 
 pub small-none : (i : ℕ) (above left modes s : List ℕ) (r : Reader) → run (smallFrom 0 i above left modes) s r ≡ given modes r
 unfolding smallFrom
@@ -204,10 +187,10 @@ small-same zero i above left l l′ e p q h = ap done (ext-getD 0 l l′ (p ∙ 
 small-same (suc n) i above left l l′ e p q h =
     λ k. blockMode (up k) (by k) >>= (λ m. small-same n (i + 1) above left (set l i m) (set l′ i m) (omega arith) (length-set l i m ∙ p) (length-set l′ i m ∙ q) (set-same m) k)
   where
-    up : aboveOf above l i ≡ aboveOf above l′ i
+    up : modeAbove above l i ≡ modeAbove above l′ i
     up = ⊎-elim (λ g. sym (above-first above l i g) ∙ above-first above l′ i g) (λ g. sym (above-later above l i g) ∙ h (i - 4) (omega arith) ∙ above-later above l′ i g) (lt-or i 4)
 
-    by : leftOf left l i ≡ leftOf left l′ i
+    by : modeLeft left l i ≡ modeLeft left l′ i
     by = ⊎-elim (λ g. sym (left-first left l i g) ∙ left-first left l′ i g) (λ g. sym (left-later left l i g) ∙ h (i - 1) (omega arith) ∙ left-later left l′ i g) (eq-or (i % 4) 0)
 
     set-same : (m j : ℕ) → j < i + 1 → getD (set l i m) j 0 ≡ getD (set l′ i m) j 0
@@ -230,7 +213,7 @@ small-within : (n i : ℕ) (above left modes : List ℕ) → length modes ≡ 16
 unfolding smallFrom
 small-within zero i above left modes e m = ends (record { sixteen = e; each = m; large = λ f. absurd (never refl f) })
 small-within (suc n) i above left modes e m =
-    within-more (omega arith) (within-bind {k = n * 7} (block-within (aboveOf above modes i) (leftOf left modes i)) (λ v h. small-within n (i + 1) above left (set modes i v) (length-set modes i v ∙ e) (set-modes modes i v h m)))
+    within-more (omega arith) (within-bind {k = n * 7} (block-within (modeAbove above modes i) (modeLeft left modes i)) (λ v h. small-within n (i + 1) above left (set modes i v) (length-set modes i v ∙ e) (set-modes modes i v h m)))
 
 pub small-modes-within : (above left : List ℕ) → Within (Luma true) 112 (smallModes above left)
 unfolding smallModes
@@ -258,33 +241,33 @@ pub record InRange (m : Macroblock) : Type 0 where
   pub luma : Luma (m .small) (m .modes)
   pub chroma : m .chroma < 4
 
-pub modes-within : (h : List ℤ) (above left : List ℕ) → Within InRange 119 (modesOf h above left)
+pub modes-within : (a : Announced) → Probabilities a → (above left : List ℕ) → Within InRange 119 (modesOf a above left)
 unfolding modesOf
-modes-within h above left =
-    within-bind {k = 115} (prefix-within h) (λ p a.
+modes-within a y above left =
+    within-bind {k = 115} (prefix-within a y) (λ p i.
     within-bind {k = 3} (luma-within (p .small) above left) (λ l b.
-    within-bind {k = 0} (large-within true) (λ c d. ends (record { segment = a; luma = b; chroma = d }))))
+    within-bind {k = 0} (large-within true) (λ c d. ends (record { segment = i; luma = b; chroma = d }))))
 
-pub modes-depth : (h : List ℤ) (above left : List ℕ) → depth (modesOf h above left) ≤ 119
-modes-depth h above left = within-depth (modes-within h above left)
+pub modes-depth : (a : Announced) → Probabilities a → (above left : List ℕ) → depth (modesOf a above left) ≤ 119
+modes-depth a y above left = within-depth (modes-within a y above left)
 
-module _ (s : List ℕ) (r : Reader) (h : List ℤ) (above left : List ℕ) where
-  pub modes-1 : run (prefix h) s r ≡ missing → run (modesOf h above left) s r ≡ missing
+module _ (s : List ℕ) (r : Reader) (a : Announced) (above left : List ℕ) where
+  pub modes-1 : run (prefix a) s r ≡ missing → run (modesOf a above left) s r ≡ missing
   unfolding modesOf
-  modes-1 e = run-stops _ s (prefix h) r e
+  modes-1 e = run-stops _ s (prefix a) r e
 
-  module _ {p : Prefix} {t : Reader} (e : run (prefix h) s r ≡ given p t) where
-    pub modes-2 : run (luma (p .small) above left) s t ≡ missing → run (modesOf h above left) s r ≡ missing
+  module _ {p : Prefix} {t : Reader} (e : run (prefix a) s r ≡ given p t) where
+    pub modes-2 : run (luma (p .small) above left) s t ≡ missing → run (modesOf a above left) s r ≡ missing
     unfolding modesOf
-    modes-2 f = run-then _ s (prefix h) r e ∙ run-stops _ s (luma (p .small) above left) t f
+    modes-2 f = run-then _ s (prefix a) r e ∙ run-stops _ s (luma (p .small) above left) t f
 
-    pub modes-3 : {l : List ℕ} {u : Reader} → run (luma (p .small) above left) s t ≡ given l u → run (largeMode true) s u ≡ missing → run (modesOf h above left) s r ≡ missing
+    pub modes-3 : {l : List ℕ} {u : Reader} → run (luma (p .small) above left) s t ≡ given l u → run (largeMode true) s u ≡ missing → run (modesOf a above left) s r ≡ missing
     unfolding modesOf
-    modes-3 {u} f g = run-then _ s (prefix h) r e ∙ run-then _ s (luma (p .small) above left) t f ∙ run-stops _ s (largeMode true) u g
+    modes-3 {u} f g = run-then _ s (prefix a) r e ∙ run-then _ s (luma (p .small) above left) t f ∙ run-stops _ s (largeMode true) u g
 
-    pub modes-4 : {l : List ℕ} {c : ℕ} {u q : Reader} → run (luma (p .small) above left) s t ≡ given l u → run (largeMode true) s u ≡ given c q → run (modesOf h above left) s r ≡ given (record { segment = p .segment; skip = p .skip; small = p .small; modes = l; chroma = c }) q
+    pub modes-4 : {l : List ℕ} {c : ℕ} {u q : Reader} → run (luma (p .small) above left) s t ≡ given l u → run (largeMode true) s u ≡ given c q → run (modesOf a above left) s r ≡ given (record { segment = p .segment; skip = p .skip; small = p .small; modes = l; chroma = c }) q
     unfolding modesOf
-    modes-4 {u} {q} f g = run-then _ s (prefix h) r e ∙ run-then _ s (luma (p .small) above left) t f ∙ run-then _ s (largeMode true) u g ∙ run-done _ s q
+    modes-4 {u} {q} f g = run-then _ s (prefix a) r e ∙ run-then _ s (luma (p .small) above left) t f ∙ run-then _ s (largeMode true) u g ∙ run-done _ s q
 
 -- ---- what a macroblock leaves to its neighbours are modes again
 four-modes : (a b c d : ℕ) → a < 10 → b < 10 → c < 10 → d < 10 → Modes (a ∷ b ∷ c ∷ d ∷ [])

@@ -2,15 +2,15 @@
 use crate::answers::Headed;
 use crate::answers::Mode;
 use crate::answers::Prefix;
-use crate::entries::present_at;
-use crate::entries::probability_at;
 use crate::large::SEG_TREE;
 use crate::large::coded;
+use header::entries::ENTRY_COUNT;
+use header::frame::Announced;
+use header::frame::announced_by;
 use reader::boolean::Reader;
 use reader::boolean::Symbol;
 use reader::boolean::valid;
 ghost use mathlib.Core.Path.{_≡_};
-ghost use lib.ListN.{length};
 ghost use Rattle.reader.specs.Boolean.{toSymbol};
 ghost use Rattle.reader.specs.BooleanLaws.{Valid};
 ghost use Rattle.reader.specs.Reading.{run};
@@ -18,44 +18,37 @@ ghost use Rattle.modes.specs.Modes.{segment, skip, prefix};
 ghost use Rattle.modes.specs.Answers.{toMode, toHeaded, prefixAnswer};
 
 // The segment where the frame has a map, else 0.
-fn segment(s: &[u8], r: Reader, h: &[i32]) -> Mode
+fn segment(s: &[u8], r: Reader, a: Announced) -> Mode
     requires { ⌜ Valid (now s) r ⌝ }
-    requires { ⌜ length (now h) ≡ 1096 ⌝ }
-    ensures { λ q. ⌜ q ≡ toMode (run (segment (now (h .entry))) (now (s .entry)) r) ⌝ }
+    ensures { λ q. ⌜ q ≡ toMode (run (segment a) (now (s .entry)) r) ⌝ }
 {
-    if !present_at(h, 3) {
+    if !a.map {
         return Mode::Read(0, r);
     }
-    let probs = [
-        probability_at(h, 14),
-        probability_at(h, 15),
-        probability_at(h, 16),
-    ];
+    let probs = a.map_probabilities;
     coded(s, r, &probs, &SEG_TREE)
 }
 
 // The skip flag where the frame has them, else false.
-fn skip(s: &[u8], r: Reader, h: &[i32]) -> Symbol
+fn skip(s: &[u8], r: Reader, a: Announced) -> Symbol
     requires { ⌜ Valid (now s) r ⌝ }
-    requires { ⌜ length (now h) ≡ 1096 ⌝ }
-    ensures { λ q. ⌜ q ≡ toSymbol (run (skip (now (h .entry))) (now (s .entry)) r) ⌝ }
+    ensures { λ q. ⌜ q ≡ toSymbol (run (skip a) (now (s .entry)) r) ⌝ }
 {
-    if present_at(h, 1094) {
-        return r.symbol(s, probability_at(h, 1095));
+    if a.skips {
+        return r.symbol(s, a.skip_probability);
     }
     Symbol::Got(false, r)
 }
 
-// What the header announces, then the symbol that tells small modes from a large one.
-pub(crate) fn head(s: &[u8], r: Reader, h: &[i32]) -> Headed
+// What is announced, then the symbol that tells small modes from a large one.
+pub(crate) fn head(s: &[u8], r: Reader, a: Announced) -> Headed
     requires { ⌜ Valid (now s) r ⌝ }
-    requires { ⌜ length (now h) ≡ 1096 ⌝ }
-    ensures { λ q. ⌜ q ≡ toHeaded (run (prefix (now (h .entry))) (now (s .entry)) r) ⌝ }
+    ensures { λ q. ⌜ q ≡ toHeaded (run (prefix a) (now (s .entry)) r) ⌝ }
 {
-    let Mode::Read(segment, t) = segment(s, r, h) else {
+    let Mode::Read(segment, t) = segment(s, r, a) else {
         return Headed::Missing;
     };
-    let Symbol::Got(skip, u) = skip(s, t, h) else {
+    let Symbol::Got(skip, u) = skip(s, t, a) else {
         return Headed::Missing;
     };
     let Symbol::Got(large, next) = u.symbol(s, 145) else {
@@ -71,15 +64,16 @@ pub(crate) fn head(s: &[u8], r: Reader, h: &[i32]) -> Headed
     )
 }
 
-// The prefix of a macroblock, by the header's 1096 entries.
+// The prefix of a macroblock, by the header's entries.
 pub fn prefix(s: &[u8], r: Reader, h: &[i32]) -> Headed
     ensures { λ q. ⌜ q ≡ prefixAnswer (now (s .entry)) r (now (h .entry)) ⌝ }
 {
-    if h.len() != 1096 {
+    if h.len() != ENTRY_COUNT {
         return Headed::Refused;
     }
     if !valid(s, r) {
         return Headed::Refused;
     }
-    head(s, r, h)
+    let a = announced_by(h);
+    head(s, r, a)
 }

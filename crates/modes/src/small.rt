@@ -3,7 +3,7 @@
 use crate::answers::Mode;
 use crate::answers::Next;
 use crate::answers::Sixteen;
-use crate::memory::each_below;
+use crate::contexts::each_below;
 use crate::table::BMODE;
 use reader::boolean::Reader;
 use reader::boolean::Symbol;
@@ -14,7 +14,7 @@ ghost use lib.ListN.{length};
 ghost use Rattle.reader.specs.BooleanLaws.{Valid};
 ghost use Rattle.reader.specs.Reading.{run};
 ghost use Rattle.reader.specs.Trees.{walk};
-ghost use Rattle.modes.specs.Modes.{bTree, blockMode, aboveOf, leftOf, zeros, smallModes};
+ghost use Rattle.modes.specs.Modes.{bTree, blockMode, modeAbove, modeLeft, zeros, smallModes};
 ghost use Rattle.modes.specs.Answers.{toMode, toSixteen, contextsOf, blockAnswer, smallAnswer};
 ghost use Rattle.modes.specs.ModesLaws.{Modes};
 ghost use Rattle.modes.specs.TableLaws.{Renumbered};
@@ -148,9 +148,9 @@ pub fn block_mode(s: &[u8], r: Reader, top: u8, left: u8) -> Mode
 }
 
 // The mode above small block i, and the mode left of it.
-fn above(top: &[u8; 4], modes: &[u8; 16], i: usize) -> u8
+fn mode_above(top: &[u8; 4], modes: &[u8; 16], i: usize) -> u8
     requires { ⌜ i < 16 ⌝ }
-    ensures { λ r. ⌜ r ≡ aboveOf (now (top .entry)) (now (modes .entry)) i ⌝ }
+    ensures { λ r. ⌜ r ≡ modeAbove (now (top .entry)) (now (modes .entry)) i ⌝ }
 {
     if i < 4 {
         return top[i];
@@ -158,9 +158,9 @@ fn above(top: &[u8; 4], modes: &[u8; 16], i: usize) -> u8
     modes[i - 4]
 }
 
-fn beside(left: &[u8; 4], modes: &[u8; 16], i: usize) -> u8
+fn mode_left(left: &[u8; 4], modes: &[u8; 16], i: usize) -> u8
     requires { ⌜ i < 16 ⌝ }
-    ensures { λ r. ⌜ r ≡ leftOf (now (left .entry)) (now (modes .entry)) i ⌝ }
+    ensures { λ r. ⌜ r ≡ modeLeft (now (left .entry)) (now (modes .entry)) i ⌝ }
 {
     if i % 4 == 0 {
         return left[i / 4];
@@ -179,8 +179,8 @@ pub(crate) fn sixteen(s: &[u8], r: Reader, top: &[u8; 4], left: &[u8; 4]) -> Six
     let mut t = r;
     let mut i = 0;
     while i < 16 {
-        let up = above(top, &modes, i);
-        let by = beside(left, &modes, i);
+        let up = mode_above(top, &modes, i);
+        let by = mode_left(left, &modes, i);
         let Mode::Read(m, next) = block(s, t, up, by, &all) else {
             return Sixteen {
                 answer: Next::Missing,
@@ -206,7 +206,8 @@ pub(crate) fn contexts_fine(top: &[u8; 4], left: &[u8; 4]) -> bool
 
 // The sixteen small modes of a macroblock into `modes`, which keeps what it held unless all are read.
 pub fn small_modes(s: &[u8], r: Reader, top: &[u8; 4], left: &[u8; 4], modes: &mut [u8; 16]) -> Next
-    ensures { λ q. ⌜ record { answer = q; modes = now (modes .exit) } ≡ smallAnswer (now (s .entry)) r (now (top .entry)) (now (left .entry)) (now (modes .entry)) ⌝ }
+    ensures { λ q. ⌜ record { answer = q; modes = now (modes .exit) }
+        ≡ smallAnswer (now (s .entry)) r (now (top .entry)) (now (left .entry)) (now (modes .entry)) ⌝ }
 {
     if !valid(s, r) {
         return Next::Refused;

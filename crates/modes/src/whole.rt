@@ -10,10 +10,10 @@ use crate::large::large_mode;
 use crate::prefix::head;
 use crate::small::contexts_fine;
 use crate::small::sixteen;
+use header::frame::Announced;
 use reader::boolean::Reader;
 use reader::boolean::valid;
 ghost use mathlib.Core.Path.{_≡_};
-ghost use lib.ListN.{length};
 ghost use Rattle.reader.specs.Boolean.{missing};
 ghost use Rattle.reader.specs.BooleanLaws.{Valid};
 ghost use Rattle.reader.specs.Reading.{run};
@@ -53,13 +53,12 @@ fn none() -> Staged
 }
 
 // Prefix, luma, chroma. The modes come back beside the answer, since a later byte may be missing.
-fn stage(s: &[u8], h: &[i32], r: Reader, top: &[u8; 4], left: &[u8; 4]) -> Staged
+fn stage(s: &[u8], a: Announced, r: Reader, top: &[u8; 4], left: &[u8; 4]) -> Staged
     requires { ⌜ Valid (now s) r ⌝ }
-    requires { ⌜ length (now h) ≡ 1096 ⌝ }
     requires { ⌜ Modes (now top) × Modes (now left) ⌝ }
-    ensures { λ q. ⌜ q ≡ toStaged zeros (run (modesOf (now (h .entry)) (now (top .entry)) (now (left .entry))) (now (s .entry)) r) ⌝ }
+    ensures { λ q. ⌜ q ≡ toStaged zeros (run (modesOf a (now (top .entry)) (now (left .entry))) (now (s .entry)) r) ⌝ }
 {
-    let Headed::Read(p, t) = head(s, r, h) else {
+    let Headed::Read(p, t) = head(s, r, a) else {
         return none();
     };
     let q = luma(s, t, p.small, top, left);
@@ -88,24 +87,21 @@ fn stage(s: &[u8], h: &[i32], r: Reader, top: &[u8; 4], left: &[u8; 4]) -> Stage
 // The modes of a macroblock, its sixteen luma modes into `modes`, which keeps what it held unless all are read.
 pub fn read_modes(
     s: &[u8],
-    h: &[i32],
+    a: Announced,
     r: Reader,
     top: [u8; 4],
     left: [u8; 4],
     modes: &mut [u8; 16],
 ) -> Stage
-    ensures { λ q. ⌜ record { answer = q; modes = now (modes .exit) } ≡ modesAnswer (now (s .entry)) (now (h .entry)) r top left (now (modes .entry)) ⌝ }
+    ensures { λ q. ⌜ record { answer = q; modes = now (modes .exit) } ≡ modesAnswer (now (s .entry)) a r top left (now (modes .entry)) ⌝ }
 {
-    if h.len() != 1096 {
-        return Stage::Refused;
-    }
     if !valid(s, r) {
         return Stage::Refused;
     }
     if !contexts_fine(&top, &left) {
         return Stage::Refused;
     }
-    let q = stage(s, h, r, &top, &left);
+    let q = stage(s, a, r, &top, &left);
     let answer = q.answer;
     let Stage::Read(kinds, next) = answer else {
         return Stage::Missing;

@@ -2,7 +2,7 @@
 use Prim.Native.Nat.{ℕ, _≤_, _<_}
 use mathlib.Core.Path.{_≡_, refl}
 use mathlib.Core.Bool.{Bool, true, false, cond, _&&_}
-use mathlib.Core.Logic.{_⊎_, inl, inr}
+use mathlib.Core.Logic.{_⊎_, inl, inr, ⊎-elim}
 use native.Mathlib.Decide.{decLt, ℕ-discrete}
 use native.Mathlib.Omega.{arith}
 use lib.Dec.{T}
@@ -12,6 +12,10 @@ lt-or a b = elim (decLt a b) [ yes h ↦ inl h | no h ↦ inr (omega arith) ]
 
 pub eq-or : (a b : ℕ) → (a ≡ b) ⊎ (a ≡ b → ⊥)
 eq-or a b = elim (ℕ-discrete a b) [ yes h ↦ inl h | no h ↦ inr h ]
+
+-- a tag that is 1 or 2 is not 0
+pub not-first : {n : ℕ} → (n ≡ 1) ⊎ (n ≡ 2) → n ≡ 0 → ⊥
+not-first e z = ⊎-elim (λ h. omega arith) (λ h. omega arith) e
 
 -- a test is not both
 pub never : {b : Bool} → b ≡ true → b ≡ false → ⊥

@@ -5,22 +5,23 @@ use mathlib.Core.Bool.{Bool, true, _&&_}
 use mathlib.Core.List.{List}
 use mathlib.Core.Logic.{⊎-elim}
 use native.Mathlib.Omega.{arith}
-use lib.Dec.{leb}
+use lib.Dec.{leb, lit≤}
 use lib.ListN.{length, getD, replicate}
 use borrow.Author.Tests.{leb-true}
 use Rattle.numbers.specs.Tests.{eq-or, both-left}
-use Rattle.numbers.specs.Lists.{getD-constant}
 use Rattle.reader.specs.BooleanLaws.{Bytes}
-use Rattle.modes.specs.RecordsLaws.{Columns}
+use Rattle.lent.specs.Records.{Columns, recordsIn, strengthWidth, strengthIn, strengthAt, strengthSet}
+use Rattle.lent.specs.RecordsLaws.{record-zeros}
+use Rattle.lent.specs.MacroblocksLaws.{strength-back, strength-other}
+use Rattle.filter.specs.Strengths.{strengthFine}
 use Rattle.filter.specs.declared.strengths.Strength.{Strength}
 use Rattle.macroblock.specs.Macroblock.{Finished, Step, finished, no-modes, no-tokens}
-use Rattle.macroblock.specs.StrengthRecords.{strengthAt, strengthSet, strengthFine}
-use Rattle.macroblock.specs.StrengthRecordsLaws.{strength-back, strength-other}
-use Rattle.picture.specs.Memory.{Memory, sizesOf}
-use Rattle.picture.specs.PartitionsLaws.{part-bytes}
-use Rattle.picture.specs.Checks.{Tile, blocksOf, refusalOf}
-use Rattle.picture.specs.ChecksLaws.{fine-partitions}
-use Rattle.picture.specs.Picture.{Picture, State, cutOut, startOf, partitionOf, stepAt, nextOf, runOf, pictureOf}
+use Rattle.lent.specs.Memory.{Memory, sizesOf, blankOf}
+use Rattle.tile.specs.Partitions.{spanAt}
+use Rattle.tile.specs.PartitionsLaws.{part-bytes}
+use Rattle.tile.specs.Checks.{blocksOf}
+use Rattle.picture.specs.Checks.{Call, refusalOf}
+use Rattle.picture.specs.Picture.{Picture, State, picturedOf, startOf, partitionOf, stepAt, nextOf, runOf, pictureOf}
 use Rattle.picture.specs.PictureLaws.{Shared, Live, live-next, ends-at, room-at, partition-below, run-none, run-finished, run-no-modes, run-no-tokens}
 use Rattle.picture.specs.CallLaws.{picture-good, shared-start, live-start}
 
@@ -31,7 +32,7 @@ pub record Final (m : Memory) : Type 0 where
   pub contexts : Columns (m .columns)
   pub limits : Limits (m .strengths)
 
-limits-set : (mem : List ℕ) (k : ℕ) (t : Strength) → k < length mem / 4 → strengthFine t ≡ true → Limits mem → Limits (strengthSet mem k t)
+limits-set : (mem : List ℕ) (k : ℕ) (t : Strength) → k < recordsIn strengthWidth mem → strengthFine t ≡ true → Limits mem → Limits (strengthSet mem k t)
 limits-set mem k t h e l i = ⊎-elim
     (λ (c : i ≡ k).
     subst (λ (z : Strength). z .limit ≤ 189) (sym (ap (λ (j : ℕ). strengthAt (strengthSet mem k t) j) c ∙ strength-back mem k t h))
@@ -43,7 +44,7 @@ limits-set mem k t h e l i = ⊎-elim
     first a b c d e = both-left a b (both-left (a && b) c (both-left (a && b && c) d e))
 
 limits-blank : (n : ℕ) → Limits (replicate n 0)
-limits-blank n i = let e : _≡_ {A = ℕ} (getD (replicate n 0) (i * 4) 0) 0 = getD-constant n (i * 4) 0 in omega arith
+limits-blank n i = subst (λ (z : Strength). z .limit ≤ 189) (sym (ap strengthIn (record-zeros strengthWidth n i))) (lit≤ tt)
 
 module _ (P : Picture) (s : Shared P) (a : Bytes (P .first)) (b : (q : ℕ) → q < P .count → Bytes (P .token q)) where
   pub run-final : (n k : ℕ) (S : State) → Live P S → Limits (S .mem .strengths) → k + n ≤ P .wide * P .high → Final (runOf n P k S .mem)
@@ -62,11 +63,9 @@ module _ (P : Picture) (s : Shared P) (a : Bytes (P .first)) (b : (q : ℕ) → 
       go rest no-modes e = rw (run-no-modes n P k S e) (record { contexts = l .contexts; limits = m })
       go rest no-tokens e = rw (run-no-tokens n P k S e) (record { contexts = l .contexts; limits = m })
 
-module _ (t : Tile) (m : Memory) (e : refusalOf t (sizesOf m) ≡ 0) (y : Bytes (t .bytes)) where
+module _ (t : Call) (m : Memory) (e : refusalOf t (sizesOf m) ≡ 0) (y : Bytes (t .bytes)) where
   pub picture-final : Final (pictureOf t m .mem)
   picture-final =
-      let c = fine-partitions t (sizesOf m) e in
       rw (picture-good t m (sym e) refl)
-      (run-final (cutOut t) (shared-start t m e) (part-bytes (t .bytes) (t .firstStart) (t .firstLength) (c .first .fits) y)
-      (λ q h. part-bytes (t .bytes) (getD (t .starts) q 0) (getD (t .lengths) q 0) (c .tokens q h .fits) y)
-      (blocksOf (t .width) (t .height)) 0 (startOf t m) (live-start t m e y) (limits-blank (length (m .strengths))) (omega arith))
+      (run-final (picturedOf t) (shared-start t m e) (part-bytes (t .bytes) (t .tile .first) y) (λ q h. part-bytes (t .bytes) (spanAt (t .tile) q) y)
+      (blocksOf (t .tile .width) (t .tile .height)) 0 (startOf (t .bytes) (t .tile) (blankOf m)) (live-start t m e y) (limits-blank (length (m .strengths))) (omega arith))

@@ -1,6 +1,3 @@
-pub mod Partitions
-pub mod PartitionsLaws
-pub mod Memory
 pub mod Checks
 pub mod Picture
 pub mod ChecksLaws

@@ -3,41 +3,54 @@ use Prim.Native.Nat.{ℕ, zero, suc, _+_, _*_, _/_, _%_}
 use mathlib.Core.Bool.{true, false}
 use mathlib.Core.List.{List}
 use lib.Dec.{eqb}
-use lib.IntN.{ℤ}
 use lib.ListN.{getD, set}
 use Rattle.reader.specs.declared.boolean.Reader.{Reader}
 use Rattle.reader.specs.Boolean.{noReader}
 use Rattle.coefficients.specs.Tokens.{headerTable}
-use Rattle.modes.specs.declared.columns.Context.{Context}
+use Rattle.modes.specs.declared.contexts.Context.{Context}
 use Rattle.modes.specs.Answers.{kindsOf}
-use Rattle.modes.specs.Records.{columnAt, columnSet, modeSet, emptyContext}
-use Rattle.segments.specs.Frame.{frameOf}
-use Rattle.macroblock.specs.Macroblock.{Planes, Finished, Step, finished, no-modes, no-tokens, stepOf}
-use Rattle.macroblock.specs.StrengthRecords.{strengthSet}
+use Rattle.modes.specs.Contexts.{emptyContext}
+use Rattle.header.specs.declared.frame.Frame.{Frame}
+use Rattle.header.specs.Frame.{frameOf}
+use Rattle.macroblock.specs.declared.arguments.Place.{Place}
+use Rattle.macroblock.specs.declared.arguments.Readers.{Readers}
+use Rattle.macroblock.specs.declared.arguments.Around.{Around}
+use Rattle.macroblock.specs.declared.whole.Finish.{Finish}
+use Rattle.macroblock.specs.declared.whole.Finish.the-variants as F
+use Rattle.macroblock.specs.Macroblock.{Planes, planesOf, Finished, Step, finished, no-modes, no-tokens, stepOf}
 use Rattle.picture.specs.declared.rows.Decoded.{Decoded}
 use Rattle.picture.specs.declared.rows.Decoded.the-variants as D
-use Rattle.picture.specs.Memory.{Memory, sizesOf, blankOf}
-use Rattle.picture.specs.Partitions.{partOf, tokenOf, readersOf}
-use Rattle.picture.specs.Checks.{Tile, blocksOf, refusalOf}
+use Rattle.lent.specs.Memory.{Memory, sizesOf, blankOf}
+use Rattle.lent.specs.Records.{columnAt, columnSet, modeSet, strengthSet}
+use Rattle.tile.specs.declared.Tile.{Tile}
+use Rattle.tile.specs.Partitions.{partOf, tokenOf, readersOf, pickOf}
+use Rattle.tile.specs.Checks.{blocksOf}
+use Rattle.picture.specs.Checks.{Call, refusalOf}
 
--- ---- what the macroblocks share: the partitions' contents, their count, the header, the macroblocks in a row and the rows
+-- ---- what the macroblocks share: the partitions' contents and their count, what the header gives to all (the frame and the table of
+-- coefficient probabilities), the macroblocks in a row and the rows
 pub record Picture : Type 0 where
   pub first : List ℕ
   pub token : ℕ → List ℕ
   pub count : ℕ
-  pub header : List ℤ
+  pub frame : Frame
+  pub table : List ℕ
   pub wide : ℕ
   pub high : ℕ
 
-abbrev pub cutOut : Tile → Picture
-cutOut t = record {
-  first = partOf (t .bytes) (t .firstStart) (t .firstLength);
-  token = tokenOf (t .bytes) (t .starts) (t .lengths);
+abbrev pub cutOut : List ℕ → Tile → Frame → List ℕ → Picture
+cutOut bytes t frame table = record {
+  first = partOf bytes (t .first);
+  token = tokenOf bytes t;
   count = t .count;
-  header = t .header;
+  frame = frame;
+  table = table;
   wide = t .width / 16;
   high = t .height / 16;
 }
+
+abbrev pub picturedOf : Call → Picture
+picturedOf c = cutOut (c .bytes) (c .tile) (frameOf (c .header)) (headerTable (c .header))
 
 -- ---- what goes from one to the next: the reader of the first partition, those of the token partitions, what lies to the left,
 -- and the lent memory
@@ -47,8 +60,11 @@ pub record State : Type 0 where
   pub left : Context
   pub mem : Memory
 
-abbrev pub startOf : Tile → Memory → State
-startOf t m = record { reader = t .reader; readers = readersOf (t .bytes) (t .starts) (t .lengths) (t .count); left = emptyContext; mem = blankOf m }
+abbrev pub startOf : List ℕ → Tile → Memory → State
+startOf bytes t m = record { reader = t .reader; readers = readersOf bytes t; left = emptyContext; mem = m }
+
+abbrev pub begunOf : Call → Memory → State
+begunOf c m = startOf (c .bytes) (c .tile) (blankOf m)
 
 -- ---- macroblock k, in raster order (RFC 6386, section 2): its place, and the token partition that its row reads (section 9.5)
 abbrev pub columnOf : Picture → ℕ → ℕ
@@ -58,21 +74,28 @@ abbrev pub rowOf : Picture → ℕ → ℕ
 rowOf P k = k / P .wide
 
 abbrev pub partitionOf : Picture → ℕ → ℕ
-partitionOf P k = rowOf P k % P .count
+partitionOf P k = pickOf (rowOf P k) (P .count)
 
 -- at column 0 nothing lies to the left: DC modes (section 11.3) and no coefficients (section 13.3)
 unfoldable pub besideOf : ℕ → Context → Context
 besideOf column left = elim (eqb column 0) [ true ↦ emptyContext | false ↦ left ]
 
-abbrev pub planesOf : Memory → Planes
-planesOf m = record { y = m .y; u = m .u; v = m .v }
+abbrev pub planesIn : Memory → Planes
+planesIn m = planesOf (m .y) (m .u) (m .v)
+
+abbrev pub placeOf : Picture → ℕ → Place
+placeOf P k = record { column = columnOf P k; row = rowOf P k; width = P .wide * 16 }
+
+abbrev pub readersAt : State → (q : ℕ) → Readers
+readersAt S q = record { first = S .reader; token = getD (S .readers) q noReader }
+
+abbrev pub aroundAt : State → (column : ℕ) → Around
+aroundAt S column = record { top = columnAt (S .mem .columns) column; left = besideOf column (S .left) }
 
 unfoldable pub stepAt : Picture → ℕ → State → Step
 stepAt P k S =
-    let column = columnOf P k in
     let q = partitionOf P k in
-    stepOf (P .first) (S .reader) (P .token q) (getD (S .readers) q noReader) (P .header) (headerTable (P .header)) (frameOf (P .header))
-    (columnAt (S .mem .columns) column) (besideOf column (S .left)) (P .wide * 16) column (rowOf P k) (planesOf (S .mem))
+    stepOf (P .first) (P .token q) (readersAt S q) (P .frame) (P .table) (aroundAt S (columnOf P k)) (placeOf P k) (planesIn (S .mem))
 
 -- what a finished macroblock writes: its samples, its column's record, its mode record, its strengths
 abbrev pub written : (k column : ℕ) → Memory → Finished → Memory
@@ -87,8 +110,8 @@ written k column m x = record {
 
 abbrev pub nextOf : Picture → ℕ → State → Finished → State
 nextOf P k S x = record {
-  reader = x .first;
-  readers = set (S .readers) (partitionOf P k) (x .tokens);
+  reader = x .readers .first;
+  readers = set (S .readers) (partitionOf P k) (x .readers .token);
   left = x .left;
   mem = written k (columnOf P k) (S .mem) x;
 }
@@ -98,9 +121,15 @@ pub record Ended : Type 0 where
   pub answer : Decoded
   pub mem : Memory
 
--- the answer by the number of the macroblock that ended it: 0 where none did
-unfoldable pub endingOf : (number k : ℕ) → Decoded
-endingOf number k = elim (eqb number 0) [ true ↦ D.Whole k | false ↦ elim (eqb number 6) [ true ↦ D.NoModes k | false ↦ D.NoTokens k ] ]
+abbrev pub endedOf : Decoded → Memory → Ended
+endedOf answer mem = record { answer = answer; mem = mem }
+
+-- how the picture ends where macroblock k is not finished
+abbrev pub stoppedOf : Finish → ℕ → Decoded
+stoppedOf (F.Done readers) k = D.Whole k
+stoppedOf F.NoModes k = D.NoModes k
+stoppedOf F.NoTokens k = D.NoTokens k
+stoppedOf F.Refused k = D.Refused 9
 
 -- n macroblocks from number k on (modes section 19.3, tokens section 13), until one is refused: modes that run out (6), tokens that run
 -- out (7)
@@ -114,10 +143,10 @@ runOf (suc n) P k S =
     ]
 
 -- ---- THE CALL: a bad argument is refused by number (1 to 5) and nothing lent changes; else the macroblocks from blank memory
-unfoldable pub pictureOf : Tile → Memory → Ended
-pictureOf t m =
-    elim (refusalOf t (sizesOf m)) [
-      | zero ↦ runOf (blocksOf (t .width) (t .height)) (cutOut t) 0 (startOf t m)
+unfoldable pub pictureOf : Call → Memory → Ended
+pictureOf c m =
+    elim (refusalOf c (sizesOf m)) [
+      | zero ↦ runOf (blocksOf (c .tile .width) (c .tile .height)) (picturedOf c) 0 (begunOf c m)
       | suc n ↦ record { answer = D.Refused (suc n); mem = m }
     ]
 

@@ -6,29 +6,29 @@ use mathlib.Core.List.{List}
 use mathlib.Core.Logic.{⊎-elim}
 use native.Mathlib.Omega.{arith}
 use native.Mathlib.Nat.{mod-lt, div-lt-iff-lt-mul, mul-comm, mul-le-mul-right}
-use lib.IntN.{ℤ}
 use lib.ListN.{length, getD, set, length-set}
 use lib.Seq.{getD-set-same, getD-set-other}
 use Rattle.numbers.specs.Tests.{eq-or, both-left, both-right}
 use Rattle.reader.specs.declared.boolean.Reader.{Reader}
 use Rattle.reader.specs.Boolean.{noReader}
 use Rattle.reader.specs.BooleanLaws.{Bytes, Valid}
-use Rattle.coefficients.specs.Tokens.{headerTable}
-use Rattle.coefficients.specs.TokenLaws.{length-header, header-bytes}
-use Rattle.modes.specs.declared.columns.Context.{Context}
-use Rattle.modes.specs.Records.{columnAt, columnSet, modeSet, contextFine, emptyContext}
-use Rattle.modes.specs.RecordsLaws.{Sized, Columns, columns-set, column-set-length, mode-set-length, column-sized, contexts-fine}
-use Rattle.segments.specs.declared.frame.Frame.{Frame}
-use Rattle.segments.specs.Frame.{frameOf}
-use Rattle.macroblock.specs.Macroblock.{Planes, Finished, Step, finished, no-modes, no-tokens, stepOf, Ready, Laid}
+use Rattle.modes.specs.declared.contexts.Context.{Context}
+use Rattle.modes.specs.Answers.{kindsOf}
+use Rattle.modes.specs.Contexts.{contextFine, emptyContext, Shaped}
+use Rattle.modes.specs.ContextsLaws.{contexts-fine}
+use Rattle.lent.specs.Records.{recordsIn, columnWidth, modeWidth, strengthWidth, columnAt, columnSet, modeSet, Columns}
+use Rattle.lent.specs.ColumnsLaws.{columns-set, column-set-length, column-shaped}
+use Rattle.lent.specs.MacroblocksLaws.{mode-set-length, strength-set-length}
+use Rattle.header.specs.FrameLaws.{Sound}
+use Rattle.tile.specs.PartitionsLaws.{pick-below}
+use Rattle.macroblock.specs.Macroblock.{Finished, Step, finished, no-modes, no-tokens, stepOf}
+use Rattle.macroblock.specs.MacroblockLaws.{Ready, Laid}
 use Rattle.macroblock.specs.DecodeLaws.{flags-of}
-use Rattle.segments.specs.FrameLaws.{frame-levels}
-use Rattle.macroblock.specs.StrengthRecordsLaws.{strength-set-length}
 use Rattle.picture.specs.declared.rows.Decoded.the-variants as D
-use Rattle.picture.specs.Memory.{Memory}
+use Rattle.lent.specs.Memory.{Memory}
 use Rattle.picture.specs.Turn.{Turned, turned, Room}
 use Rattle.picture.specs.TurnLaws.{Ends, ends-of, beside-none, beside-left}
-use Rattle.picture.specs.Picture.{Picture, State, Ended, columnOf, rowOf, partitionOf, besideOf, planesOf, stepAt, written, nextOf, runOf}
+use Rattle.picture.specs.Picture.{Picture, State, Ended, columnOf, rowOf, partitionOf, besideOf, planesIn, placeOf, readersAt, aroundAt, stepAt, written, nextOf, runOf}
 
 -- ---- one turn
 pub run-none : (P : Picture) (k : ℕ) (S : State) → runOf 0 P k S ≡ record { answer = D.Whole k; mem = S .mem }
@@ -50,7 +50,7 @@ module _ (n : ℕ) (P : Picture) (k : ℕ) (S : State) where
 
 -- one macroblock written out: its partitions and readers, the contexts around it, its place, the planes
 pub step-at : (P : Picture) (k : ℕ) (S : State)
-    → stepAt P k S ≡ stepOf (P .first) (S .reader) (P .token (partitionOf P k)) (getD (S .readers) (partitionOf P k) noReader) (P .header) (headerTable (P .header)) (frameOf (P .header)) (columnAt (S .mem .columns) (columnOf P k)) (besideOf (columnOf P k) (S .left)) (P .wide * 16) (columnOf P k) (rowOf P k) (planesOf (S .mem))
+    → stepAt P k S ≡ stepOf (P .first) (P .token (partitionOf P k)) (readersAt S (partitionOf P k)) (P .frame) (P .table) (aroundAt S (columnOf P k)) (placeOf P k) (planesIn (S .mem))
 unfolding stepAt
 step-at P k S = refl
 
@@ -58,7 +58,9 @@ step-at P k S = refl
 pub record Shared (P : Picture) : Type 0 where
   pub least : 1 ≤ P .count
   pub most : P .count ≤ 8
-  pub entries : length (P .header) ≡ 1096
+  pub size : length (P .table) ≡ 1056
+  pub bytes : Bytes (P .table)
+  pub sound : Sound (P .frame)
   pub wide : P .wide ≤ 1024
   pub high : P .high ≤ 1024
 
@@ -68,14 +70,14 @@ pub record Live (P : Picture) (S : State) : Type 0 where
   pub eight : length (S .readers) ≡ 8
   pub tokens : (q : ℕ) → q < P .count → Valid (P .token q) (getD (S .readers) q noReader)
   pub left : contextFine (S .left) ≡ true
-  pub beside : Sized (S .left)
+  pub beside : Shaped (S .left)
   pub contexts : Columns (S .mem .columns)
   pub y : length (S .mem .y) ≡ P .high * 16 * (P .wide * 16)
   pub u : length (S .mem .u) ≡ P .high * 8 * (P .wide * 16 / 2)
   pub v : length (S .mem .v) ≡ P .high * 8 * (P .wide * 16 / 2)
-  pub columns : length (S .mem .columns) ≡ 13 * P .wide
-  pub modes : length (S .mem .modes) ≡ 20 * (P .wide * P .high)
-  pub strengths : length (S .mem .strengths) ≡ 4 * (P .wide * P .high)
+  pub columns : length (S .mem .columns) ≡ columnWidth * P .wide
+  pub modes : length (S .mem .modes) ≡ modeWidth * (P .wide * P .high)
+  pub strengths : length (S .mem .strengths) ≡ strengthWidth * (P .wide * P .high)
 
 -- ---- the place of macroblock k
 module _ (P : Picture) (k : ℕ) (h : k < P .wide * P .high) where
@@ -93,29 +95,29 @@ module _ (P : Picture) (k : ℕ) (h : k < P .wide * P .high) where
   row-below = div-lt-iff-lt-mul some .1 (rw (mul-comm (P .high) (P .wide)) h)
 
   pub partition-below : 1 ≤ P .count → partitionOf P k < P .count
-  partition-below l = mod-lt _ {m = P .count} l
+  partition-below l = pick-below (rowOf P k) (P .count) l
 
-beside-fine : (column : ℕ) (left : Context) → contextFine left ≡ true → Sized left → (contextFine (besideOf column left) ≡ true) × Sized (besideOf column left)
+beside-fine : (column : ℕ) (left : Context) → contextFine left ≡ true → Shaped left → (contextFine (besideOf column left) ≡ true) × Shaped (besideOf column left)
 beside-fine column left e z = ⊎-elim
     (λ (c : column ≡ 0). rw (beside-none column left c) (refl, record { modes = refl; flags = refl }))
     (λ c. rw (← beside-left column left c) (e, z))
     (eq-or column 0)
 
 -- the turn that the code takes, with what it worked out, is macroblock k's
-pub turn-at : (P : Picture) (k : ℕ) (S : State) {T : Turned} (column row q : ℕ) (tokens table : List ℕ) (f : Frame)
-    → T ≡ turned (S .left) k column (S .mem) (stepOf (P .first) (S .reader) tokens (getD (S .readers) q noReader) (P .header) table f (columnAt (S .mem .columns) column) (besideOf column (S .left)) (P .wide * 16) column row (planesOf (S .mem)))
-    → column ≡ columnOf P k → row ≡ rowOf P k → q ≡ partitionOf P k → tokens ≡ P .token q → table ≡ headerTable (P .header) → f ≡ frameOf (P .header)
+pub turn-at : (P : Picture) (k : ℕ) (S : State) {T : Turned} (column row q : ℕ) (first tokens : List ℕ)
+    → T ≡ turned (S .left) k column (S .mem) (stepOf first tokens (readersAt S q) (P .frame) (P .table) (aroundAt S column) (record { column = column; row = row; width = P .wide * 16 }) (planesIn (S .mem)))
+    → first ≡ P .first → column ≡ columnOf P k → row ≡ rowOf P k → q ≡ partitionOf P k → tokens ≡ P .token q
     → T ≡ turned (S .left) k (columnOf P k) (S .mem) (stepAt P k S)
 unfolding stepAt
-turn-at P k S column row q tokens table f e a b c d g i =
+turn-at P k S column row q first tokens e f a b c d =
     let d′ : tokens ≡ P .token (partitionOf P k) = d ∙ ap (P .token) c in
     e
     ∙ (λ o. turned (S .left) k (a o) (S .mem)
-    (stepOf (P .first) (S .reader) (d′ o) (getD (S .readers) (c o) noReader) (P .header) (g o) (i o) (columnAt (S .mem .columns) (a o)) (besideOf (a o) (S .left)) (P .wide * 16) (a o) (b o) (planesOf (S .mem))))
+    (stepOf (f o) (d′ o) (readersAt S (c o)) (P .frame) (P .table) (aroundAt S (a o)) (record { column = a o; row = b o; width = P .wide * 16 }) (planesIn (S .mem))))
 
 module _ (P : Picture) (S : State) (k : ℕ) (s : Shared P) (l : Live P S) (h : k < P .wide * P .high) where
   -- what its call asks
-  pub laid-at : Laid (P .wide * 16) (columnOf P k) (rowOf P k) (planesOf (S .mem))
+  pub laid-at : Laid (placeOf P k) (planesIn (S .mem))
   laid-at = record {
     columns = P .wide;
     rows = P .high;
@@ -137,42 +139,40 @@ module _ (P : Picture) (S : State) (k : ℕ) (s : Shared P) (l : Live P S) (h : 
   }
 
   -- the same for a column and a row that the code works out
-  pub laid-in : {column row : ℕ} → column ≡ columnOf P k → row ≡ rowOf P k → Laid (P .wide * 16) column row (planesOf (S .mem))
+  pub laid-in : {column row : ℕ} → column ≡ columnOf P k → row ≡ rowOf P k → Laid (record { column = column; row = row; width = P .wide * 16 }) (planesIn (S .mem))
   laid-in e f = rw (e, f) laid-at
 
   pub room-in : {column : ℕ} → column ≡ columnOf P k → Room column k (S .mem .columns) (S .mem .modes) (S .mem .strengths)
   room-in e = rw e room-at
 
   -- its readers and contexts, for a column and a partition that the code works out
-  pub ready-at : (column q : ℕ) → column < P .wide → q < P .count → {tokens : List ℕ} → tokens ≡ P .token q → {table : List ℕ} → table ≡ headerTable (P .header) → {f : Frame} → f ≡ frameOf (P .header)
-      → Ready (P .first) (S .reader) tokens (getD (S .readers) q noReader) (P .header) table f (columnAt (S .mem .columns) column) (besideOf column (S .left))
-  ready-at column q c d {tokens} e {table} g {f} i =
-      let room : column < length (S .mem .columns) / 13 = rw (l .columns) (omega arith) in
+  pub ready-at : (column q : ℕ) → column < P .wide → q < P .count → {first tokens : List ℕ} → first ≡ P .first → tokens ≡ P .token q
+      → Ready first tokens (readersAt S q) (P .frame) (P .table) (aroundAt S column)
+  ready-at column q c d f e =
+      let room : column < recordsIn columnWidth (S .mem .columns) = rw (l .columns) (omega arith) in
       let b = beside-fine column (S .left) (l .left) (l .beside) in
       let a = l .contexts column room in
       record {
-        reader = l .reader;
+        reader = rw f (l .reader);
         token = rw e (l .tokens q d);
-        entries = s .entries;
-        size = ap length g ∙ length-header (P .header);
+        size = s .size;
         contexts = contexts-fine (columnAt (S .mem .columns) column) (besideOf column (S .left)) a (b .0);
-        above = flags-of (columnAt (S .mem .columns) column) (column-sized (S .mem .columns) column room .flags) a;
-        beside = flags-of (besideOf column (S .left)) (b .1 .flags) (b .0);
-        levels = λ small j. rw i (frame-levels (P .header) small j);
+        top = flags-of (columnAt (S .mem .columns) column) (column-shaped (S .mem .columns) column .flags) a;
+        left = flags-of (besideOf column (S .left)) (b .1 .flags) (b .0);
+        sound = s .sound;
       }
 
-  pub ends-at : Bytes (P .first) → Bytes (P .token (partitionOf P k)) → (x : Finished) → stepAt P k S ≡ finished x → Ends (P .first) (P .token (partitionOf P k)) (planesOf (S .mem)) x
+  pub ends-at : Bytes (P .first) → Bytes (P .token (partitionOf P k)) → (x : Finished) → stepAt P k S ≡ finished x → Ends (P .first) (P .token (partitionOf P k)) (planesIn (S .mem)) x
   unfolding stepAt
   ends-at a b =
-      ends-of (P .first) (S .reader) (P .token (partitionOf P k)) (getD (S .readers) (partitionOf P k) noReader) (P .header) (headerTable (P .header)) (frameOf (P .header))
-      (columnAt (S .mem .columns) (columnOf P k)) (besideOf (columnOf P k) (S .left)) (P .wide * 16) (columnOf P k) (rowOf P k) (planesOf (S .mem))
-      (ready-at (columnOf P k) (partitionOf P k) (column-below P k h) (partition-below P k h (s .least)) refl refl refl) laid-at a b (header-bytes (P .header))
+      ends-of (P .first) (P .token (partitionOf P k)) (readersAt S (partitionOf P k)) (P .frame) (P .table) (aroundAt S (columnOf P k)) (placeOf P k) (planesIn (S .mem))
+      (ready-at (columnOf P k) (partitionOf P k) (column-below P k h) (partition-below P k h (s .least)) refl refl) laid-at a b (s .bytes)
 
   -- and what it leaves
-  pub live-next : (x : Finished) → Ends (P .first) (P .token (partitionOf P k)) (planesOf (S .mem)) x → Live P (nextOf P k S x)
+  pub live-next : (x : Finished) → Ends (P .first) (P .token (partitionOf P k)) (planesIn (S .mem)) x → Live P (nextOf P k S x)
   live-next x z = record {
     reader = z .reader;
-    eight = length-set (S .readers) (partitionOf P k) (x .tokens) ∙ l .eight;
+    eight = length-set (S .readers) (partitionOf P k) (x .readers .token) ∙ l .eight;
     tokens = valid;
     left = z .left;
     beside = z .left-sized;
@@ -181,12 +181,12 @@ module _ (P : Picture) (S : State) (k : ℕ) (s : Shared P) (l : Live P S) (h : 
     u = z .u ∙ l .u;
     v = z .v ∙ l .v;
     columns = column-set-length (S .mem .columns) (columnOf P k) (x .top) ∙ l .columns;
-    modes = mode-set-length (S .mem .modes) k _ _ ∙ l .modes;
+    modes = mode-set-length (S .mem .modes) k (kindsOf (x .modes)) (x .modes .modes) ∙ l .modes;
     strengths = strength-set-length (S .mem .strengths) k (x .strength) ∙ l .strengths;
   }
     where
-      valid : (q : ℕ) → q < P .count → Valid (P .token q) (getD (set (S .readers) (partitionOf P k) (x .tokens)) q noReader)
+      valid : (q : ℕ) → q < P .count → Valid (P .token q) (getD (set (S .readers) (partitionOf P k) (x .readers .token)) q noReader)
       valid q g = ⊎-elim
-          (λ (e : q ≡ partitionOf P k). rw (e, getD-set-same (S .readers) (partitionOf P k) (x .tokens) noReader (rw (l .eight) (omega (arith, partition-below P k h (s .least), s .most)))) (z .token))
-          (λ e. rw (getD-set-other (S .readers) (partitionOf P k) q (x .tokens) noReader e) (l .tokens q g))
+          (λ (e : q ≡ partitionOf P k). rw (e, getD-set-same (S .readers) (partitionOf P k) (x .readers .token) noReader (rw (l .eight) (omega (arith, partition-below P k h (s .least), s .most)))) (z .token))
+          (λ e. rw (getD-set-other (S .readers) (partitionOf P k) q (x .readers .token) noReader e) (l .tokens q g))
           (eq-or q (partitionOf P k))

@@ -1,38 +1,40 @@
 -- What one macroblock leaves, from the answers of the calls that make it.
-use Prim.Native.Nat.{ℕ, _/_, _<_}
+use Prim.Native.Nat.{ℕ, _<_}
 use mathlib.Core.Path.{_≡_, refl, sym, _∙_, ap, ap₂}
-use mathlib.Core.Bool.{true, false}
+use mathlib.Core.Bool.{true, false, _&&_}
 use mathlib.Core.List.{List}
 use native.Mathlib.Omega.{arith}
 use lib.Dec.{eqb}
-use lib.IntN.{ℤ}
 use lib.ListN.{length}
 use borrow.Author.Tests.{eq-eqb, ne-eqb}
-use Rattle.reader.specs.declared.boolean.Reader.{Reader}
+use Rattle.numbers.specs.Tests.{both-true}
 use Rattle.reader.specs.BooleanLaws.{Bytes, Valid}
-use Rattle.modes.specs.declared.columns.Context.{Context}
-use Rattle.modes.specs.declared.columns.Column.{Column}
-use Rattle.modes.specs.declared.records.Stored.{Stored}
+use Rattle.modes.specs.declared.contexts.Context.{Context}
 use Rattle.modes.specs.Answers.{kindsOf, eachBelow}
-use Rattle.modes.specs.Records as Records
-use Rattle.modes.specs.Records.{columnAt, columnFound, columnSet, modeSet, columnWritten, modeWritten, contextFine, kindsFine, emptyContext}
+use Rattle.modes.specs.Contexts.{contextFine, emptyContext, Shaped}
 use Rattle.modes.specs.ModesLaws.{modes-test}
-use Rattle.modes.specs.RecordsLaws.{Sized, kinds-fine, column-read-good, column-write-good, write-good}
+use Rattle.filter.specs.Strengths.{strengthFine}
+use Rattle.lent.specs.declared.columns.ColumnRecord.{ColumnRecord}
+use Rattle.lent.specs.declared.records.Kept.{Kept}
+use Rattle.lent.specs.Records.{Written, recordsIn, columnWidth, modeWidth, strengthWidth, columnAt, columnFound, columnRecord, columnSet, columnWritten, kindsFine, modeRecord, modeSet, modeWritten, strengthRecord, strengthSet, strengthWritten}
+use Rattle.lent.specs.RecordsLaws.{write-good}
+use Rattle.lent.specs.ColumnsLaws.{column-read}
+use Rattle.lent.specs.MacroblocksLaws.{kinds-fine}
 use Rattle.macroblock.specs.declared.whole.Finish.{Finish}
 use Rattle.macroblock.specs.declared.whole.Finish.the-variants as F
-use Rattle.macroblock.specs.declared.whole.Whole.{Whole}
-use Rattle.macroblock.specs.declared.records.Kept.{Kept}
-use Rattle.segments.specs.declared.frame.Frame.{Frame}
+use Rattle.macroblock.specs.declared.whole.Outcome.{Outcome}
+use Rattle.macroblock.specs.declared.arguments.Place.{Place}
+use Rattle.macroblock.specs.declared.arguments.Readers.{Readers}
+use Rattle.macroblock.specs.declared.arguments.Around.{Around}
+use Rattle.header.specs.declared.frame.Frame.{Frame}
 use Rattle.macroblock.specs.DecodeLaws.{decode-good}
-use Rattle.macroblock.specs.StepLaws.{whole-step, step-ends, step-outside}
+use Rattle.macroblock.specs.StepLaws.{step-ends, step-outside}
 use Rattle.macroblock.specs.StepRecords.{step-strength}
-use Rattle.macroblock.specs.Macroblock.{Ready, Laid, stepOf, decodeOf, Planes, Finished, Step, finished, no-modes, no-tokens, Called, toCalled, shown, finishNumberOf}
-use Rattle.macroblock.specs.StrengthRecords as Strengths
-use Rattle.macroblock.specs.StrengthRecords.{strengthSet, strengthWritten, strengthFine}
-use Rattle.macroblock.specs.StrengthRecordsLaws.{strength-write-good}
-use Rattle.picture.specs.Memory.{Memory}
-use Rattle.picture.specs.Picture.{besideOf, planesOf, written}
-use Rattle.picture.specs.Turn.{Turned, turned, Room}
+use Rattle.macroblock.specs.Macroblock.{stepOf, decodeOf, Planes, Finished, Step, finished, no-modes, no-tokens, Called, toCalled, shown, finishNumberOf}
+use Rattle.macroblock.specs.MacroblockLaws.{Ready, Laid}
+use Rattle.lent.specs.Memory.{Memory, memoryOf}
+use Rattle.picture.specs.Picture.{besideOf, planesIn, written}
+use Rattle.picture.specs.Turn.{Turned, turnedOf, turned, Room}
 
 -- ---- what lies to the left
 module _ (column : ℕ) (left : Context) where
@@ -45,37 +47,39 @@ module _ (column : ℕ) (left : Context) where
   beside-left e = rw (ne-eqb _ _ e, besideOf)
 
 -- ---- the call of a macroblock, its arguments being good
-pub call-is : (s : List ℕ) (r : Reader) (tokens : List ℕ) (t : Reader) (h : List ℤ) (table : List ℕ) (f : Frame) {a b : Context} (top left : Context) (w column row : ℕ) (p : Planes) {x : Called}
-    → x ≡ decodeOf s r tokens t h table f a b w column row p → a ≡ top → b ≡ left → Ready s r tokens t h table f top left → Laid w column row p
-    → x ≡ toCalled p (stepOf s r tokens t h table f top left w column row p)
-call-is s r tokens t h table f top left w column row p e c d g l =
-    e ∙ ap₂ (λ (x y : Context). decodeOf s r tokens t h table f x y w column row p) c d ∙ decode-good s r tokens t h table f top left w column row p g l ∙ whole-step s r tokens t h table f top left w column row p
+pub call-is : (first tokens : List ℕ) (readers : Readers) (f : Frame) (table : List ℕ) {a b : Context} (top left : Context) (place : Place) (p : Planes) {x : Called}
+    → x ≡ decodeOf first tokens readers f table (record { top = a; left = b }) place p → a ≡ top → b ≡ left
+    → Ready first tokens readers f table (record { top = top; left = left }) → Laid place p
+    → x ≡ toCalled p (stepOf first tokens readers f table (record { top = top; left = left }) place p)
+call-is first tokens readers f table top left place p e c d g l =
+    e ∙ ap₂ (λ (x y : Context). decodeOf first tokens readers f table (record { top = x; left = y }) place p) c d
+    ∙ decode-good first tokens readers f table (record { top = top; left = left }) place p g l
 
 -- what is read of a column
-pub column-is : (mem : List ℕ) (x : ℕ) {c : Column} → c ≡ columnFound mem x → x < length mem / 13 → c .context ≡ columnAt mem x
-column-is mem x e h = ap (λ (c : Column). c .context) (e ∙ column-read-good mem x h)
+pub column-is : (mem : List ℕ) (x : ℕ) {c : ColumnRecord} → c ≡ columnFound mem x → x < recordsIn columnWidth mem → c .context ≡ columnAt mem x
+column-is mem x e h = ap (λ (c : ColumnRecord). c .context) (e ∙ column-read mem x h)
 
 -- ---- a finished macroblock is in range: what can be written, and what the next one asks
 pub record Ends (first tokens : List ℕ) (p : Planes) (x : Finished) : Type 0 where
-  pub reader : Valid first (x .first)
-  pub token : Valid tokens (x .tokens)
+  pub reader : Valid first (x .readers .first)
+  pub token : Valid tokens (x .readers .token)
   pub kinds : kindsFine (kindsOf (x .modes)) ≡ true
   pub modes : eachBelow 10 (x .modes .modes) ≡ true
   pub top : contextFine (x .top) ≡ true
-  pub top-sized : Sized (x .top)
+  pub top-sized : Shaped (x .top)
   pub left : contextFine (x .left) ≡ true
-  pub left-sized : Sized (x .left)
+  pub left-sized : Shaped (x .left)
   pub strength : strengthFine (x .strength) ≡ true
   pub y : length (x .planes .y) ≡ length (p .y)
   pub u : length (x .planes .u) ≡ length (p .u)
   pub v : length (x .planes .v) ≡ length (p .v)
 
-pub ends-of : (s : List ℕ) (r : Reader) (tokens : List ℕ) (t : Reader) (h : List ℤ) (table : List ℕ) (f : Frame) (top left : Context) (w column row : ℕ) (p : Planes)
-    → Ready s r tokens t h table f top left → Laid w column row p → Bytes s → Bytes tokens → Bytes table
-    → (x : Finished) → stepOf s r tokens t h table f top left w column row p ≡ finished x → Ends s tokens p x
-ends-of s r tokens t h table f top left w column row p g l a b c x e =
-    let z = step-ends s r tokens t h table f top left w column row p g a b c e in
-    let o = step-outside s r tokens t h table f top left w column row p g a b c e l in
+pub ends-of : (first tokens : List ℕ) (readers : Readers) (f : Frame) (table : List ℕ) (around : Around) (place : Place) (p : Planes)
+    → Ready first tokens readers f table around → Laid place p → Bytes first → Bytes tokens → Bytes table
+    → (x : Finished) → stepOf first tokens readers f table around place p ≡ finished x → Ends first tokens p x
+ends-of first tokens readers f table around place p g l a b c x e =
+    let z = step-ends first tokens readers f table around place p g a b c e in
+    let o = step-outside first tokens readers f table around place p g a b c e l in
     record {
       reader = z .first;
       token = z .token;
@@ -85,40 +89,40 @@ ends-of s r tokens t h table f top left w column row p g l a b c x e =
       top-sized = z .top-sized;
       left = z .left;
       left-sized = z .left-sized;
-      strength = step-strength s r tokens t h table f top left w column row p (g .levels) e;
+      strength = step-strength first tokens readers f table around place p (g .sound) e;
       y = o .y .long;
       u = o .u .long;
       v = o .v .long;
     }
 
 -- as the code puts it together
-abbrev pub afterOf : (a b : Reader) → Whole → Planes → (columns modes strengths : List ℕ) → Turned
-afterOf a b w p columns modes strengths = record { answer = F.Done a b; left = w .left; mem = record { y = p .y; u = p .u; v = p .v; columns = columns; modes = modes; strengths = strengths } }
+abbrev pub afterOf : Readers → Outcome → Planes → (columns modes strengths : List ℕ) → Turned
+afterOf a w p columns modes strengths = turnedOf (F.Done a) (w .left) (memoryOf (p .y) (p .u) (p .v) columns modes strengths)
 
-module _ (left : Context) (k column : ℕ) (m : Memory) {w : Whole} {p : Planes} where
-  pub turn-stopped : (s : Step) → record { answer = w; planes = p } ≡ toCalled (planesOf m) s → (finishNumberOf (w .answer) ≡ 0 → ⊥)
+module _ (left : Context) (k column : ℕ) (m : Memory) {w : Outcome} {p : Planes} where
+  pub turn-stopped : (s : Step) → record { answer = w; planes = p } ≡ toCalled (planesIn m) s → (finishNumberOf (w .answer) ≡ 0 → ⊥)
       → _≡_ {A = Turned} (record { answer = w .answer; left = left; mem = record { y = p .y; u = p .u; v = p .v; columns = m .columns; modes = m .modes; strengths = m .strengths } }) (turned left k column m s)
   turn-stopped (finished x) e n = absurd (n (ap (λ (c : Called). finishNumberOf (c .answer .answer)) e))
   turn-stopped no-modes e n = λ i. record { answer = e i .answer .answer; left = left; mem = record { y = e i .planes .y; u = e i .planes .u; v = e i .planes .v; columns = m .columns; modes = m .modes; strengths = m .strengths } }
   turn-stopped no-tokens e n = λ i. record { answer = e i .answer .answer; left = left; mem = record { y = e i .planes .y; u = e i .planes .u; v = e i .planes .v; columns = m .columns; modes = m .modes; strengths = m .strengths } }
 
-  module _ {a b : Reader} {n₁ n₂ : Stored} {n₃ : Kept} {columns modes strengths first tokens : List ℕ} (g : w .answer ≡ F.Done a b) (r : Room column k (m .columns) (m .modes) (m .strengths))
+  module _ {a : Readers} {n₁ n₂ n₃ : Kept} {columns modes strengths first tokens : List ℕ} (g : w .answer ≡ F.Done a) (r : Room column k (m .columns) (m .modes) (m .strengths))
       (c : record { answer = n₁; mem = columns } ≡ columnWritten (m .columns) column (w .top))
       (d : record { answer = n₂; mem = modes } ≡ modeWritten (m .modes) k (w .kinds) (w .modes))
       (f : record { answer = n₃; mem = strengths } ≡ strengthWritten (m .strengths) k (w .strength)) where
-    done : (x : Finished) → Ends first tokens (planesOf m) x → record { answer = w; planes = p } ≡ toCalled (planesOf m) (finished x) → afterOf a b w p columns modes strengths ≡ turned left k column m (finished x)
+    done : (x : Finished) → Ends first tokens (planesIn m) x → record { answer = w; planes = p } ≡ toCalled (planesIn m) (finished x) → afterOf a w p columns modes strengths ≡ turned left k column m (finished x)
     done x z e =
         let ew : w ≡ shown x = ap (λ (q : Called). q .answer) e in
-        let ea : F.Done a b ≡ F.Done (x .first) (x .tokens) = sym g ∙ ap (λ (q : Whole). q .answer) ew in
+        let ea : F.Done a ≡ F.Done (x .readers) = sym g ∙ ap (λ (q : Outcome). q .answer) ew in
         let ec : columns ≡ columnSet (m .columns) column (x .top) =
-        ap (λ (q : Records.Written). q .mem) (c ∙ ap (λ (q : Whole). columnWritten (m .columns) column (q .top)) ew ∙ column-write-good (m .columns) column (x .top) (r .columns) (z .top)) in
+        ap (λ (q : Written). q .mem) (c ∙ ap (λ (q : Outcome). columnWritten (m .columns) column (q .top)) ew ∙ write-good columnWidth (m .columns) column (contextFine (x .top)) (columnRecord (x .top)) (r .columns) (z .top)) in
         let ed : modes ≡ modeSet (m .modes) k (kindsOf (x .modes)) (x .modes .modes) =
-        ap (λ (q : Records.Written). q .mem) (d ∙ ap (λ (q : Whole). modeWritten (m .modes) k (q .kinds) (q .modes)) ew ∙ write-good (m .modes) k (kindsOf (x .modes)) (x .modes .modes) (r .modes) (z .kinds) (z .modes)) in
+        ap (λ (q : Written). q .mem) (d ∙ ap (λ (q : Outcome). modeWritten (m .modes) k (q .kinds) (q .modes)) ew ∙ write-good modeWidth (m .modes) k (kindsFine (kindsOf (x .modes)) && eachBelow 10 (x .modes .modes)) (modeRecord (kindsOf (x .modes)) (x .modes .modes)) (r .modes) (both-true (z .kinds) (z .modes))) in
         let ef : strengths ≡ strengthSet (m .strengths) k (x .strength) =
-        ap (λ (q : Strengths.Written). q .mem) (f ∙ ap (λ (q : Whole). strengthWritten (m .strengths) k (q .strength)) ew ∙ strength-write-good (m .strengths) k (x .strength) (r .strengths) (z .strength)) in
+        ap (λ (q : Written). q .mem) (f ∙ ap (λ (q : Outcome). strengthWritten (m .strengths) k (q .strength)) ew ∙ write-good strengthWidth (m .strengths) k (strengthFine (x .strength)) (strengthRecord (x .strength)) (r .strengths) (z .strength)) in
         λ i. record { answer = ea i; left = ew i .left; mem = record { y = e i .planes .y; u = e i .planes .u; v = e i .planes .v; columns = ec i; modes = ed i; strengths = ef i } }
 
-    pub turn-done : (s : Step) → record { answer = w; planes = p } ≡ toCalled (planesOf m) s → ((x : Finished) → s ≡ finished x → Ends first tokens (planesOf m) x) → afterOf a b w p columns modes strengths ≡ turned left k column m s
+    pub turn-done : (s : Step) → record { answer = w; planes = p } ≡ toCalled (planesIn m) s → ((x : Finished) → s ≡ finished x → Ends first tokens (planesIn m) x) → afterOf a w p columns modes strengths ≡ turned left k column m s
     turn-done (finished x) e z = done x (z x refl) e
     turn-done no-modes e z = absurd (not-done (ap (λ (q : Called). finishNumberOf (q .answer .answer)) e))
       where

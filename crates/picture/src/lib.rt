@@ -1,38 +1,26 @@
-// The picture: the argument checks (checks), the lent memory before the first macroblock (memory), the partitions, cut out of
-// the bytes and opened (partitions), one macroblock in its place (turn), all of them in order (rows), and the call.
+// The picture: the argument checks (checks), one macroblock in its place (turn), all of them in order (rows), and the call.
 mod checks;
-mod memory;
-mod partitions;
 pub mod rows;
 mod turn;
 
 use crate::checks::refusal;
-use crate::memory::blank;
-use crate::partitions::openers;
-use crate::partitions::part;
 use crate::rows::Decoded;
-use crate::rows::ended;
 use crate::rows::rows;
 use coefficients::tokens::probabilities;
-use reader::boolean::Reader;
-use segments::frame::take;
+use header::frame::take;
+use lent::memory::blank;
+use lent::sizes::Sizes;
+use tile::Tile;
 ghost use mathlib.Core.Path.{_≡_};
-ghost use Rattle.picture.specs.Picture.{Ended, pictureOf};
+ghost use Rattle.lent.specs.Memory.{memoryOf};
+ghost use Rattle.picture.specs.Checks.{callOf};
+ghost use Rattle.picture.specs.Picture.{endedOf, pictureOf};
 
-// The picture call. `start` and `len` are the first partition's, `starts` and `lengths` the token partitions', and `reader`
-// starts in the first, behind the coded header. Lent: w*h bytes of Y, (w/2)*(h/2) of U and V, 13 bytes a macroblock column, 20
-// and 4 bytes a macroblock.
+// The picture call. Lent: w*h bytes of Y, (w/2)*(h/2) of U and V, 13 bytes a macroblock column, 20 and 4 bytes a macroblock.
 pub fn decode(
     bytes: &[u8],
-    start: usize,
-    len: usize,
-    starts: [usize; 8],
-    lengths: [usize; 8],
-    reader: Reader,
-    count: usize,
+    tile: Tile,
     header: &[i32],
-    width: usize,
-    height: usize,
     y: &mut [u8],
     u: &mut [u8],
     v: &mut [u8],
@@ -40,27 +28,24 @@ pub fn decode(
     modes: &mut [u8],
     strengths: &mut [u8],
 ) -> Decoded
-    ensures { λ q. ⌜ _≡_ {A = Ended} (record { answer = q; mem = record { y = now (y .exit); u = now (u .exit); v = now (v .exit); columns = now (columns .exit); modes = now (modes .exit); strengths = now (strengths .exit) } })
-        (pictureOf (record { bytes = now (bytes .entry); firstStart = start; firstLength = len; reader = reader; starts = starts; lengths = lengths; count = count; header = now (header .entry); width = width; height = height })
-        (record { y = now (y .entry); u = now (u .entry); v = now (v .entry); columns = now (columns .entry); modes = now (modes .entry); strengths = now (strengths .entry) })) ⌝ }
+    ensures { λ q. ⌜ endedOf q
+        (memoryOf (now (y .exit)) (now (u .exit)) (now (v .exit)) (now (columns .exit)) (now (modes .exit)) (now (strengths .exit)))
+        ≡ pictureOf (callOf (now (bytes .entry)) tile (now (header .entry)))
+        (memoryOf (now (y .entry)) (now (u .entry)) (now (v .entry))
+        (now (columns .entry)) (now (modes .entry)) (now (strengths .entry))) ⌝ }
 {
     let bad = refusal(
         bytes,
-        start,
-        len,
-        starts,
-        lengths,
-        reader,
-        count,
+        tile,
         header,
-        width,
-        height,
-        y.len(),
-        u.len(),
-        v.len(),
-        columns.len(),
-        modes.len(),
-        strengths.len(),
+        Sizes {
+            y: y.len(),
+            u: u.len(),
+            v: v.len(),
+            columns: columns.len(),
+            modes: modes.len(),
+            strengths: strengths.len(),
+        },
     );
     if bad != 0 {
         return Decoded::Refused(bad);
@@ -77,25 +62,16 @@ pub fn decode(
     let numbers = table.bytes;
     let framed = take(header);
     let frame = framed.frame;
-    let stop = rows(
-        part(bytes, start, len),
-        reader,
+    rows(
         bytes,
-        starts,
-        lengths,
-        openers(bytes, starts, lengths, count),
-        count,
-        header,
-        &numbers,
+        tile,
         frame,
-        width / 16,
-        height / 16,
+        &numbers,
         &mut y[..],
         &mut u[..],
         &mut v[..],
         &mut columns[..],
         &mut modes[..],
         &mut strengths[..],
-    );
-    ended(stop.number, stop.k)
+    )
 }

@@ -1,20 +1,20 @@
 // The macroblocks of a picture in raster order (the source's vp8_image), until one is refused.
-use crate::partitions::part;
-use crate::partitions::pick;
+use crate::turn::Task;
 use crate::turn::turn;
+use header::frame::Frame;
+use macroblock::arguments::Place;
+use macroblock::arguments::Readers;
 use macroblock::whole::Finish;
-use modes::columns::Context;
-use reader::boolean::Reader;
-use segments::frame::Frame;
+use modes::contexts::Context;
+use tile::Tile;
+use tile::partitions::openers;
+use tile::partitions::part;
+use tile::partitions::pick;
+use tile::partitions::token;
 ghost use mathlib.Core.Path.{_≡_};
-ghost use Prim.Native.Nat.{ℕ, _<_, _*_};
-ghost use lib.ListN.{length, getD};
-ghost use Rattle.coefficients.specs.Tokens.{headerTable};
-ghost use Rattle.modes.specs.Records.{emptyContext};
-ghost use Rattle.segments.specs.Frame.{frameOf};
-ghost use Rattle.macroblock.specs.Macroblock.{finishNumberOf};
-ghost use Rattle.picture.specs.Partitions.{Inside, tokenOf};
-ghost use Rattle.picture.specs.Picture.{Ended, endingOf, numberOf, runOf, valuesOf};
+ghost use Rattle.tile.specs.Checks.{blocksOf};
+ghost use Rattle.lent.specs.Memory.{memoryOf};
+ghost use Rattle.picture.specs.Picture.{cutOut, endedOf, numberOf, runOf, startOf, stoppedOf, valuesOf};
 ghost use Rattle.picture.specs.PictureLaws.{Shared, Live};
 
 // How the picture call ended: every macroblock is finished; an argument was refused, 1 to 5; the first partition or a token
@@ -51,90 +51,72 @@ impl Decoded {
     }
 }
 
-// The number of a macroblock's answer: 0, or that of its refusal.
-fn number_of(answer: Finish) -> u32
-    ensures { λ r. ⌜ r ≡ finishNumberOf answer ⌝ }
+// How the picture ends where macroblock k is not finished.
+fn stopped(answer: Finish, k: usize) -> Decoded
+    ensures { λ r. ⌜ r ≡ stoppedOf answer k ⌝ }
 {
     match answer {
-        Finish::Done(_, _) => 0,
-        Finish::NoModes => 6,
-        Finish::NoTokens => 7,
-        Finish::Refused => 9,
+        Finish::Done(_) => Decoded::Whole(k),
+        Finish::NoModes => Decoded::NoModes(k),
+        Finish::NoTokens => Decoded::NoTokens(k),
+        Finish::Refused => Decoded::Refused(9),
     }
-}
-
-pub(crate) fn ended(number: u32, k: usize) -> Decoded
-    ensures { λ r. ⌜ r ≡ endingOf number k ⌝ }
-{
-    if number == 0 {
-        return Decoded::Whole(k);
-    }
-    if number == 6 {
-        return Decoded::NoModes(k);
-    }
-    Decoded::NoTokens(k)
-}
-
-// The number of the macroblock that ended the picture, 0 where none did, and how many were finished.
-pub(crate) struct Stop {
-    pub number: u32,
-    pub k: usize,
 }
 
 // Row y reads token partition y mod count; the first refusal ends the row and the picture.
 pub(crate) fn rows(
-    first: &[u8],
-    start: Reader,
     bytes: &[u8],
-    starts: [usize; 8],
-    lengths: [usize; 8],
-    opened: [Reader; 8],
-    count: usize,
-    h: &[i32],
-    table: &[u8],
+    tile: Tile,
     frame: Frame,
-    wide: usize,
-    high: usize,
+    table: &[u8],
     y: &mut [u8],
     u: &mut [u8],
     v: &mut [u8],
     columns: &mut [u8],
     modes: &mut [u8],
     strengths: &mut [u8],
-) -> Stop
-    requires { ⌜ Shared (record { first = now first; token = tokenOf (now bytes) starts lengths; count = count; header = now h; wide = wide; high = high }) ⌝ }
-    requires { ⌜ Live (record { first = now first; token = tokenOf (now bytes) starts lengths; count = count; header = now h; wide = wide; high = high }) (record { reader = start; readers = opened; left = emptyContext; mem = record { y = now y; u = now u; v = now v; columns = now columns; modes = now modes; strengths = now strengths } }) ⌝ }
-    requires { ⌜ (now table ≡ headerTable (now h)) × (frame ≡ frameOf (now h)) ⌝ }
-    requires { ⌜ ((i : ℕ) → i < count → Inside (length (now bytes)) (getD starts i 0) (getD lengths i 0)) ⌝ }
-    ensures { λ q. ⌜ _≡_ {A = Ended} (record { answer = endingOf (q .number) (q .k); mem = record { y = now (y .exit); u = now (u .exit); v = now (v .exit); columns = now (columns .exit); modes = now (modes .exit); strengths = now (strengths .exit) } })
-        (runOf (wide * high) (record { first = now (first .entry); token = tokenOf (now (bytes .entry)) starts lengths; count = count; header = now (h .entry); wide = wide; high = high }) 0 (record { reader = start; readers = opened; left = emptyContext; mem = record { y = now (y .entry); u = now (u .entry); v = now (v .entry); columns = now (columns .entry); modes = now (modes .entry); strengths = now (strengths .entry) } })) ⌝ }
+) -> Decoded
+    requires { ⌜ Shared (cutOut (now bytes) tile frame (now table)) ⌝ }
+    requires { ⌜ Live (cutOut (now bytes) tile frame (now table))
+        (startOf (now bytes) tile (memoryOf (now y) (now u) (now v) (now columns) (now modes) (now strengths))) ⌝ }
+    ensures { λ q. ⌜ endedOf q
+        (memoryOf (now (y .exit)) (now (u .exit)) (now (v .exit)) (now (columns .exit)) (now (modes .exit)) (now (strengths .exit)))
+        ≡ runOf (blocksOf (tile .width) (tile .height))
+        (cutOut (now (bytes .entry)) tile frame (now (table .entry))) 0
+        (startOf (now (bytes .entry)) tile
+        (memoryOf (now (y .entry)) (now (u .entry)) (now (v .entry))
+        (now (columns .entry)) (now (modes .entry)) (now (strengths .entry)))) ⌝ }
 {
-    let mut r = start;
-    let mut readers = opened;
+    let wide = tile.width / 16;
+    let high = tile.height / 16;
+    let blocks = wide * high;
+    let first = part(bytes, tile.first);
+    let mut r = tile.reader;
+    let mut readers = openers(bytes, tile);
     let mut left = Context::empty();
     let mut k: usize = 0;
-    let mut number: u32 = 0;
+    let mut answer = Decoded::Whole(blocks);
     let width = wide * 16;
     'rows: for row in 0..high {
-        let p = pick(row, count);
-        let from = starts[p];
-        let len = lengths[p];
-        let tokens = part(bytes, from, len);
-        for column in 0..wide {
+        let p = pick(row, tile.count);
+        let tokens = token(bytes, tile, p);
+        'across: for column in 0..wide {
             let t = readers[p];
             let m = turn(
                 first,
-                r,
                 tokens,
-                t,
-                h,
                 table,
-                frame,
-                left,
-                width,
-                column,
-                row,
-                k,
+                Task {
+                    readers: Readers { first: r, token: t },
+                    frame: frame,
+                    left: left,
+                    place: Place {
+                        column: column,
+                        row: row,
+                        width: width,
+                    },
+                    k: k,
+                },
                 &mut y[..],
                 &mut u[..],
                 &mut v[..],
@@ -142,19 +124,17 @@ pub(crate) fn rows(
                 &mut modes[..],
                 &mut strengths[..],
             );
-            let answer = m.answer;
-            let Finish::Done(next, after) = answer else {
-                number = number_of(answer);
+            let finish = m.answer;
+            let Finish::Done(after) = finish else {
+                answer = stopped(finish, k);
                 break 'rows;
             };
-            r = next;
-            readers[p] = after;
+            let token = after.token;
+            r = after.first;
+            readers[p] = token;
             left = m.left;
             k = k + 1;
         }
     }
-    Stop {
-        number: number,
-        k: k,
-    }
+    answer
 }

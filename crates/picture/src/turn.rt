@@ -1,26 +1,37 @@
 // One macroblock in its place: the context above it from column memory, then its modes, samples, strengths and what it leaves
 // below it and to its right. Where a byte is missing nothing is written.
-use macroblock::records::write_strength;
+use header::frame::Frame;
+use lent::columns::read_column;
+use lent::columns::write_column;
+use lent::macroblocks::write_mode_record;
+use lent::macroblocks::write_strength;
+use macroblock::arguments::Around;
+use macroblock::arguments::Place;
+use macroblock::arguments::Readers;
 use macroblock::whole::Finish;
 use macroblock::whole::decode;
-use modes::columns::Context;
-use modes::columns::read_column;
-use modes::columns::write_column;
-use modes::records::write_mode_record;
-use reader::boolean::Reader;
-use segments::frame::Frame;
+use modes::contexts::Context;
 ghost use mathlib.Core.Path.{_≡_};
-ghost use Prim.Native.Nat.{_<_, _/_};
-ghost use lib.ListN.{length};
-ghost use Rattle.modes.specs.Records.{columnAt};
-ghost use Rattle.macroblock.specs.Macroblock.{Ready, Laid, stepOf};
+ghost use Rattle.lent.specs.Memory.{memoryOf};
+ghost use Rattle.lent.specs.Records.{columnAt};
+ghost use Rattle.macroblock.specs.Macroblock.{planesOf, stepOf};
+ghost use Rattle.macroblock.specs.MacroblockLaws.{Ready, Laid};
 ghost use Rattle.picture.specs.Picture.{besideOf};
-ghost use Rattle.picture.specs.Turn.{Room, Turned, turned};
+ghost use Rattle.picture.specs.Turn.{Room, turnedOf, turned};
 
 // Where it ended, and what the next macroblock of the row sees to its left.
-pub(crate) struct Outcome {
+pub(crate) struct Ending {
     pub answer: Finish,
     pub left: Context,
+}
+
+// What macroblock k is decoded with: its two readers, what it shares with all, what lies to its left, its place.
+pub(crate) struct Task {
+    pub readers: Readers,
+    pub frame: Frame,
+    pub left: Context,
+    pub place: Place,
+    pub k: usize,
 }
 
 // At column 0 nothing lies to the left.
@@ -35,56 +46,53 @@ fn beside(column: usize, left: Context) -> Context
 
 pub(crate) fn turn(
     first: &[u8],
-    r: Reader,
     tokens: &[u8],
-    t: Reader,
-    h: &[i32],
     table: &[u8],
-    frame: Frame,
-    left: Context,
-    width: usize,
-    column: usize,
-    row: usize,
-    k: usize,
+    task: Task,
     y: &mut [u8],
     u: &mut [u8],
     v: &mut [u8],
     columns: &mut [u8],
     modes: &mut [u8],
     strengths: &mut [u8],
-) -> Outcome
-    requires { ⌜ Ready (now first) r (now tokens) t (now h) (now table) frame (columnAt (now columns) column) (besideOf column left) ⌝ }
-    requires { ⌜ Laid width column row (record { y = now y; u = now u; v = now v }) ⌝ }
-    requires { ⌜ Room column k (now columns) (now modes) (now strengths) ⌝ }
-    ensures { λ q. ⌜ _≡_ {A = Turned} (record { answer = q .answer; left = q .left; mem = record { y = now (y .exit); u = now (u .exit); v = now (v .exit); columns = now (columns .exit); modes = now (modes .exit); strengths = now (strengths .exit) } })
-        (turned left k column (record { y = now (y .entry); u = now (u .entry); v = now (v .entry); columns = now (columns .entry); modes = now (modes .entry); strengths = now (strengths .entry) })
-        (stepOf (now (first .entry)) r (now (tokens .entry)) t (now (h .entry)) (now (table .entry)) frame (columnAt (now (columns .entry)) column) (besideOf column left) width column row (record { y = now (y .entry); u = now (u .entry); v = now (v .entry) }))) ⌝ }
+) -> Ending
+    requires { ⌜ Ready (now first) (now tokens) (task .readers) (task .frame) (now table)
+        (record { top = columnAt (now columns) (task .place .column); left = besideOf (task .place .column) (task .left) }) ⌝ }
+    requires { ⌜ Laid (task .place) (planesOf (now y) (now u) (now v)) ⌝ }
+    requires { ⌜ Room (task .place .column) (task .k) (now columns) (now modes) (now strengths) ⌝ }
+    ensures { λ q. ⌜ turnedOf (q .answer) (q .left)
+        (memoryOf (now (y .exit)) (now (u .exit)) (now (v .exit)) (now (columns .exit)) (now (modes .exit)) (now (strengths .exit)))
+        ≡ turned (task .left) (task .k) (task .place .column)
+        (memoryOf (now (y .entry)) (now (u .entry)) (now (v .entry)) (now (columns .entry)) (now (modes .entry)) (now (strengths .entry)))
+        (stepOf (now (first .entry)) (now (tokens .entry)) (task .readers) (task .frame) (now (table .entry))
+        (record { top = columnAt (now (columns .entry)) (task .place .column); left = besideOf (task .place .column) (task .left) })
+        (task .place) (planesOf (now (y .entry)) (now (u .entry)) (now (v .entry)))) ⌝ }
 {
-    let above = read_column(columns, column);
-    let top = above.context;
-    let aside = beside(column, left);
+    let place = task.place;
+    let found = read_column(columns, place.column);
+    let top = found.context;
+    let left = beside(place.column, task.left);
     let m = decode(
         first,
-        r,
         tokens,
-        t,
-        h,
+        task.readers,
+        task.frame,
         table,
-        frame,
-        top,
-        aside,
-        width,
-        column,
-        row,
+        Around {
+            top: top,
+            left: left,
+        },
+        place,
         y,
         u,
         v,
     );
     let answer = m.answer;
-    let Finish::Done(next, after) = answer else {
-        return Outcome {
+    let Finish::Done(after) = answer else {
+        let before = task.left;
+        return Ending {
             answer: answer,
-            left: left,
+            left: before,
         };
     };
     let below = m.top;
@@ -92,11 +100,11 @@ pub(crate) fn turn(
     let all = m.modes;
     let strength = m.strength;
     let right = m.left;
-    write_column(&mut columns[..], column, below);
-    write_mode_record(&mut modes[..], k, kinds, &all);
-    write_strength(&mut strengths[..], k, strength);
-    Outcome {
-        answer: Finish::Done(next, after),
+    write_column(&mut columns[..], place.column, below);
+    write_mode_record(&mut modes[..], task.k, kinds, &all);
+    write_strength(&mut strengths[..], task.k, strength);
+    Ending {
+        answer: Finish::Done(after),
         left: right,
     }
 }

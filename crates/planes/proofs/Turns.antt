@@ -9,23 +9,23 @@ use lib.IntN.{ℤ}
 use lib.ListN.{length, getD}
 use Rattle.numbers.specs.Tables.{allBelow}
 use Rattle.numbers.specs.Tests.{both-true, both-false}
-use Rattle.coefficients.specs.Transform.{samplesOf}
+use Rattle.transform.specs.Transform.{samplesOf}
 use Rattle.planes.specs.declared.Painted.the-variants.{Done, Refused}
 use Rattle.planes.specs.declared.predict.Edge.{Edge}
 use Rattle.planes.specs.Predict.{smallOf, largeOf}
-use Rattle.planes.specs.Paint.{asideOf, aroundOf, painted, blockOf, residualOf, summedOf, blockPainted, blocksPainted, largeRule, smallAt, smallRule, squarePainted, modesFine, squareFine, coefficientsFine, paintFine, paintOf}
+use Rattle.planes.specs.Paint.{blockAboveRight, aroundOf, painted, blockCoefficients, blockResidual, summedOf, blockPainted, blocksPainted, largeRule, smallAt, smallRule, squarePainted, modesFine, squareFine, coefficientsFine, paintFine, paintOf}
 use Rattle.planes.specs.PaintLaws.{Bytes, Blank, blank-summed, blocks-next}
 use Rattle.planes.specs.Places.{Cell}
 
 -- ---- sub-blocks
 -- one without coefficients is what is predicted, and any other is summed
-module _ (p : List ℕ) (w x y : ℕ) (pred : List ℕ) (c : List ℤ) (i : ℕ) {b : List ℤ} (e : b ≡ blockOf c i) where
+module _ (p : List ℕ) (w x y : ℕ) (pred : List ℕ) (c : List ℤ) (i : ℕ) {b : List ℤ} (e : b ≡ blockCoefficients c i) where
   pub blank-painted : length pred ≡ 16 → Bytes pred → Blank 16 b → painted p w x y pred ≡ blockPainted p w x y pred c i
-  unfolding blockPainted residualOf
+  unfolding blockPainted blockResidual
   blank-painted n k h = rw (← e, blank-summed pred b n k h)
 
   pub added-painted : {s : List ℕ} → s ≡ summedOf pred (samplesOf false b) → painted p w x y s ≡ blockPainted p w x y pred c i
-  unfolding blockPainted residualOf
+  unfolding blockPainted blockResidual
   added-painted f = rw (f, e)
 
 pub large-turn : (p : List ℕ) (w x y m mode dc : ℕ) (e : Edge) (c : List ℤ) (i : ℕ) {q pred : List ℕ} {column row : ℕ}
@@ -40,7 +40,7 @@ pub small-turn : (p : List ℕ) (w x y : ℕ) (right modes : List ℕ) (c : List
 small-turn p w x y right modes c i f s = rw (s .across, s .down) (blocks-next (smallRule w x y right modes) p w x y 4 c i f)
 
 pub small-is : (p : List ℕ) (w x y : ℕ) (last : Bool) (right : List ℕ) (mode : ℕ) (e : List ℕ) {pred : List ℕ}
-    → e ≡ aroundOf p w x y (asideOf p w x y last right) → pred ≡ smallOf mode e → pred ≡ smallAt p w x y last right mode
+    → e ≡ aroundOf p w x y (blockAboveRight p w x y last right) → pred ≡ smallOf mode e → pred ≡ smallAt p w x y last right mode
 unfolding smallAt
 small-is p w x y last right mode e f g = g ∙ ap (smallOf mode) f
 

@@ -11,7 +11,7 @@ use Rattle.numbers.specs.Clamp.{clipZ}
 use Rattle.numbers.specs.Lists.{build}
 use Rattle.numbers.specs.Runs.{placed, copied}
 use Rattle.numbers.specs.Tables.{allBelow}
-use Rattle.coefficients.specs.Transform.{samplesOf, fits16}
+use Rattle.transform.specs.Transform.{samplesOf, fits16}
 use Rattle.planes.specs.declared.predict.Edge.{Edge}
 use Rattle.planes.specs.declared.Painted.{Painted}
 use Rattle.planes.specs.declared.Painted.the-variants.{Done, Refused}
@@ -29,11 +29,11 @@ nearOf p w zero (suc y) = 129
 nearOf p w (suc x) (suc y) = sampleAt p w x y
 
 -- four samples above column x of row y and the columns after it, and four left of it in its row and the rows below
-unfoldable pub aboveOf : List ℕ → (w x y : ℕ) → List ℕ
-aboveOf p w x y = nearOf p w (x + 1) y ∷ nearOf p w (x + 2) y ∷ nearOf p w (x + 3) y ∷ nearOf p w (x + 4) y ∷ []
+unfoldable pub fourAbove : List ℕ → (w x y : ℕ) → List ℕ
+fourAbove p w x y = nearOf p w (x + 1) y ∷ nearOf p w (x + 2) y ∷ nearOf p w (x + 3) y ∷ nearOf p w (x + 4) y ∷ []
 
-unfoldable pub leftOf : List ℕ → (w x y : ℕ) → List ℕ
-leftOf p w x y = nearOf p w x (y + 1) ∷ nearOf p w x (y + 2) ∷ nearOf p w x (y + 3) ∷ nearOf p w x (y + 4) ∷ []
+unfoldable pub fourLeft : List ℕ → (w x y : ℕ) → List ℕ
+fourLeft p w x y = nearOf p w x (y + 1) ∷ nearOf p w x (y + 2) ∷ nearOf p w x (y + 3) ∷ nearOf p w x (y + 4) ∷ []
 
 -- ---- section 12.2: around the square of n by n at column x, row y. The edge's lists have sixteen places, zero past the first n
 unfoldable pub firstOf : (n : ℕ) → (ℕ → ℕ) → List ℕ
@@ -50,19 +50,19 @@ edgeOf p w x y n = record {
   above = firstAbove p w x y n;
   left = firstLeft p w x y n;
   corner = nearOf p w x y;
-  over = ltb 0 y;
-  beside = ltb 0 x;
+  «above_inside» = ltb 0 y;
+  «left_inside» = ltb 0 x;
 }
 
 -- ---- section 12.3: around the sub-block at column x, row y
 -- above and right of the macroblock at column x, row y: 127 on row 0, as all above; at the right edge of the plane the last sample above,
 -- four times
-unfoldable pub rightOf : List ℕ → (w x y : ℕ) → List ℕ
-rightOf p w x y = cond (eqb (x + 16) w) (replicate 4 (nearOf p w w y)) (aboveOf p w (x + 16) y)
+unfoldable pub aboveRight : List ℕ → (w x y : ℕ) → List ℕ
+aboveRight p w x y = cond (eqb (x + 16) w) (replicate 4 (nearOf p w w y)) (fourAbove p w (x + 16) y)
 
 -- above and right of a sub-block: in the macroblock's last column, of every row, those of the macroblock
-unfoldable pub asideOf : List ℕ → (w x y : ℕ) (last : Bool) (right : List ℕ) → List ℕ
-asideOf p w x y last right = cond last right (aboveOf p w (x + 4) y)
+unfoldable pub blockAboveRight : List ℕ → (w x y : ℕ) (last : Bool) (right : List ℕ) → List ℕ
+blockAboveRight p w x y last right = cond last right (fourAbove p w (x + 4) y)
 
 -- the thirteen: left from the bottom, the corner, above, above and right
 unfoldable pub aroundOf : List ℕ → (w x y : ℕ) (aside : List ℕ) → List ℕ
@@ -82,47 +82,47 @@ abbrev pub painted : List ℕ → (w x y : ℕ) → List ℕ → List ℕ
 painted p w x y b = rowsPainted p w x y b 4
 
 -- the coefficients of sub-block i, and its residual (section 14.4)
-unfoldable pub blockOf : List ℤ → ℕ → List ℤ
-blockOf c i = take 16 (drop (16 * i) c)
+unfoldable pub blockCoefficients : List ℤ → ℕ → List ℤ
+blockCoefficients c i = take 16 (drop (16 * i) c)
 
-unfoldable pub residualOf : List ℤ → ℕ → List ℤ
-residualOf c i = samplesOf false (blockOf c i)
+unfoldable pub blockResidual : List ℤ → ℕ → List ℤ
+blockResidual c i = samplesOf false (blockCoefficients c i)
 
 -- section 14.5: predicted and residual, summed
 unfoldable pub summedOf : List ℕ → List ℤ → List ℕ
 summedOf pred res = build 16 (λ k. clipZ (pos (getD pred k 0) +ℤ getD res k (pos 0)))
 
 unfoldable pub blockPainted : List ℕ → (w x y : ℕ) (pred : List ℕ) → List ℤ → ℕ → List ℕ
-blockPainted p w x y pred c i = painted p w x y (summedOf pred (residualOf c i))
+blockPainted p w x y pred c i = painted p w x y (summedOf pred (blockResidual c i))
 
 -- ---- a square of m by m sub-blocks at column x, row y
 -- where sub-block i lies in it: they go in raster order
-abbrev pub columnOf : (m i : ℕ) → ℕ
-columnOf m i = 4 * (i % m)
+abbrev pub cellColumn : (m i : ℕ) → ℕ
+cellColumn m i = 4 * (i % m)
 
-abbrev pub rowOf : (m i : ℕ) → ℕ
-rowOf m i = 4 * (i / m)
+abbrev pub cellRow : (m i : ℕ) → ℕ
+cellRow m i = 4 * (i / m)
 
 -- the first i painted, each predicted by a rule from its number and the plane as those before it left it
 unfoldable pub blocksPainted : (rule : List ℕ → ℕ → List ℕ) → List ℕ → (w x y m : ℕ) → List ℤ → ℕ → List ℕ
 blocksPainted rule p w x y m c zero = p
 blocksPainted rule p w x y m c (suc i) =
     let q = blocksPainted rule p w x y m c i in
-    blockPainted q w (x + columnOf m i) (y + rowOf m i) (rule q i) c i
+    blockPainted q w (x + cellColumn m i) (y + cellRow m i) (rule q i) c i
 
 -- in a large mode all are predicted from the edge of the square, and in small modes each from the samples around it; the edge, and
 -- what lies above and right of the macroblock, are read before any is painted
 abbrev pub largeRule : (m mode dc : ℕ) → Edge → List ℕ → ℕ → List ℕ
-largeRule m mode dc e q i = largeOf mode dc e (rowOf m i) (columnOf m i)
+largeRule m mode dc e q i = largeOf mode dc e (cellRow m i) (cellColumn m i)
 
 unfoldable pub smallAt : List ℕ → (w x y : ℕ) (last : Bool) (right : List ℕ) (mode : ℕ) → List ℕ
-smallAt p w x y last right mode = smallOf mode (aroundOf p w x y (asideOf p w x y last right))
+smallAt p w x y last right mode = smallOf mode (aroundOf p w x y (blockAboveRight p w x y last right))
 
 abbrev pub smallRule : (w x y : ℕ) (right modes : List ℕ) → List ℕ → ℕ → List ℕ
-smallRule w x y right modes q i = smallAt q w (x + columnOf 4 i) (y + rowOf 4 i) (eqb (i % 4) 3) right (getD modes i 0)
+smallRule w x y right modes q i = smallAt q w (x + cellColumn 4 i) (y + cellRow 4 i) (eqb (i % 4) 3) right (getD modes i 0)
 
 unfoldable pub ruleOf : List ℕ → (w x y n : ℕ) (small : Bool) (mode : ℕ) (modes : List ℕ) → List ℕ → ℕ → List ℕ
-ruleOf p w x y n true mode modes = smallRule w x y (rightOf p w x y) modes
+ruleOf p w x y n true mode modes = smallRule w x y (aboveRight p w x y) modes
 ruleOf p w x y n false mode modes = let e = edgeOf p w x y n in largeRule (n / 4) mode (dcOf n e) e
 
 -- the square of n by n
@@ -130,15 +130,15 @@ unfoldable pub squarePainted : List ℕ → (w x y n : ℕ) (small : Bool) (mode
 squarePainted p w x y n small mode modes c = let m = n / 4 in blocksPainted (ruleOf p w x y n small mode modes) p w x y m c (m * m)
 
 -- ---- the public call: the square of macroblock (column, row)
-abbrev pub eachBelow : ℕ → List ℕ → Bool
-eachBelow limit modes = allBelow 16 (λ k. ltb (getD modes k 0) limit)
+abbrev pub modesBelow : ℕ → List ℕ → Bool
+modesBelow limit modes = allBelow 16 (λ k. ltb (getD modes k 0) limit)
 
 abbrev pub eachFits : List ℤ → Bool
 eachFits c = allBelow (length c) (λ k. fits16 (getD c k (pos 0)))
 
 -- the size, and the modes that count
 unfoldable pub modesFine : (n : ℕ) (small : Bool) (mode : ℕ) (modes : List ℕ) → Bool
-modesFine n small mode modes = cond small (eqb n 16 && eachBelow 10 modes) ((eqb n 8 || eqb n 16) && ltb mode 4)
+modesFine n small mode modes = cond small (eqb n 16 && modesBelow 10 modes) ((eqb n 8 || eqb n 16) && ltb mode 4)
 
 -- whole squares in the plane's rows and columns, and the square among them
 unfoldable pub squareFine : (len w column row n : ℕ) → Bool
@@ -153,11 +153,11 @@ unfoldable pub paintFine : (len w column row n : ℕ) (small : Bool) (mode : ℕ
 paintFine len w column row n small mode modes c = modesFine n small mode modes && (squareFine len w column row n && coefficientsFine n c)
 
 -- what it answers, and the plane it leaves
-pub record Outcome : Type 0 where
+pub record PaintedPlane : Type 0 where
   pub answer : Painted
   pub plane : List ℕ
 
-unfoldable pub paintOf : List ℕ → (w column row n : ℕ) (small : Bool) (mode : ℕ) (modes : List ℕ) → List ℤ → Outcome
+unfoldable pub paintOf : List ℕ → (w column row n : ℕ) (small : Bool) (mode : ℕ) (modes : List ℕ) → List ℤ → PaintedPlane
 paintOf p w column row n small mode modes c =
     cond (paintFine (length p) w column row n small mode modes c)
     (record { answer = Done; plane = squarePainted p w (column * n) (row * n) n small mode modes c })

@@ -24,13 +24,13 @@ use Rattle.numbers.specs.Parts.{true-le, le-true}
 use Rattle.numbers.specs.Runs.{placed, placed-none, placed-next, placed-same, copied, copied-none, copied-next, length-copied, copied-keeps, copied-in, copied-off, Off, off-less}
 use Rattle.numbers.specs.Tables.{allBelow, all-below}
 use Rattle.numbers.specs.Tests.{lt-or, eq-or, both-left, both-right, both-true, cond-at}
-use Rattle.coefficients.specs.Transform.{samplesOf, fits16}
-use Rattle.coefficients.specs.TransformLaws.{Coefficients, shortcut}
+use Rattle.transform.specs.Transform.{samplesOf, fits16}
+use Rattle.transform.specs.TransformLaws.{Coefficients, shortcut}
 use Rattle.planes.specs.declared.Painted.the-variants.{Done, Refused}
 use Rattle.planes.specs.declared.predict.Edge.{Edge}
 use Rattle.planes.specs.Predict.{Size, smallOf, dcOf}
-use Rattle.planes.specs.Paint.{sampleAt, nearOf, aboveOf, firstOf, firstAbove, firstLeft, edgeOf, rightOf, asideOf, aroundOf, rowsPainted, painted, blockOf, residualOf, summedOf, blockPainted, columnOf, rowOf, blocksPainted, largeRule, smallAt, smallRule, ruleOf, squarePainted, eachFits, modesFine, squareFine, coefficientsFine, paintFine, Outcome, paintOf}
-use Rattle.planes.specs.Places.{Square, Outside, run-inside, sub-square, apart, outside-sub, Sides, cell, not-last, Stands, higher, before, stands-first, stands-last, Within, stood, later, by-size, size-some, quarter, size-sides, tiles}
+use Rattle.planes.specs.Paint.{sampleAt, nearOf, fourAbove, firstOf, firstAbove, firstLeft, edgeOf, aboveRight, blockAboveRight, aroundOf, rowsPainted, painted, blockCoefficients, blockResidual, summedOf, blockPainted, cellColumn, cellRow, blocksPainted, largeRule, smallAt, smallRule, ruleOf, squarePainted, eachFits, modesFine, squareFine, coefficientsFine, paintFine, PaintedPlane, paintOf}
+use Rattle.planes.specs.Places.{Square, Outside, run-inside, sub-square, apart, outside-sub, BlockSides, cell, not-last, Stands, higher, before, stands-first, stands-last, Within, stood, later, by-size, size-some, quarter, size-sides, tiles}
 
 -- every element is a byte
 abbrev pub Bytes : List ℕ → Type 0
@@ -132,18 +132,18 @@ module _ (p : List ℕ) (w x y : ℕ) (b : List ℕ) where
 
 -- ---- the coefficients of a sub-block, one by one, and its residual
 module _ (c : List ℤ) (i : ℕ) (h : 16 * i + 16 ≤ length c) where
-  length-block : length (blockOf c i) ≡ 16
-  unfolding blockOf
+  length-block : length (blockCoefficients c i) ≡ 16
+  unfolding blockCoefficients
   length-block = simp (length-take, length-drop) (omega arith)
 
-  block-at : (k : ℕ) (d : ℤ) → k < 16 → getD (blockOf c i) k d ≡ getD c (16 * i + k) d
-  unfolding blockOf
+  block-at : (k : ℕ) (d : ℤ) → k < 16 → getD (blockCoefficients c i) k d ≡ getD c (16 * i + k) d
+  unfolding blockCoefficients
   block-at k d l = rw (getD-take, getD-drop)
 
-  pub block-built : blockOf c i ≡ build 16 (λ k. getD c (16 * i + k) (pos 0))
-  block-built = built (blockOf c i) 16 (λ k. getD c (16 * i + k) (pos 0)) (pos 0) length-block (λ k l. block-at k (pos 0) l)
+  pub block-built : blockCoefficients c i ≡ build 16 (λ k. getD c (16 * i + k) (pos 0))
+  block-built = built (blockCoefficients c i) 16 (λ k. getD c (16 * i + k) (pos 0)) (pos 0) length-block (λ k l. block-at k (pos 0) l)
 
-  pub block-fits : Each (negsuc 32767) (pos 32767) c → Coefficients (blockOf c i)
+  pub block-fits : Each (negsuc 32767) (pos 32767) c → Coefficients (blockCoefficients c i)
   block-fits e = record { fit = λ k l. rw (block-at k (pos 0) l) (e .at (16 * i + k)) }
 
 -- the first n are 0
@@ -165,17 +165,17 @@ blank-summed pred b n y h = rw (blank-samples b h) (sym (built pred 16 _ 0 n sam
 module _ (p : List ℕ) (w x y : ℕ) (pred : List ℕ) (cs : List ℤ) (i : ℕ) where
   pub length-one : length (blockPainted p w x y pred cs i) ≡ length p
   unfolding blockPainted
-  length-one = length-rows p w x y (summedOf pred (residualOf cs i)) 4
+  length-one = length-rows p w x y (summedOf pred (blockResidual cs i)) 4
 
   pub one-off : (c r : ℕ) → x + 4 ≤ w → c < w → Outside x y 4 c r → sampleAt (blockPainted p w x y pred cs i) w c r ≡ sampleAt p w c r
   unfolding blockPainted
-  one-off c r l h o = rows-off p w x y (summedOf pred (residualOf cs i)) 4 c r l h o
+  one-off c r l h o = rows-off p w x y (summedOf pred (blockResidual cs i)) 4 c r l h o
 
   pub one-in : (c r : ℕ) → Square (length p) w x y 4 → Within x y c r
-      → sampleAt (blockPainted p w x y pred cs i) w c r ≡ getD (summedOf pred (residualOf cs i)) (4 * (r - y) + (c - x)) 0
+      → sampleAt (blockPainted p w x y pred cs i) w c r ≡ getD (summedOf pred (blockResidual cs i)) (4 * (r - y) + (c - x)) 0
   unfolding blockPainted
   one-in c r s h =
-      let b = summedOf pred (residualOf cs i) in
+      let b = summedOf pred (blockResidual cs i) in
       subst (λ (d : ℕ). sampleAt (painted p w x y b) w d r ≡ getD b (4 * (r - y) + (c - x)) 0) (omega arith)
       (subst (λ (d : ℕ). sampleAt (painted p w x y b) w (x + (c - x)) d ≡ getD b (4 * (r - y) + (c - x)) 0) (omega arith)
       (rows-in p w x y b 4 (r - y) (c - x) (s .columns) (s .rows) (omega (arith, h .bottom)) (omega (arith, h .right))))
@@ -187,36 +187,36 @@ module _ (rule : List ℕ → ℕ → List ℕ) (p : List ℕ) (w x y m : ℕ) (
   blocks-none = refl
 
   pub blocks-next : (i : ℕ) {q : List ℕ} → q ≡ blocksPainted rule p w x y m cs i
-      → blockPainted q w (x + columnOf m i) (y + rowOf m i) (rule q i) cs i ≡ blocksPainted rule p w x y m cs (i + 1)
+      → blockPainted q w (x + cellColumn m i) (y + cellRow m i) (rule q i) cs i ≡ blocksPainted rule p w x y m cs (i + 1)
   unfolding blocksPainted
   blocks-next i e = rw (add-one, e)
 
   pub length-blocks : (i : ℕ) → length (blocksPainted rule p w x y m cs i) ≡ length p
   unfolding blocksPainted
   length-blocks zero = refl
-  length-blocks (suc i) = let q = blocksPainted rule p w x y m cs i in length-one q w (x + columnOf m i) (y + rowOf m i) (rule q i) cs i ∙ length-blocks i
+  length-blocks (suc i) = let q = blocksPainted rule p w x y m cs i in length-one q w (x + cellColumn m i) (y + cellRow m i) (rule q i) cs i ∙ length-blocks i
 
   -- the sub-block that is due lies in the plane as those before it left it
-  pub due : (i : ℕ) → Sides m → Square (length p) w x y (4 * m) → i < m * m → Square (length (blocksPainted rule p w x y m cs i)) w (x + columnOf m i) (y + rowOf m i) 4
-  due i s t h = rw (length-blocks i) (sub-square t (columnOf m i) (rowOf m i) 4 (cell s h .inside) (cell s h .above))
+  pub due : (i : ℕ) → BlockSides m → Square (length p) w x y (4 * m) → i < m * m → Square (length (blocksPainted rule p w x y m cs i)) w (x + cellColumn m i) (y + cellRow m i) 4
+  due i s t h = rw (length-blocks i) (sub-square t (cellColumn m i) (cellRow m i) 4 (cell s h .inside) (cell s h .above))
 
   -- outside the square nothing changes
-  blocks-off : (i c r : ℕ) → Sides m → Square (length p) w x y (4 * m) → i ≤ m * m → c < w → Outside x y (4 * m) c r
+  blocks-off : (i c r : ℕ) → BlockSides m → Square (length p) w x y (4 * m) → i ≤ m * m → c < w → Outside x y (4 * m) c r
       → sampleAt (blocksPainted rule p w x y m cs i) w c r ≡ sampleAt p w c r
   unfolding blocksPainted
   blocks-off zero c r s t l h o = refl
   blocks-off (suc i) c r s t l h o =
       let q = blocksPainted rule p w x y m cs i in
       let k : i < m * m = omega arith in
-      one-off q w (x + columnOf m i) (y + rowOf m i) (rule q i) cs i c r (due i s t k .columns) h (outside-sub (columnOf m i) (rowOf m i) 4 (cell s k .inside) (cell s k .above) o)
+      one-off q w (x + cellColumn m i) (y + cellRow m i) (rule q i) cs i c r (due i s t k .columns) h (outside-sub (cellColumn m i) (cellRow m i) 4 (cell s k .inside) (cell s k .above) o)
       ∙ blocks-off i c r s t (omega arith) h o
 
   -- a sample of sub-block i is what was painted for it: those after it lie elsewhere
   abbrev pub paintedIn : (i c r : ℕ) → ℕ
   paintedIn i c r =
-      getD (summedOf (rule (blocksPainted rule p w x y m cs i) i) (residualOf cs i)) (4 * (r - (y + rowOf m i)) + (c - (x + columnOf m i))) 0
+      getD (summedOf (rule (blocksPainted rule p w x y m cs i) i) (blockResidual cs i)) (4 * (r - (y + cellRow m i)) + (c - (x + cellColumn m i))) 0
 
-  blocks-in : Sides m → Square (length p) w x y (4 * m) → (i c r : ℕ) → i < m * m → Within (x + columnOf m i) (y + rowOf m i) c r → (j : ℕ) → i < j → j ≤ m * m
+  blocks-in : BlockSides m → Square (length p) w x y (4 * m) → (i c r : ℕ) → i < m * m → Within (x + cellColumn m i) (y + cellRow m i) c r → (j : ℕ) → i < j → j ≤ m * m
       → sampleAt (blocksPainted rule p w x y m cs j) w c r ≡ paintedIn i c r
   unfolding blocksPainted
   blocks-in s t i c r h k zero a b = absurd (omega arith)
@@ -224,10 +224,10 @@ module _ (rule : List ℕ → ℕ → List ℕ) (p : List ℕ) (w x y m : ℕ) (
       let q = blocksPainted rule p w x y m cs j in
       elim (eq-or i j) [
         | inl e ↦
-            subst (λ (z : ℕ). sampleAt (blockPainted (blocksPainted rule p w x y m cs z) w (x + columnOf m z) (y + rowOf m z) (rule (blocksPainted rule p w x y m cs z) z) cs z) w c r ≡ paintedIn i c r) e
-            (one-in (blocksPainted rule p w x y m cs i) w (x + columnOf m i) (y + rowOf m i) (rule (blocksPainted rule p w x y m cs i) i) cs i c r (due i s t h) k)
+            subst (λ (z : ℕ). sampleAt (blockPainted (blocksPainted rule p w x y m cs z) w (x + cellColumn m z) (y + cellRow m z) (rule (blocksPainted rule p w x y m cs z) z) cs z) w c r ≡ paintedIn i c r) e
+            (one-in (blocksPainted rule p w x y m cs i) w (x + cellColumn m i) (y + cellRow m i) (rule (blocksPainted rule p w x y m cs i) i) cs i c r (due i s t h) k)
         | inr e ↦
-            one-off q w (x + columnOf m j) (y + rowOf m j) (rule q j) cs j c r (due j s t (omega arith) .columns) (omega (arith, k .right, due i s t h .columns)) (later x y i j s (omega arith) k)
+            one-off q w (x + cellColumn m j) (y + cellRow m j) (rule q j) cs j c r (due j s t (omega arith) .columns) (omega (arith, k .right, due i s t h .columns)) (later x y i j s (omega arith) k)
             ∙ blocks-in s t i c r h k j (omega arith) (omega arith)
       ]
 
@@ -263,7 +263,7 @@ unfolding blocksPainted blockPainted
 blocks-bytes rule p w x y m cs zero g = g
 blocks-bytes rule p w x y m cs (suc i) g =
     let q = blocksPainted rule p w x y m cs i in
-    rows-bytes q w (x + columnOf m i) (y + rowOf m i) (summedOf (rule q i) (residualOf cs i)) 4 (summed-bytes (rule q i) (residualOf cs i)) (blocks-bytes rule p w x y m cs i g)
+    rows-bytes q w (x + cellColumn m i) (y + cellRow m i) (summedOf (rule q i) (blockResidual cs i)) 4 (summed-bytes (rule q i) (blockResidual cs i)) (blocks-bytes rule p w x y m cs i g)
 
 -- ---- two planes with the same samples around the square get the same samples in it
 -- they agree at column c of row r wherever P holds of c and r
@@ -281,15 +281,15 @@ module _ (p q : List ℕ) (w : ℕ) (P : ℕ → ℕ → Type 0) (s : Same p q w
   near-same zero (suc y) l h = refl
   near-same (suc x) (suc y) l h = s x y (omega arith) (h x y refl refl)
 
-  above-same : (x y : ℕ) → x + 4 ≤ w → ((c r : ℕ) → c < x + 4 → y ≡ suc r → P c r) → aboveOf p w x y ≡ aboveOf q w x y
-  unfolding aboveOf
+  above-same : (x y : ℕ) → x + 4 ≤ w → ((c r : ℕ) → c < x + 4 → y ≡ suc r → P c r) → fourAbove p w x y ≡ fourAbove q w x y
+  unfolding fourAbove
   above-same x y l h = go 1 (omega arith) ∷≡ go 2 (omega arith) ∷≡ go 3 (omega arith) ∷≡ go 4 (omega arith) ∷≡ refl
     where
       go : (k : ℕ) → k ≤ 4 → nearOf p w (x + k) y ≡ nearOf q w (x + k) y
       go k i = near-same (x + k) y (omega arith) (λ c r e f. h c r (omega arith) f)
 
-  right-same : (x y : ℕ) → x + 16 ≤ w → (x + 16 < w → x + 20 ≤ w) → ((c r : ℕ) → r < y → P c r) → rightOf p w x y ≡ rightOf q w x y
-  unfolding rightOf
+  right-same : (x y : ℕ) → x + 16 ≤ w → (x + 16 < w → x + 20 ≤ w) → ((c r : ℕ) → r < y → P c r) → aboveRight p w x y ≡ aboveRight q w x y
+  unfolding aboveRight
   right-same x y l k h = elim (eq-or (x + 16) w) [
     | inl e ↦ rw (eq-eqb (x + 16) w e, near-same w y (omega arith) (λ c r u v. h c r (omega arith)))
     | inr e ↦ rw (ne-eqb (x + 16) w e) (above-same (x + 16) y (omega (arith, k (omega arith))) (λ c r u v. h c r (omega arith)))
@@ -305,8 +305,8 @@ module _ (p q : List ℕ) (w : ℕ) (P : ℕ → ℕ → Type 0) (s : Same p q w
 
   -- a sub-block of a macroblock in a small mode
   around-same : (x y i : ℕ) (right : List ℕ) → x + 16 ≤ w → i < 16 → ((c r : ℕ) → Stands x y 4 i c r → P c r) → (mode : ℕ)
-      → smallAt p w (x + columnOf 4 i) (y + rowOf 4 i) (eqb (i % 4) 3) right mode ≡ smallAt q w (x + columnOf 4 i) (y + rowOf 4 i) (eqb (i % 4) 3) right mode
-  unfolding smallAt aroundOf asideOf
+      → smallAt p w (x + cellColumn 4 i) (y + cellRow 4 i) (eqb (i % 4) 3) right mode ≡ smallAt q w (x + cellColumn 4 i) (y + cellRow 4 i) (eqb (i % 4) 3) right mode
+  unfolding smallAt aroundOf blockAboveRight
   around-same x y i right l j h mode =
       ap (smallOf mode)
       (left 4 (omega arith) ∷≡ left 3 (omega arith) ∷≡ left 2 (omega arith) ∷≡ left 1 (omega arith) ∷≡ corner
@@ -314,26 +314,26 @@ module _ (p q : List ℕ) (w : ℕ) (P : ℕ → ℕ → Type 0) (s : Same p q w
       ∷≡ ap (λ (a : List ℕ). getD a 0 0) aside ∷≡ ap (λ (a : List ℕ). getD a 1 0) aside
       ∷≡ ap (λ (a : List ℕ). getD a 2 0) aside ∷≡ ap (λ (a : List ℕ). getD a 3 0) aside ∷≡ refl)
     where
-      left : (k : ℕ) → k ≤ 4 → nearOf p w (x + columnOf 4 i) (y + rowOf 4 i + k) ≡ nearOf q w (x + columnOf 4 i) (y + rowOf 4 i + k)
-      left k n = near-same (x + columnOf 4 i) (y + rowOf 4 i + k) (omega arith) (λ c r e f. h c r (before (omega arith) (omega arith) (omega arith)))
+      left : (k : ℕ) → k ≤ 4 → nearOf p w (x + cellColumn 4 i) (y + cellRow 4 i + k) ≡ nearOf q w (x + cellColumn 4 i) (y + cellRow 4 i + k)
+      left k n = near-same (x + cellColumn 4 i) (y + cellRow 4 i + k) (omega arith) (λ c r e f. h c r (before (omega arith) (omega arith) (omega arith)))
 
-      corner : nearOf p w (x + columnOf 4 i) (y + rowOf 4 i) ≡ nearOf q w (x + columnOf 4 i) (y + rowOf 4 i)
-      corner = near-same (x + columnOf 4 i) (y + rowOf 4 i) (omega arith) (λ c r e f. h c r (higher (omega arith) (omega arith) (omega arith)))
+      corner : nearOf p w (x + cellColumn 4 i) (y + cellRow 4 i) ≡ nearOf q w (x + cellColumn 4 i) (y + cellRow 4 i)
+      corner = near-same (x + cellColumn 4 i) (y + cellRow 4 i) (omega arith) (λ c r e f. h c r (higher (omega arith) (omega arith) (omega arith)))
 
-      top : (k : ℕ) → k ≤ 4 → nearOf p w (x + columnOf 4 i + k) (y + rowOf 4 i) ≡ nearOf q w (x + columnOf 4 i + k) (y + rowOf 4 i)
-      top k n = near-same (x + columnOf 4 i + k) (y + rowOf 4 i) (omega arith) (λ c r e f. h c r (higher (omega arith) (omega arith) (omega arith)))
+      top : (k : ℕ) → k ≤ 4 → nearOf p w (x + cellColumn 4 i + k) (y + cellRow 4 i) ≡ nearOf q w (x + cellColumn 4 i + k) (y + cellRow 4 i)
+      top k n = near-same (x + cellColumn 4 i + k) (y + cellRow 4 i) (omega arith) (λ c r e f. h c r (higher (omega arith) (omega arith) (omega arith)))
 
-      next : (last : Bool) → (last ≡ false → columnOf 4 i + 8 ≤ 16)
-          → asideOf p w (x + columnOf 4 i) (y + rowOf 4 i) last right ≡ asideOf q w (x + columnOf 4 i) (y + rowOf 4 i) last right
+      next : (last : Bool) → (last ≡ false → cellColumn 4 i + 8 ≤ 16)
+          → blockAboveRight p w (x + cellColumn 4 i) (y + cellRow 4 i) last right ≡ blockAboveRight q w (x + cellColumn 4 i) (y + cellRow 4 i) last right
       next true n = refl
       next false n =
           let b = n refl in
-          above-same (x + columnOf 4 i + 4) (y + rowOf 4 i) (omega arith) (λ c r e f. h c r (higher (omega arith) (omega arith) (omega arith)))
+          above-same (x + cellColumn 4 i + 4) (y + cellRow 4 i) (omega arith) (λ c r e f. h c r (higher (omega arith) (omega arith) (omega arith)))
 
-      aside : asideOf p w (x + columnOf 4 i) (y + rowOf 4 i) (eqb (i % 4) 3) right ≡ asideOf q w (x + columnOf 4 i) (y + rowOf 4 i) (eqb (i % 4) 3) right
+      aside : blockAboveRight p w (x + cellColumn 4 i) (y + cellRow 4 i) (eqb (i % 4) 3) right ≡ blockAboveRight q w (x + cellColumn 4 i) (y + cellRow 4 i) (eqb (i % 4) 3) right
       aside = next (eqb (i % 4) 3) (not-last i)
 
-module _ (p q : List ℕ) (w x y m : ℕ) (cs : List ℤ) (f g : List ℕ → ℕ → List ℕ) (e : length p ≡ length q) (s : Sides m) (t : Square (length p) w x y (4 * m))
+module _ (p q : List ℕ) (w x y m : ℕ) (cs : List ℤ) (f g : List ℕ → ℕ → List ℕ) (e : length p ≡ length q) (s : BlockSides m) (t : Square (length p) w x y (4 * m))
     (same : (i : ℕ) → i < m * m → (P Q : List ℕ) → Same P Q w (Stands x y m i) → f P i ≡ g Q i) where
   blocks-same : Same p q w (Stands x y m 0) → (i : ℕ) → i ≤ m * m → Same (blocksPainted f p w x y m cs i) (blocksPainted g q w x y m cs i) w (Stands x y m i)
   unfolding blocksPainted
@@ -342,8 +342,8 @@ module _ (p q : List ℕ) (w x y m : ℕ) (cs : List ℤ) (f g : List ℕ → �
       let n : i < m * m = omega arith in
       let P = blocksPainted f p w x y m cs i in
       let Q = blocksPainted g q w x y m cs i in
-      let X = x + columnOf m i in
-      let Y = y + rowOf m i in
+      let X = x + cellColumn m i in
+      let Y = y + cellRow m i in
       let a = due f p w x y m cs i s t n in
       let b = due g q w x y m cs i s (subst (λ (z : ℕ). Square z w x y (4 * m)) e t) n in
       let u : f P i ≡ g Q i = same i n P Q (blocks-same h i (omega arith)) in
@@ -355,7 +355,7 @@ module _ (p q : List ℕ) (w x y m : ℕ) (cs : List ℤ) (f g : List ℕ → �
 -- ---- the square
 module _ (p : List ℕ) (w x y n : ℕ) (small : Bool) (mode : ℕ) (modes : List ℕ) (cs : List ℤ) where
   -- what the code paints in each kind of mode
-  pub square-small : {r : List ℕ} → small ≡ true → n ≡ 16 → r ≡ rightOf p w x y
+  pub square-small : {r : List ℕ} → small ≡ true → n ≡ 16 → r ≡ aboveRight p w x y
       → blocksPainted (smallRule w x y r modes) p w x y 4 cs 16 ≡ squarePainted p w x y n small mode modes cs
   unfolding squarePainted ruleOf
   square-small e z f = rw (e, z, f)
@@ -380,7 +380,7 @@ module _ (p : List ℕ) (w x y n : ℕ) (small : Bool) (mode : ℕ) (modes : Lis
         blocks-off (ruleOf p w x y n small mode modes) p w x y (n / 4) cs (n / 4 * (n / 4)) c r (size-sides s) (rw (quarter s) t) (omega arith) h (rw (quarter s) o)
 
     -- a sample of sub-block i is what its rule predicts from the plane as those before it left it, and its residual
-    pub square-in : (i : ℕ) → i < n / 4 * (n / 4) → Within (x + columnOf (n / 4) i) (y + rowOf (n / 4) i) c r
+    pub square-in : (i : ℕ) → i < n / 4 * (n / 4) → Within (x + cellColumn (n / 4) i) (y + cellRow (n / 4) i) c r
         → sampleAt (squarePainted p w x y n small mode modes cs) w c r
         ≡ paintedIn (ruleOf p w x y n small mode modes) p w x y (n / 4) cs i c r
     unfolding squarePainted
@@ -397,7 +397,7 @@ module _ (p q : List ℕ) (w x y n : ℕ) (small : Bool) (mode : ℕ) (modes : L
       let v : Same P Q w (Stands x y 4 i) = subst (λ (k : ℕ). Same P Q w (Stands x y (k / 4) i)) z u in
       let l : i < 16 = subst (λ (k : ℕ). i < k / 4 * (k / 4)) z h in
       let o = luma-square g t .columns in
-      rw (right-same p q w (Around x y n) s x y o (luma-whole g t) (λ c r h. inl h)) (around-same P Q w (Stands x y 4 i) v x y i (rightOf q w x y) o l (λ c r a. a) (getD modes i 0))
+      rw (right-same p q w (Around x y n) s x y o (luma-whole g t) (λ c r h. inl h)) (around-same P Q w (Stands x y 4 i) v x y i (aboveRight q w x y) o l (λ c r a. a) (getD modes i 0))
   rule-same false t i h P Q u = rw (edge-same p q w (Around x y n) s x y n (g .square .columns) (λ c r h. h))
 
   square-same : (c r : ℕ) → c < x + n → r < y + n → sampleAt (squarePainted p w x y n small mode modes cs) w c r ≡ sampleAt (squarePainted q w x y n small mode modes cs) w c r
@@ -564,22 +564,22 @@ module _ {len w columns rows column row n mode : ℕ} {small : Bool} {modes : Li
   proper-fine = both-true (proper-modes n small mode modes (g .size) (g .luma) (g .large) (g .each)) (both-true proper-square proper-coefficients)
 
 module _ (p : List ℕ) (w column row n : ℕ) (small : Bool) (mode : ℕ) (modes : List ℕ) (cs : List ℤ) where
-  answered : (P : Outcome → Type 0)
+  answered : (P : PaintedPlane → Type 0)
       → (paintFine (length p) w column row n small mode modes cs ≡ true → P (record { answer = Done; plane = squarePainted p w (column * n) (row * n) n small mode modes cs }))
       → P (record { answer = Refused; plane = p }) → P (paintOf p w column row n small mode modes cs)
   unfolding paintOf
   answered P f g = cond-at (paintFine (length p) w column row n small mode modes cs) P f (λ e. g)
 
   pub length-paint : length (paintOf p w column row n small mode modes cs .plane) ≡ length p
-  length-paint = answered (λ (o : Outcome). length (o .plane) ≡ length p) (λ e. length-square p w (column * n) (row * n) n small mode modes cs) refl
+  length-paint = answered (λ (o : PaintedPlane). length (o .plane) ≡ length p) (λ e. length-square p w (column * n) (row * n) n small mode modes cs) refl
 
   pub paint-bytes : Bytes p → Bytes (paintOf p w column row n small mode modes cs .plane)
-  paint-bytes b = answered (λ (o : Outcome). Bytes (o .plane)) (λ e. square-bytes p w (column * n) (row * n) n small mode modes cs b) b
+  paint-bytes b = answered (λ (o : PaintedPlane). Bytes (o .plane)) (λ e. square-bytes p w (column * n) (row * n) n small mode modes cs b) b
 
   -- column c of row r, outside the square, is what it was
   pub paint-off : (c r : ℕ) → c < w → Outside (column * n) (row * n) n c r → sampleAt (paintOf p w column row n small mode modes cs .plane) w c r ≡ sampleAt p w c r
   paint-off c r h o =
-      answered (λ (a : Outcome). sampleAt (a .plane) w c r ≡ sampleAt p w c r)
+      answered (λ (a : PaintedPlane). sampleAt (a .plane) w c r ≡ sampleAt p w c r)
       (λ e. let g = fine-good (length p) w column row n small mode modes cs e in square-off p w (column * n) (row * n) n small mode modes cs (g .size) (g .square) c r h o) refl
 
   -- with arguments in their ranges the square is painted
@@ -590,7 +590,7 @@ module _ (p : List ℕ) (w column row n : ℕ) (small : Bool) (mode : ℕ) (mode
 
   -- then a sample of sub-block i of the square is what its rule predicts for it from the plane as those before it left it, and its residual
   pub paint-in : paintFine (length p) w column row n small mode modes cs ≡ true → (i c r : ℕ) → i < n / 4 * (n / 4)
-      → Within (column * n + columnOf (n / 4) i) (row * n + rowOf (n / 4) i) c r
+      → Within (column * n + cellColumn (n / 4) i) (row * n + cellRow (n / 4) i) c r
       → sampleAt (paintOf p w column row n small mode modes cs .plane) w c r
       ≡ paintedIn (ruleOf p w (column * n) (row * n) n small mode modes) p w (column * n) (row * n) (n / 4) cs i c r
   paint-in e i c r h k =

@@ -11,7 +11,7 @@ use lib.Dec.{eqb}
 use Rattle.numbers.specs.Runs.{Off}
 use Rattle.numbers.specs.Tests.{lt-or}
 use Rattle.planes.specs.Predict.{Size}
-use Rattle.planes.specs.Paint.{columnOf, rowOf}
+use Rattle.planes.specs.Paint.{cellColumn, cellRow}
 
 -- ---- in the plane
 -- the n by n square at column x, row y
@@ -82,47 +82,47 @@ outside-sub a b k f g (inr (inr h)) = inr (inr (omega arith))
 
 -- ---- sub-blocks
 -- how many a side has, and sub-block i among them
-abbrev pub Sides : ℕ → Type 0
-Sides m = (m ≡ 2) ⊎ (m ≡ 4)
+abbrev pub BlockSides : ℕ → Type 0
+BlockSides m = (m ≡ 2) ⊎ (m ≡ 4)
 
 pub record Cell (m i column row : ℕ) : Type 0 where
-  pub across : column ≡ columnOf m i
-  pub down : row ≡ rowOf m i
+  pub across : column ≡ cellColumn m i
+  pub down : row ≡ cellRow m i
   pub inside : column + 4 ≤ 4 * m
   pub above : row + 4 ≤ 4 * m
 
 -- what holds of both holds of each
-pub by-sides : (P : ℕ → Type 0) → P 2 → P 4 → {m : ℕ} → Sides m → P m
+pub by-sides : (P : ℕ → Type 0) → P 2 → P 4 → {m : ℕ} → BlockSides m → P m
 by-sides P a b (inl e) = subst P (sym e) a
 by-sides P a b (inr e) = subst P (sym e) b
 
-pub sides-few : {m : ℕ} → Sides m → (0 < m) × (m ≤ 4)
+pub sides-few : {m : ℕ} → BlockSides m → (0 < m) × (m ≤ 4)
 sides-few s = by-sides (λ (m : ℕ). (0 < m) × (m ≤ 4)) (omega arith, omega arith) (omega arith, omega arith) s
 
-pub sides-square : {m : ℕ} → Sides m → m * m ≤ 16
+pub sides-square : {m : ℕ} → BlockSides m → m * m ≤ 16
 sides-square s = by-sides (λ (m : ℕ). m * m ≤ 16) (omega arith) (omega arith) s
 
-pub cell : {m i : ℕ} → Sides m → i < m * m → Cell m i (columnOf m i) (rowOf m i)
+pub cell : {m i : ℕ} → BlockSides m → i < m * m → Cell m i (cellColumn m i) (cellRow m i)
 cell {m} {i} s =
-    by-sides (λ (m : ℕ). i < m * m → Cell m i (columnOf m i) (rowOf m i))
+    by-sides (λ (m : ℕ). i < m * m → Cell m i (cellColumn m i) (cellRow m i))
     (λ h. record { across = refl; down = refl; inside = omega arith; above = omega arith })
     (λ h. record { across = refl; down = refl; inside = omega arith; above = omega arith }) s
 
 -- a sub-block that is not in the last column has one right of it
-pub not-last : (i : ℕ) → eqb (i % 4) 3 ≡ false → columnOf 4 i + 8 ≤ 16
+pub not-last : (i : ℕ) → eqb (i % 4) 3 ≡ false → cellColumn 4 i + 8 ≤ 16
 not-last i e = let n = eqb-false (i % 4) 3 e in omega arith
 
 -- the next sub-block lies right of it, or begins the next row
 pub record Right (m i : ℕ) : Type 0 where
-  pub down : rowOf m (suc i) ≡ rowOf m i
-  pub across : columnOf m (suc i) ≡ columnOf m i + 4
+  pub down : cellRow m (suc i) ≡ cellRow m i
+  pub across : cellColumn m (suc i) ≡ cellColumn m i + 4
 
 pub record Below (m i : ℕ) : Type 0 where
-  pub down : rowOf m (suc i) ≡ rowOf m i + 4
-  pub across : columnOf m (suc i) ≡ 0
-  pub last : columnOf m i + 4 ≡ 4 * m
+  pub down : cellRow m (suc i) ≡ cellRow m i + 4
+  pub across : cellColumn m (suc i) ≡ 0
+  pub last : cellColumn m i + 4 ≡ 4 * m
 
-pub next-cell : {m : ℕ} (i : ℕ) → Sides m → Right m i ⊎ Below m i
+pub next-cell : {m : ℕ} (i : ℕ) → BlockSides m → Right m i ⊎ Below m i
 next-cell i s = by-sides (λ (m : ℕ). Right m i ⊎ Below m i) two four s
   where
     two : Right 2 i ⊎ Below 2 i
@@ -142,19 +142,19 @@ next-cell i s = by-sides (λ (m : ℕ). Right m i ⊎ Below m i) two four s
 pub data Stands (x y m i c r : ℕ) : Type 0 where
   over : r < y → Stands x y m i c r
   beside : r < y + 4 * m → c < x → Stands x y m i c r
-  higher : r < y + 4 * m → r < y + rowOf m i → c < x + 4 * m → Stands x y m i c r
-  before : r < y + 4 * m → r < y + rowOf m i + 4 → c < x + columnOf m i → Stands x y m i c r
+  higher : r < y + 4 * m → r < y + cellRow m i → c < x + 4 * m → Stands x y m i c r
+  before : r < y + 4 * m → r < y + cellRow m i + 4 → c < x + cellColumn m i → Stands x y m i c r
 
 -- before the first only what lies above and left
-pub stands-first : {x y m c r : ℕ} → Sides m → Stands x y m 0 c r → (r < y) ⊎ ((r < y + 4 * m) × (c < x))
+pub stands-first : {x y m c r : ℕ} → BlockSides m → Stands x y m 0 c r → (r < y) ⊎ ((r < y + 4 * m) × (c < x))
 stands-first s (over h) = inl h
 stands-first s (beside h k) = inr (h, k)
-stands-first s (higher h k l) = let z = by-sides (λ (m : ℕ). rowOf m 0 ≡ 0) refl refl s in inl (omega arith)
-stands-first s (before h k l) = let z = by-sides (λ (m : ℕ). columnOf m 0 ≡ 0) refl refl s in inr (h, omega arith)
+stands-first s (higher h k l) = let z = by-sides (λ (m : ℕ). cellRow m 0 ≡ 0) refl refl s in inl (omega arith)
+stands-first s (before h k l) = let z = by-sides (λ (m : ℕ). cellColumn m 0 ≡ 0) refl refl s in inr (h, omega arith)
 
 -- after the last the whole square
-pub stands-last : {x y m c r : ℕ} → Sides m → r < y + 4 * m → c < x + 4 * m → Stands x y m (m * m) c r
-stands-last s h k = let z = by-sides (λ (m : ℕ). rowOf m (m * m) ≡ 4 * m) refl refl s in higher h (omega arith) k
+pub stands-last : {x y m c r : ℕ} → BlockSides m → r < y + 4 * m → c < x + 4 * m → Stands x y m (m * m) c r
+stands-last s h k = let z = by-sides (λ (m : ℕ). cellRow m (m * m) ≡ 4 * m) refl refl s in higher h (omega arith) k
 
 -- what stands after sub-block i and lies outside it stood before it; or it lies in it
 pub record Within (x y c r : ℕ) : Type 0 where
@@ -163,39 +163,39 @@ pub record Within (x y c r : ℕ) : Type 0 where
   pub top : y ≤ r
   pub bottom : r < y + 4
 
-pub stood : {x y m i c r : ℕ} → Sides m → i < m * m → Stands x y m (suc i) c r
-    → (Stands x y m i c r × Outside (x + columnOf m i) (y + rowOf m i) 4 c r) ⊎ Within (x + columnOf m i) (y + rowOf m i) c r
+pub stood : {x y m i c r : ℕ} → BlockSides m → i < m * m → Stands x y m (suc i) c r
+    → (Stands x y m i c r × Outside (x + cellColumn m i) (y + cellRow m i) 4 c r) ⊎ Within (x + cellColumn m i) (y + cellRow m i) c r
 stood {x} {y} {m} {i} {c} {r} s l (over h) = inl (over h, inr (inl (omega arith)))
 stood {x} {y} {m} {i} {c} {r} s l (beside h k) = inl (beside h k, inl (inl (omega arith)))
 stood {x} {y} {m} {i} {c} {r} s l (higher h k q) = elim (next-cell i s) [ inl n ↦ same n | inr n ↦ below n ]
   where
-    same : Right m i → (Stands x y m i c r × Outside (x + columnOf m i) (y + rowOf m i) 4 c r) ⊎ Within (x + columnOf m i) (y + rowOf m i) c r
+    same : Right m i → (Stands x y m i c r × Outside (x + cellColumn m i) (y + cellRow m i) 4 c r) ⊎ Within (x + cellColumn m i) (y + cellRow m i) c r
     same n = inl (higher h (omega (arith, n .down)) q, inr (inl (omega (arith, n .down))))
 
-    below : Below m i → (Stands x y m i c r × Outside (x + columnOf m i) (y + rowOf m i) 4 c r) ⊎ Within (x + columnOf m i) (y + rowOf m i) c r
-    below n = elim (lt-or r (y + rowOf m i)) [
+    below : Below m i → (Stands x y m i c r × Outside (x + cellColumn m i) (y + cellRow m i) 4 c r) ⊎ Within (x + cellColumn m i) (y + cellRow m i) c r
+    below n = elim (lt-or r (y + cellRow m i)) [
       | inl a ↦ inl (higher h a q, inr (inl a))
-      | inr a ↦ elim (lt-or c (x + columnOf m i)) [
+      | inr a ↦ elim (lt-or c (x + cellColumn m i)) [
         | inl b ↦ inl (before h (omega (arith, n .down)) b, inl (inl b))
         | inr b ↦ inr (record { left = b; right = omega (arith, n .last); top = a; bottom = omega (arith, n .down) })
       ]
     ]
 stood {x} {y} {m} {i} {c} {r} s l (before h k q) = elim (next-cell i s) [ inl n ↦ same n | inr n ↦ below n ]
   where
-    same : Right m i → (Stands x y m i c r × Outside (x + columnOf m i) (y + rowOf m i) 4 c r) ⊎ Within (x + columnOf m i) (y + rowOf m i) c r
-    same n = elim (lt-or r (y + rowOf m i)) [
+    same : Right m i → (Stands x y m i c r × Outside (x + cellColumn m i) (y + cellRow m i) 4 c r) ⊎ Within (x + cellColumn m i) (y + cellRow m i) c r
+    same n = elim (lt-or r (y + cellRow m i)) [
       | inl a ↦ inl (higher h a (omega (arith, n .across, cell s l .inside)), inr (inl a))
-      | inr a ↦ elim (lt-or c (x + columnOf m i)) [
+      | inr a ↦ elim (lt-or c (x + cellColumn m i)) [
         | inl b ↦ inl (before h (omega (arith, n .down)) b, inl (inl b))
         | inr b ↦ inr (record { left = b; right = omega (arith, n .across); top = a; bottom = omega (arith, n .down) })
       ]
     ]
 
-    below : Below m i → (Stands x y m i c r × Outside (x + columnOf m i) (y + rowOf m i) 4 c r) ⊎ Within (x + columnOf m i) (y + rowOf m i) c r
+    below : Below m i → (Stands x y m i c r × Outside (x + cellColumn m i) (y + cellRow m i) 4 c r) ⊎ Within (x + cellColumn m i) (y + cellRow m i) c r
     below n = inl (beside h (omega (arith, n .across)), inl (inl (omega (arith, n .across))))
 
 -- a place in sub-block i lies outside those after it
-pub later : {m c r : ℕ} (x y i j : ℕ) → Sides m → i < j → Within (x + columnOf m i) (y + rowOf m i) c r → Outside (x + columnOf m j) (y + rowOf m j) 4 c r
+pub later : {m c r : ℕ} (x y i j : ℕ) → BlockSides m → i < j → Within (x + cellColumn m i) (y + cellRow m i) c r → Outside (x + cellColumn m j) (y + cellRow m j) 4 c r
 later {m} {c} {r} x y i j s h k = go (by-sides Apart two four s)
   where
     Apart : ℕ → Type 0
@@ -207,7 +207,7 @@ later {m} {c} {r} x y i j s h k = go (by-sides Apart two four s)
     four : Apart 4
     four = elim (lt-or (i % 4) (j % 4)) [ inl a ↦ inl a | inr a ↦ elim (lt-or (j % 4) (i % 4)) [ inl b ↦ inr (inl b) | inr b ↦ inr (inr (omega arith)) ] ]
 
-    go : Apart m → Outside (x + columnOf m j) (y + rowOf m j) 4 c r
+    go : Apart m → Outside (x + cellColumn m j) (y + cellRow m j) 4 c r
     go (inl a) = inl (inl (omega (arith, k .right)))
     go (inr (inl a)) = inl (inr (omega (arith, k .left)))
     go (inr (inr a)) = inr (inl (omega (arith, k .bottom)))
@@ -224,8 +224,8 @@ size-some s = by-size (λ (n : ℕ). (0 < n) × (n ≤ 16)) (omega arith, omega 
 pub quarter : {n : ℕ} → Size n → 4 * (n / 4) ≡ n
 quarter s = by-size (λ (n : ℕ). 4 * (n / 4) ≡ n) refl refl s
 
-pub size-sides : {n : ℕ} → Size n → Sides (n / 4)
-size-sides s = by-size (λ (n : ℕ). Sides (n / 4)) (inl refl) (inr refl) s
+pub size-sides : {n : ℕ} → Size n → BlockSides (n / 4)
+size-sides s = by-size (λ (n : ℕ). BlockSides (n / 4)) (inl refl) (inr refl) s
 
 pub size-blocks : {n : ℕ} → Size n → n * n ≡ 16 * (n / 4 * (n / 4))
 size-blocks s = by-size (λ (n : ℕ). n * n ≡ 16 * (n / 4 * (n / 4))) refl refl s

@@ -113,7 +113,7 @@ meanOf false true n a l = (l + n / 2) / n
 meanOf false false n a l = 128
 
 unfoldable pub dcOf : ℕ → Edge → ℕ
-dcOf n e = meanOf (e .over) (e .beside) n (sumOf (e .above) n) (sumOf (e .left) n)
+dcOf n e = meanOf (e .«above_inside») (e .«left_inside») n (sumOf (e .above) n) (sumOf (e .left) n)
 
 -- large modes 0 DC, 1 TM, 2 V, 3 H: the sample at row r, column c of the square
 abbrev pub largeAt : ℕ → ℕ → Edge → ℕ → ℕ → ℕ

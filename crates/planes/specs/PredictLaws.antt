@@ -39,19 +39,19 @@ abbrev pub meanOver : ℕ → ℕ → ℕ
 meanOver t n = (t + n / 2) / n
 
 module _ (n : ℕ) (e : Edge) where
-  pub dc-both : e .over ≡ true → e .beside ≡ true → dcOf n e ≡ meanOver (sumOf (e .above) n + sumOf (e .left) n) (n + n)
+  pub dc-both : e .«above_inside» ≡ true → e .«left_inside» ≡ true → dcOf n e ≡ meanOver (sumOf (e .above) n + sumOf (e .left) n) (n + n)
   unfolding dcOf
   dc-both o b = rw (o, b) (ap (λ (h : ℕ). (sumOf (e .above) n + sumOf (e .left) n + h) / (n + n)) (omega arith))
 
-  pub dc-over : e .over ≡ true → e .beside ≡ false → dcOf n e ≡ meanOver (sumOf (e .above) n) n
+  pub dc-over : e .«above_inside» ≡ true → e .«left_inside» ≡ false → dcOf n e ≡ meanOver (sumOf (e .above) n) n
   unfolding dcOf
   dc-over o b = rw (o, b)
 
-  pub dc-beside : e .over ≡ false → e .beside ≡ true → dcOf n e ≡ meanOver (sumOf (e .left) n) n
+  pub dc-beside : e .«above_inside» ≡ false → e .«left_inside» ≡ true → dcOf n e ≡ meanOver (sumOf (e .left) n) n
   unfolding dcOf
   dc-beside o b = rw (o, b)
 
-  pub dc-none : e .over ≡ false → e .beside ≡ false → dcOf n e ≡ 128
+  pub dc-none : e .«above_inside» ≡ false → e .«left_inside» ≡ false → dcOf n e ≡ 128
   unfolding dcOf
   dc-none o b = rw (o, b)
 
@@ -75,6 +75,13 @@ abbrev pub joinedOf : (w x y z : List ℕ) → List ℕ
 joinedOf w x y z =
     getD w 0 0 ∷ getD w 1 0 ∷ getD w 2 0 ∷ getD w 3 0 ∷ getD x 0 0 ∷ getD x 1 0 ∷ getD x 2 0 ∷ getD x 3 0
     ∷ getD y 0 0 ∷ getD y 1 0 ∷ getD y 2 0 ∷ getD y 3 0 ∷ getD z 0 0 ∷ getD z 1 0 ∷ getD z 2 0 ∷ getD z 3 0 ∷ []
+
+-- row by row, and a row sample by sample
+pub row : {a a′ b b′ c c′ d d′ : ℕ} → a ≡ a′ → b ≡ b′ → c ≡ c′ → d ≡ d′ → a ∷ b ∷ c ∷ d ∷ [] ≡ a′ ∷ b′ ∷ c′ ∷ d′ ∷ []
+row e f g h = λ i. e i ∷ f i ∷ g i ∷ h i ∷ []
+
+pub joined-rows : {w w′ x x′ y y′ z z′ : List ℕ} → w ≡ w′ → x ≡ x′ → y ≡ y′ → z ≡ z′ → joinedOf w x y z ≡ joinedOf w′ x′ y′ z′
+joined-rows a b c d = λ i. joinedOf (a i) (b i) (c i) (d i)
 
 pub tm-rows : (l a : List ℕ) (p : ℕ) {w x y z : List ℕ}
     → w ≡ tmRow (getD l 0 0) a p → x ≡ tmRow (getD l 1 0) a p → y ≡ tmRow (getD l 2 0) a p → z ≡ tmRow (getD l 3 0) a p
@@ -209,7 +216,7 @@ sum-le b (suc n) = omega (arith, b .byte n, sum-le b n)
 module _ {m n : ℕ} (e : Edge) (a : Bytes m (e .above)) (l : Bytes n (e .left)) where
   pub dc-byte : (k : ℕ) → 0 < k → dcOf k e < 256
   unfolding dcOf
-  dc-byte k p = by (e .over) (e .beside)
+  dc-byte k p = by (e .«above_inside») (e .«left_inside»)
     where
       by : (o b : Bool) → meanOf o b k (sumOf (e .above) k) (sumOf (e .left) k) < 256
       by true true = let q : 0 < k + k = omega arith in div-lt-iff-lt-mul q .1 (omega (arith, sum-le a k, sum-le l k))

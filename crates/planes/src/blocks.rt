@@ -1,14 +1,14 @@
 // Sub-blocks of 4 by 4: the residual of each is added to what is predicted, and the sums are painted (RFC 6386, section 14.5).
+use crate::edges::above_right;
 use crate::edges::around;
 use crate::edges::edge;
 use crate::edges::place;
-use crate::edges::right;
 use crate::predict::Edge;
 use crate::predict::large_block;
 use crate::predict::large_dc;
 use crate::predict::small_block;
-use coefficients::transform::transform;
 use numbers::clip;
+use transform::transform;
 ghost use mathlib.Core.Path.{_≡_};
 ghost use mathlib.Core.Bool.{true, false};
 ghost use Prim.Native.Nat.{ℕ, _+_, _*_, _<_, _≤_};
@@ -17,11 +17,12 @@ ghost use lib.ListN.{length, getD};
 ghost use Rattle.numbers.specs.Clamp.{clipZ};
 ghost use Rattle.numbers.specs.In.{In, Each};
 ghost use Rattle.numbers.specs.Runs.{copied};
-ghost use Rattle.coefficients.specs.Transform.{samplesOf};
-ghost use Rattle.coefficients.specs.TransformLaws.{Coefficients};
-ghost use Rattle.planes.specs.Paint.{painted, blockOf, summedOf, blockPainted, blocksPainted, largeRule, smallAt, smallRule, squarePainted};
+ghost use Rattle.transform.specs.Transform.{samplesOf};
+ghost use Rattle.transform.specs.TransformLaws.{Coefficients};
+ghost use Rattle.planes.specs.Paint.{painted, blockCoefficients, summedOf, blockPainted, blocksPainted};
+ghost use Rattle.planes.specs.Paint.{largeRule, smallAt, smallRule, squarePainted};
 ghost use Rattle.planes.specs.PaintLaws.{Blank, Good};
-ghost use Rattle.planes.specs.Places.{Square, Sides, Cell};
+ghost use Rattle.planes.specs.Places.{Square, BlockSides, Cell};
 
 // Four samples of b, from its place `from`, into p from the place `at` on.
 fn copy_row(p: &mut [u8], at: usize, b: &[u8], from: usize)
@@ -48,7 +49,7 @@ fn paint_block(p: &mut [u8], w: usize, x: usize, y: usize, b: &[u8])
 // The coefficients of sub-block i.
 fn block(c: &[i32], i: usize) -> [i32; 16]
     requires { ⌜ (16 * i + 16 ≤ length (now c)) × (i < 16) ⌝ }
-    ensures { λ r. ⌜ r ≡ blockOf (now (c .entry)) i ⌝ }
+    ensures { λ r. ⌜ r ≡ blockCoefficients (now (c .entry)) i ⌝ }
 {
     let mut b = [0; 16];
     for k in 0..16usize {
@@ -124,7 +125,7 @@ struct Offset {
 }
 
 fn spot(i: usize, m: usize) -> Offset
-    requires { ⌜ Sides m ⌝ }
+    requires { ⌜ BlockSides m ⌝ }
     requires { ⌜ i < m * m ⌝ }
     ensures { λ r. ⌜ Cell m i (r .column) (r .row) ⌝ }
 {
@@ -147,7 +148,7 @@ fn large_blocks(
     c: &[i32],
 )
     requires { ⌜ Square (length (now p)) w x y (4 * m) ⌝ }
-    requires { ⌜ Sides m ⌝ }
+    requires { ⌜ BlockSides m ⌝ }
     requires { ⌜ mode < 4 ⌝ }
     requires { ⌜ length (now c) ≡ 16 * (m * m) ⌝ }
     requires { ⌜ Each (negsuc 32767) (pos 32767) (now c) ⌝ }
@@ -177,7 +178,8 @@ fn small_step(
     requires { ⌜ mode < 10 ⌝ }
     requires { ⌜ (16 * i + 16 ≤ length (now c)) × (i < 16) ⌝ }
     requires { ⌜ Each (negsuc 32767) (pos 32767) (now c) ⌝ }
-    ensures { λ _. ⌜ now (p .exit) ≡ blockPainted (now (p .entry)) w x y (smallAt (now (p .entry)) w x y last right mode) (now (c .entry)) i ⌝ }
+    ensures { λ _. ⌜ now (p .exit)
+        ≡ blockPainted (now (p .entry)) w x y (smallAt (now (p .entry)) w x y last right mode) (now (c .entry)) i ⌝ }
 {
     let e = around(&p[..], w, x, y, last, right);
     let b = small_block(mode, e);
@@ -198,7 +200,8 @@ fn small_blocks(
     requires { ⌜ ((k : ℕ) → k < 16 → getD (now modes) k 0 < 10) ⌝ }
     requires { ⌜ length (now c) ≡ 256 ⌝ }
     requires { ⌜ Each (negsuc 32767) (pos 32767) (now c) ⌝ }
-    ensures { λ _. ⌜ now (p .exit) ≡ blocksPainted (smallRule w x y right (now (modes .entry))) (now (p .entry)) w x y 4 (now (c .entry)) 16 ⌝ }
+    ensures { λ _. ⌜ now (p .exit)
+        ≡ blocksPainted (smallRule w x y right (now (modes .entry))) (now (p .entry)) w x y 4 (now (c .entry)) 16 ⌝ }
 {
     for i in 0..16usize {
         let s = spot(i, 4);
@@ -232,7 +235,7 @@ pub(crate) fn square(
     ensures { λ _. ⌜ now (p .exit) ≡ squarePainted (now (p .entry)) w x y size small mode (now (modes .entry)) (now (c .entry)) ⌝ }
 {
     if small {
-        let r = right(&p[..], w, x, y);
+        let r = above_right(&p[..], w, x, y);
         small_blocks(&mut p[..], w, x, y, r, modes, c);
     } else {
         let e = edge(&p[..], w, x, y, size);

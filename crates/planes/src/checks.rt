@@ -2,10 +2,10 @@
 ghost use mathlib.Core.Path.{_≡_};
 ghost use Prim.Native.Nat.{_*_, _≤_};
 ghost use Rattle.planes.specs.Predict.{Size};
-ghost use Rattle.planes.specs.Paint.{eachBelow, eachFits, modesFine, squareFine, coefficientsFine};
+ghost use Rattle.planes.specs.Paint.{modesBelow, eachFits, modesFine, squareFine, coefficientsFine};
 
 fn each_below(modes: &[u8; 16], limit: u8) -> bool
-    ensures { λ r. ⌜ r ≡ eachBelow limit (now (modes .entry)) ⌝ }
+    ensures { λ r. ⌜ r ≡ modesBelow limit (now (modes .entry)) ⌝ }
 {
     let mut fine = true;
     for k in 0..16usize {

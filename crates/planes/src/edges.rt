@@ -5,7 +5,8 @@ ghost use mathlib.Core.Path.{_≡_};
 ghost use mathlib.Core.Bool.{false};
 ghost use Prim.Native.Nat.{_+_, _*_, _<_, _≤_};
 ghost use lib.ListN.{length};
-ghost use Rattle.planes.specs.Paint.{nearOf, aboveOf, leftOf, firstAbove, firstLeft, edgeOf, rightOf, aroundOf, asideOf};
+ghost use Rattle.planes.specs.Paint.{nearOf, fourAbove, fourLeft, firstAbove, firstLeft, edgeOf};
+ghost use Rattle.planes.specs.Paint.{aboveRight, aroundOf, blockAboveRight};
 ghost use Rattle.planes.specs.Places.{Square, Reach};
 
 // Where column x of row y lies, in rows of w samples.
@@ -31,9 +32,9 @@ fn near(p: &[u8], w: usize, x: usize, y: usize) -> u8
 }
 
 // The four samples above columns x .. x + 3 of row y.
-fn above(p: &[u8], w: usize, x: usize, y: usize) -> [u8; 4]
+fn four_above(p: &[u8], w: usize, x: usize, y: usize) -> [u8; 4]
     requires { ⌜ Reach (length (now p)) w (x + 4) y ⌝ }
-    ensures { λ r. ⌜ r ≡ aboveOf (now (p .entry)) w x y ⌝ }
+    ensures { λ r. ⌜ r ≡ fourAbove (now (p .entry)) w x y ⌝ }
 {
     if y == 0 {
         return [127; 4];
@@ -43,9 +44,9 @@ fn above(p: &[u8], w: usize, x: usize, y: usize) -> [u8; 4]
 }
 
 // The four samples left of column x in rows y .. y + 3.
-fn left(p: &[u8], w: usize, x: usize, y: usize) -> [u8; 4]
+fn four_left(p: &[u8], w: usize, x: usize, y: usize) -> [u8; 4]
     requires { ⌜ Reach (length (now p)) w x (y + 4) ⌝ }
-    ensures { λ r. ⌜ r ≡ leftOf (now (p .entry)) w x y ⌝ }
+    ensures { λ r. ⌜ r ≡ fourLeft (now (p .entry)) w x y ⌝ }
 {
     if x == 0 {
         return [129; 4];
@@ -96,45 +97,45 @@ pub(crate) fn edge(p: &[u8], w: usize, x: usize, y: usize, size: usize) -> Edge
         above: a,
         left: l,
         corner: corner,
-        over: 0 < y,
-        beside: 0 < x,
+        above_inside: 0 < y,
+        left_inside: 0 < x,
     }
 }
 
 // The four samples above and right of a macroblock; past the last column the last sample above, four times.
-pub(crate) fn right(p: &[u8], w: usize, x: usize, y: usize) -> [u8; 4]
+pub(crate) fn above_right(p: &[u8], w: usize, x: usize, y: usize) -> [u8; 4]
     requires { ⌜ Square (length (now p)) w x y 16 ⌝ }
     requires { ⌜ (x + 16 < w → x + 20 ≤ w) ⌝ }
-    ensures { λ r. ⌜ r ≡ rightOf (now (p .entry)) w x y ⌝ }
+    ensures { λ r. ⌜ r ≡ aboveRight (now (p .entry)) w x y ⌝ }
 {
     if x + 16 == w {
         return [near(p, w, w, y); 4];
     }
-    above(p, w, x + 16, y)
+    four_above(p, w, x + 16, y)
 }
 
 // The four samples above and right of a sub-block: those of the macroblock for its last column.
-fn aside(p: &[u8], w: usize, x: usize, y: usize, last: bool, right: [u8; 4]) -> [u8; 4]
+fn block_above_right(p: &[u8], w: usize, x: usize, y: usize, last: bool, right: [u8; 4]) -> [u8; 4]
     requires { ⌜ Square (length (now p)) w x y 4 ⌝ }
     requires { ⌜ (last ≡ false → x + 8 ≤ w) ⌝ }
-    ensures { λ r. ⌜ r ≡ asideOf (now (p .entry)) w x y last right ⌝ }
+    ensures { λ r. ⌜ r ≡ blockAboveRight (now (p .entry)) w x y last right ⌝ }
 {
     if last {
         return right;
     }
-    above(p, w, x + 4, y)
+    four_above(p, w, x + 4, y)
 }
 
 // The thirteen samples around a sub-block.
 pub(crate) fn around(p: &[u8], w: usize, x: usize, y: usize, last: bool, right: [u8; 4]) -> [u8; 13]
     requires { ⌜ Square (length (now p)) w x y 4 ⌝ }
     requires { ⌜ (last ≡ false → x + 8 ≤ w) ⌝ }
-    ensures { λ r. ⌜ r ≡ aroundOf (now (p .entry)) w x y (asideOf (now (p .entry)) w x y last right) ⌝ }
+    ensures { λ r. ⌜ r ≡ aroundOf (now (p .entry)) w x y (blockAboveRight (now (p .entry)) w x y last right) ⌝ }
 {
-    let l = left(p, w, x, y);
+    let l = four_left(p, w, x, y);
     let c = near(p, w, x, y);
-    let a = above(p, w, x, y);
-    let r = aside(p, w, x, y, last, right);
+    let a = four_above(p, w, x, y);
+    let r = block_above_right(p, w, x, y, last, right);
     [
         l[3],
         l[2],

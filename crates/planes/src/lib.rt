@@ -28,7 +28,8 @@ pub fn paint(
     modes: &[u8; 16],
     coefficients: &[i32],
 ) -> Painted
-    ensures { λ q. ⌜ record { answer = q; plane = now (plane .exit) } ≡ paintOf (now (plane .entry)) stride column row size small mode (now (modes .entry)) (now (coefficients .entry)) ⌝ }
+    ensures { λ q. ⌜ record { answer = q; plane = now (plane .exit) }
+        ≡ paintOf (now (plane .entry)) stride column row size small mode (now (modes .entry)) (now (coefficients .entry)) ⌝ }
 {
     if !checks::modes_fine(size, small, mode, modes) {
         return Painted::Refused;

@@ -4,7 +4,8 @@ ghost use mathlib.Core.Path.{_≡_};
 ghost use Prim.Native.Nat.{_<_, _≤_, _+_, _*_, _/_, _%_};
 ghost use lib.ListN.{getD};
 ghost use Rattle.numbers.specs.Lists.{build};
-ghost use Rattle.planes.specs.Predict.{Size, at, mean2, mean3, two, three, dcBlock, tmBlock, veBlock, heBlock, rdBlock, vrBlock, ldBlock, vlBlock, hdBlock, huBlock, smallOf, sumOf, dcOf, largeOf};
+ghost use Rattle.planes.specs.Predict.{Size, at, mean2, mean3, two, three, smallOf, sumOf, dcOf, largeOf};
+ghost use Rattle.planes.specs.Predict.{dcBlock, tmBlock, veBlock, heBlock, rdBlock, vrBlock, ldBlock, vlBlock, hdBlock, huBlock};
 ghost use Rattle.planes.specs.PredictLaws.{Count, meanOver, joinedOf, tmOne, tmRow, tmOf};
 
 // What lies around a macroblock's square: the row above, the column to the left (of both the first 8 or 16), the corner, and
@@ -13,8 +14,8 @@ pub(crate) struct Edge {
     pub above: [u8; 16],
     pub left: [u8; 16],
     pub corner: u8,
-    pub over: bool,
-    pub beside: bool,
+    pub above_inside: bool,
+    pub left_inside: bool,
 }
 
 // ---- means, rounded
@@ -169,24 +170,12 @@ fn ve_block(e: [u8; 13]) -> [u8; 16]
     let t6 = three(e, 6);
     let t7 = three(e, 7);
     let t8 = three(e, 8);
-    [
-        t5,
-        t6,
-        t7,
-        t8,
-        t5,
-        t6,
-        t7,
-        t8,
-        t5,
-        t6,
-        t7,
-        t8,
-        t5,
-        t6,
-        t7,
-        t8,
-    ]
+    joined(
+        [t5, t6, t7, t8],
+        [t5, t6, t7, t8],
+        [t5, t6, t7, t8],
+        [t5, t6, t7, t8],
+    )
 }
 
 fn he_block(e: [u8; 13]) -> [u8; 16]
@@ -196,24 +185,12 @@ fn he_block(e: [u8; 13]) -> [u8; 16]
     let t2 = three(e, 2);
     let t1 = three(e, 1);
     let t0 = mean3(e[1], e[0], e[0]);
-    [
-        t3,
-        t3,
-        t3,
-        t3,
-        t2,
-        t2,
-        t2,
-        t2,
-        t1,
-        t1,
-        t1,
-        t1,
-        t0,
-        t0,
-        t0,
-        t0,
-    ]
+    joined(
+        [t3, t3, t3, t3],
+        [t2, t2, t2, t2],
+        [t1, t1, t1, t1],
+        [t0, t0, t0, t0],
+    )
 }
 
 fn rd_block(e: [u8; 13]) -> [u8; 16]
@@ -226,24 +203,12 @@ fn rd_block(e: [u8; 13]) -> [u8; 16]
     let t5 = three(e, 5);
     let t6 = three(e, 6);
     let t7 = three(e, 7);
-    [
-        t4,
-        t5,
-        t6,
-        t7,
-        t3,
-        t4,
-        t5,
-        t6,
-        t2,
-        t3,
-        t4,
-        t5,
-        t1,
-        t2,
-        t3,
-        t4,
-    ]
+    joined(
+        [t4, t5, t6, t7],
+        [t3, t4, t5, t6],
+        [t2, t3, t4, t5],
+        [t1, t2, t3, t4],
+    )
 }
 
 fn vr_block(e: [u8; 13]) -> [u8; 16]
@@ -259,24 +224,12 @@ fn vr_block(e: [u8; 13]) -> [u8; 16]
     let t5 = three(e, 5);
     let t6 = three(e, 6);
     let t7 = three(e, 7);
-    [
-        d4,
-        d5,
-        d6,
-        d7,
-        t4,
-        t5,
-        t6,
-        t7,
-        t3,
-        d4,
-        d5,
-        d6,
-        t2,
-        t4,
-        t5,
-        t6,
-    ]
+    joined(
+        [d4, d5, d6, d7],
+        [t4, t5, t6, t7],
+        [t3, d4, d5, d6],
+        [t2, t4, t5, t6],
+    )
 }
 
 fn ld_block(e: [u8; 13]) -> [u8; 16]
@@ -289,24 +242,12 @@ fn ld_block(e: [u8; 13]) -> [u8; 16]
     let t10 = three(e, 10);
     let t11 = three(e, 11);
     let t12 = mean3(e[11], e[12], e[12]);
-    [
-        t6,
-        t7,
-        t8,
-        t9,
-        t7,
-        t8,
-        t9,
-        t10,
-        t8,
-        t9,
-        t10,
-        t11,
-        t9,
-        t10,
-        t11,
-        t12,
-    ]
+    joined(
+        [t6, t7, t8, t9],
+        [t7, t8, t9, t10],
+        [t8, t9, t10, t11],
+        [t9, t10, t11, t12],
+    )
 }
 
 fn vl_block(e: [u8; 13]) -> [u8; 16]
@@ -322,24 +263,12 @@ fn vl_block(e: [u8; 13]) -> [u8; 16]
     let t9 = three(e, 9);
     let t10 = three(e, 10);
     let t11 = three(e, 11);
-    [
-        d5,
-        d6,
-        d7,
-        d8,
-        t6,
-        t7,
-        t8,
-        t9,
-        d6,
-        d7,
-        d8,
-        t10,
-        t7,
-        t8,
-        t9,
-        t11,
-    ]
+    joined(
+        [d5, d6, d7, d8],
+        [t6, t7, t8, t9],
+        [d6, d7, d8, t10],
+        [t7, t8, t9, t11],
+    )
 }
 
 fn hd_block(e: [u8; 13]) -> [u8; 16]
@@ -355,24 +284,12 @@ fn hd_block(e: [u8; 13]) -> [u8; 16]
     let t4 = three(e, 4);
     let t5 = three(e, 5);
     let t6 = three(e, 6);
-    [
-        d3,
-        t4,
-        t5,
-        t6,
-        d2,
-        t3,
-        d3,
-        t4,
-        d1,
-        t2,
-        d2,
-        t3,
-        d0,
-        t1,
-        d1,
-        t2,
-    ]
+    joined(
+        [d3, t4, t5, t6],
+        [d2, t3, d3, t4],
+        [d1, t2, d2, t3],
+        [d0, t1, d1, t2],
+    )
 }
 
 fn hu_block(e: [u8; 13]) -> [u8; 16]
@@ -385,7 +302,12 @@ fn hu_block(e: [u8; 13]) -> [u8; 16]
     let t1 = three(e, 1);
     let t2 = three(e, 2);
     let z = e[0];
-    [d2, t2, d1, t1, d1, t1, d0, t0, d0, t0, z, z, z, z, z, z]
+    joined(
+        [d2, t2, d1, t1],
+        [d1, t1, d0, t0],
+        [d0, t0, z, z],
+        [z, z, z, z],
+    )
 }
 
 // The sixteen samples of a sub-block in a small mode.
@@ -429,13 +351,13 @@ pub(crate) fn large_dc(size: usize, e: Edge) -> u8
 {
     let above = e.above;
     let left = e.left;
-    if e.over {
-        if e.beside {
+    if e.above_inside {
+        if e.left_inside {
             mean(sum(above, size) + sum(left, size), size + size)
         } else {
             mean(sum(above, size), size)
         }
-    } else if e.beside {
+    } else if e.left_inside {
         mean(sum(left, size), size)
     } else {
         128

@@ -7,14 +7,15 @@ use mathlib.Core.List.{List}
 use mathlib.Core.Path.{_≡_}
 use lib.ListN.{length, getD}
 use Rattle.planes.specs.Paint.{sampleAt}
-use Rattle.macroblock.specs.StrengthRecords.{strengthAt}
+use Rattle.lent.specs.Records.{recordsIn, strengthWidth, strengthAt}
 use Rattle.macroblock.specs.Macroblock.{Planes}
-use Rattle.picture.specs.Memory.{Memory}
-use Rattle.picture.specs.Checks.{Tile}
-use Rattle.picture.specs.Picture.{pictureOf, planesOf}
+use Rattle.lent.specs.Memory.{Memory}
+use Rattle.tile.specs.Checks.{Sides}
+use Rattle.picture.specs.Checks.{Call}
+use Rattle.picture.specs.Picture.{pictureOf, planesIn}
 use Rattle.deblock.specs.declared.edges.Edge.{Edge}
 use Rattle.deblock.specs.declared.Deblocked.the-variants.{Done}
-use Rattle.deblock.specs.Deblock.{sweepOf, Side, Lengths, Outcome, deblockOf, numberOf}
+use Rattle.deblock.specs.Deblock.{sweepOf, Lengths, Outcome, deblockOf, numberOf}
 use Rattle.promises.specs.Places.{Plane, luma, blue, red, sideOf, blockAt}
 use Rattle.promises.specs.Grey.{Inside, done}
 use Rattle.promises.specs.Isolation.{SameTokens}
@@ -40,14 +41,14 @@ numbered d s w h simple = numberOf (deblockOf d s w h simple .answer)
 
 pub record DeblockRefused (d : Planes) (s : List ℕ) (w h : ℕ) (simple : Bool) : Type 0 where
   pub unchanged : (numbered d s w h simple ≡ 0 → ⊥) → deblockOf d s w h simple .planes ≡ d
-  pub side : (Side w × Side h → ⊥) → numbered d s w h simple ≡ 1
-  pub sized : Side w → Side h → (Sized d s w h → ⊥) → numbered d s w h simple ≡ 4
-  pub limit : Side w → Side h → Sized d s w h → (k : ℕ) → k < length s / 4 → 189 < strengthAt s k .limit → numbered d s w h simple ≡ 11
-  pub none : Side w → Side h → Sized d s w h → ((k : ℕ) → k < length s / 4 → strengthAt s k .limit ≤ 189) → numbered d s w h simple ≡ 0
+  pub side : (Sides w h → ⊥) → numbered d s w h simple ≡ 1
+  pub sized : Sides w h → (Sized d s w h → ⊥) → numbered d s w h simple ≡ 4
+  pub limit : Sides w h → Sized d s w h → (k : ℕ) → k < recordsIn strengthWidth s → 189 < strengthAt s k .limit → numbered d s w h simple ≡ 11
+  pub none : Sides w h → Sized d s w h → ((k : ℕ) → k < recordsIn strengthWidth s → strengthAt s k .limit ≤ 189) → numbered d s w h simple ≡ 0
 
 -- ---- the deblocking call on what the picture call leaves
-abbrev pub deblockedOf : Tile → Memory → Bool → Outcome
-deblockedOf t m simple = let d = pictureOf t m .mem in deblockOf (planesOf d) (d .strengths) (t .width) (t .height) simple
+abbrev pub deblockedOf : Call → Memory → Bool → Outcome
+deblockedOf t m simple = let d = pictureOf t m .mem in deblockOf (planesIn d) (d .strengths) (t .tile .width) (t .tile .height) simple
 
 abbrev pub plane : Plane → Planes → List ℕ
 plane luma d = d .y
@@ -55,22 +56,22 @@ plane blue d = d .u
 plane red d = d .v
 
 -- the sample at column c of row r of a plane after it
-abbrev pub sampleAfter : Tile → Memory → Bool → Plane → (c r : ℕ) → ℕ
-sampleAfter t m simple a c r = sampleAt (plane a (deblockedOf t m simple .planes)) (t .width / 16 * sideOf a) c r
+abbrev pub sampleAfter : Call → Memory → Bool → Plane → (c r : ℕ) → ℕ
+sampleAfter t m simple a c r = sampleAt (plane a (deblockedOf t m simple .planes)) (t .tile .width / 16 * sideOf a) c r
 
 -- THE PROMISE, after 0, 6 and 7: it is never refused; and no sample of an unfinished macroblock moves, so that grey stays grey
-pub record GreyStays (t : Tile) (m : Memory) (simple : Bool) : Type 0 where
+pub record GreyStays (t : Call) (m : Memory) (simple : Bool) : Type 0 where
   pub answer : deblockedOf t m simple .answer ≡ Done
-  pub grey : (a : Plane) (c r : ℕ) → Inside t a c r → done t m ≤ blockAt (t .width / 16) a c r → sampleAfter t m simple a c r ≡ 128
+  pub grey : (a : Plane) (c r : ℕ) → Inside t a c r → done t m ≤ blockAt (t .tile .width / 16) a c r → sampleAfter t m simple a c r ≡ 128
 
 -- THE PROMISE, of the calls for two tiles alike in all but the bytes of token partition p
-pub record IsolatedDeblocked (p : ℕ) (t u : Tile) (m n : Memory) (simple : Bool) : Type 0 where
+pub record IsolatedDeblocked (p : ℕ) (t u : Call) (m n : Memory) (simple : Bool) : Type 0 where
   -- what the picture call leaves is never refused
   pub first : deblockedOf t m simple .answer ≡ Done
   pub second : deblockedOf u n simple .answer ≡ Done
   -- the same samples in all macroblock rows above row p, the lowest three sample rows excepted
-  pub samples : (a : Plane) (c r : ℕ) → c < t .width / 16 * sideOf a → r + 3 < p * sideOf a → sampleAfter t m simple a c r ≡ sampleAfter u n simple a c r
+  pub samples : (a : Plane) (c r : ℕ) → c < t .tile .width / 16 * sideOf a → r + 3 < p * sideOf a → sampleAfter t m simple a c r ≡ sampleAfter u n simple a c r
   -- if no row p exists, or nothing differs, or partition p is past the count, all agree
-  pub no-row : t .height / 16 ≤ p → deblockedOf t m simple ≡ deblockedOf u n simple
+  pub no-row : t .tile .height / 16 ≤ p → deblockedOf t m simple ≡ deblockedOf u n simple
   pub no-difference : SameTokens t u p → deblockedOf t m simple ≡ deblockedOf u n simple
-  pub ignored : t .count ≤ p → deblockedOf t m simple ≡ deblockedOf u n simple
+  pub ignored : t .tile .count ≤ p → deblockedOf t m simple ≡ deblockedOf u n simple

@@ -7,16 +7,18 @@ use mathlib.Core.Path.{_≡_, refl, sym, _∙_, ap, ap₂}
 use native.Mathlib.Nat.{mul-comm, mul-le-mul-right, mod-lt, div-lt-iff-lt-mul, div-add-mod'}
 use native.Mathlib.Omega.{arith}
 use lib.ListN.{length, getD}
+use lib.Dec.{lit<}
 use Rattle.numbers.specs.Tests.{lt-or}
 use Rattle.reader.specs.BooleanLaws.{Bytes}
 use Rattle.planes.specs.Paint.{sampleAt}
 use Rattle.planes.specs.Places.{next-row}
-use Rattle.macroblock.specs.StrengthRecords.{strengthAt}
+use Rattle.lent.specs.Records.{strengthWidth, strengthIn, strengthAt}
+use Rattle.lent.specs.RecordsLaws.{record-byte, record-same}
 use Rattle.macroblock.specs.Macroblock.{Planes}
-use Rattle.picture.specs.Memory.{Memory, sizesOf}
-use Rattle.picture.specs.Checks.{Tile}
+use Rattle.lent.specs.Memory.{Memory, sizesOf}
+use Rattle.picture.specs.Checks.{Call}
 use Rattle.picture.specs.ChecksLaws.{fine-side}
-use Rattle.picture.specs.Picture.{Ended, cutOut, startOf, pictureOf, planesOf}
+use Rattle.picture.specs.Picture.{Ended, picturedOf, begunOf, pictureOf, planesIn}
 use Rattle.deblock.specs.declared.edges.Edge.{Edge}
 use Rattle.deblock.specs.declared.Deblocked.the-variants.{Done}
 use Rattle.deblock.specs.Deblock as deblock
@@ -50,28 +52,28 @@ deblock-refused d s w h simple =
     record {
       unchanged = λ n. checks.deblock-unchanged d s w h simple (λ e. n (z ∙ e));
       side = λ n. z ∙ sym (checks.refused-side w h y u v s n);
-      sized = λ a b n. z ∙ sym (checks.refused-lengths w h y u v s a b n);
-      limit = λ a b l k i n. z ∙ sym (checks.refused-limit w h y u v s a b l k i n);
-      none = λ a b l n. z ∙ sym (checks.fine-none w h y u v s (record { width = a; height = b; lengths = l; limits = n }));
+      sized = λ a n. z ∙ sym (checks.refused-lengths w h y u v s a n);
+      limit = λ a l k i n. z ∙ sym (checks.refused-limit w h y u v s a l k i n);
+      none = λ a l n. z ∙ sym (checks.fine-none w h y u v s (record { sides = a; lengths = l; limits = n }));
     }
 
 -- ---- what the picture call leaves: planes and strengths of the lengths that were lent, and no limit above 189
-module _ (t : Tile) (m : Memory) (e : Fine t m) (b : Bytes (t .bytes)) where
+module _ (t : Call) (m : Memory) (e : Fine t m) (b : Bytes (t .bytes)) where
   abbrev left : Memory
   left = pictureOf t m .mem
 
-  lengths : deblock.Lengths (t .width) (t .height) (length (left .y)) (length (left .u)) (length (left .v)) (length (left .strengths))
+  lengths : deblock.Lengths (t .tile .width) (t .tile .height) (length (left .y)) (length (left .u)) (length (left .v)) (length (left .strengths))
   lengths =
       let s = fine-side t (sizesOf m) e in
-      let z = last (ending (cutOut t) (startOf t m) (macroblocks t)) in
+      let z = last (ending (picturedOf t) (begunOf t m) (macroblocks t)) in
       let l = live-reached (sound t m b e) (z .upto) (z .reached) in
       let same : left ≡ z .state .mem = ap (λ (E : Ended). E .mem) (fine-is t m e) ∙ z .mem in
-      let w : t .width ≡ t .width / 16 * 16 = omega (arith, s .width .whole) in
-      let h : t .height ≡ t .height / 16 * 16 = omega (arith, s .height .whole) in
-      let y : t .height / 16 * 16 * (t .width / 16 * 16) ≡ t .width * t .height = ap₂ _*_ (sym h) (sym w) ∙ mul-comm (t .height) (t .width) in
-      let c1 : t .height / 16 * 8 ≡ t .height / 2 = omega arith in
-      let c2 : t .width / 16 * 16 / 2 ≡ t .width / 2 = omega arith in
-      let c : t .height / 16 * 8 * (t .width / 16 * 16 / 2) ≡ t .width / 2 * (t .height / 2) = ap₂ _*_ c1 c2 ∙ mul-comm (t .height / 2) (t .width / 2) in
+      let w : t .tile .width ≡ t .tile .width / 16 * 16 = omega (arith, s .width .whole) in
+      let h : t .tile .height ≡ t .tile .height / 16 * 16 = omega (arith, s .height .whole) in
+      let y : t .tile .height / 16 * 16 * (t .tile .width / 16 * 16) ≡ t .tile .width * t .tile .height = ap₂ _*_ (sym h) (sym w) ∙ mul-comm (t .tile .height) (t .tile .width) in
+      let c1 : t .tile .height / 16 * 8 ≡ t .tile .height / 2 = omega arith in
+      let c2 : t .tile .width / 16 * 16 / 2 ≡ t .tile .width / 2 = omega arith in
+      let c : t .tile .height / 16 * 8 * (t .tile .width / 16 * 16 / 2) ≡ t .tile .width / 2 * (t .tile .height / 2) = ap₂ _*_ c1 c2 ∙ mul-comm (t .tile .height / 2) (t .tile .width / 2) in
       record {
         luma = ap (λ (d : Memory). length (d .y)) same ∙ l .y ∙ y;
         blue = ap (λ (d : Memory). length (d .u)) same ∙ l .u ∙ c;
@@ -79,19 +81,18 @@ module _ (t : Tile) (m : Memory) (e : Fine t m) (b : Bytes (t .bytes)) where
         records = ap (λ (d : Memory). length (d .strengths)) same ∙ l .strengths;
       }
 
-  fine : checks.Fine (t .width) (t .height) (length (left .y)) (length (left .u)) (length (left .v)) (left .strengths)
+  fine : checks.Fine (t .tile .width) (t .tile .height) (length (left .y)) (length (left .u)) (length (left .v)) (left .strengths)
   fine =
       let s = fine-side t (sizesOf m) e in
       record {
-        width = record { least = s .width .least; most = s .width .most; whole = omega (arith, s .width .whole) };
-        height = record { least = s .height .least; most = s .height .most; whole = omega (arith, s .height .whole) };
+        sides = s;
         lengths = lengths;
         limits = λ k h. limits-at-most-189 t m b e k;
       }
 
   -- so the deblocking call does its work
-  is : (simple : Bool) → deblockedOf t m simple ≡ record { answer = Done; planes = deblock.planesDeblocked simple (left .strengths) (t .width / 16) (t .height / 16) (planesOf left) }
-  is simple = sym (checks.done (planesOf left) (left .strengths) (t .width) (t .height) simple (checks.fine-none (t .width) (t .height) (length (left .y)) (length (left .u)) (length (left .v)) (left .strengths) fine) refl)
+  is : (simple : Bool) → deblockedOf t m simple ≡ record { answer = Done; planes = deblock.planesDeblocked simple (left .strengths) (t .tile .width / 16) (t .tile .height / 16) (planesIn left) }
+  is simple = sym (checks.done (planesIn left) (left .strengths) (t .tile .width) (t .tile .height) simple (checks.fine-none (t .tile .width) (t .tile .height) (length (left .y)) (length (left .u)) (length (left .v)) (left .strengths) fine) refl)
 
 -- ---- from samples by column and row to places
 place : {w rows : ℕ} (p q : List ℕ) → 0 < w → ((c r : ℕ) → c < w → r < rows → sampleAt p w c r ≡ sampleAt q w c r) → (i : ℕ) → i < rows * w → getD p i 0 ≡ getD q i 0
@@ -116,9 +117,9 @@ module _ (simple : Bool) (s : List ℕ) (wide high : ℕ) (d : Planes) where
   parts-is red = refl
 
 -- ---- one call: where macroblocks are unfinished no sample moves
-module _ (t : Tile) (m : Memory) (e : Fine t m) (b : Bytes (t .bytes)) (simple : Bool) where
+module _ (t : Call) (m : Memory) (e : Fine t m) (b : Bytes (t .bytes)) (simple : Bool) where
   abbrev across : ℕ
-  across = t .width / 16
+  across = t .tile .width / 16
 
   abbrev there : Memory
   there = pictureOf t m .mem
@@ -127,24 +128,24 @@ module _ (t : Tile) (m : Memory) (e : Fine t m) (b : Bytes (t .bytes)) (simple :
   ended = finished-or-grey t m b e
 
   no-limit : (k : ℕ) → done t m ≤ k → strengthAt (there .strengths) k .limit ≡ 0
-  no-limit k h = ended .no-strengths (k * 4) (omega arith)
+  no-limit k h = record-byte strengthWidth (there .strengths) k 0 (lit< tt) ∙ ended .no-strengths (k * strengthWidth + 0) (omega arith)
 
   -- a plane of squares of z by z
-  module _ {len z : ℕ} (g : Grid len z across (t .height / 16)) (p : List ℕ) (c r : ℕ) (i : c < across * z) (h : done t m ≤ r / z * across + c / z) where
-    unmoved : getD (rasterOf simple (there .strengths) z across (across * (t .height / 16)) p) (r * (across * z) + c) 0 ≡ getD p (r * (across * z) + c) 0
-    unmoved = later-stay simple (there .strengths) (g .size) (omega (arith, fine-side t (sizesOf m) e .width .least)) c r i (done t m) (across * (t .height / 16)) no-limit h p
+  module _ {len z : ℕ} (g : Grid len z across (t .tile .height / 16)) (p : List ℕ) (c r : ℕ) (i : c < across * z) (h : done t m ≤ r / z * across + c / z) where
+    unmoved : getD (rasterOf simple (there .strengths) z across (across * (t .tile .height / 16)) p) (r * (across * z) + c) 0 ≡ getD p (r * (across * z) + c) 0
+    unmoved = later-stay simple (there .strengths) (g .size) (omega (arith, fine-side t (sizesOf m) e .width .least)) c r i (done t m) (across * (t .tile .height / 16)) no-limit h p
 
-  unmoved-chroma : {len : ℕ} → Grid len 8 across (t .height / 16) → (p : List ℕ) (c r : ℕ) → c < across * 8 → done t m ≤ r / 8 * across + c / 8
-      → getD (chroma simple (there .strengths) across (t .height / 16) (planesOf there) p) (r * (across * 8) + c) 0 ≡ getD p (r * (across * 8) + c) 0
+  unmoved-chroma : {len : ℕ} → Grid len 8 across (t .tile .height / 16) → (p : List ℕ) (c r : ℕ) → c < across * 8 → done t m ≤ r / 8 * across + c / 8
+      → getD (chroma simple (there .strengths) across (t .tile .height / 16) (planesIn there) p) (r * (across * 8) + c) 0 ≡ getD p (r * (across * 8) + c) 0
   unmoved-chroma g p c r i h = when-same (not simple) _ p (r * (across * 8) + c) (unmoved g p c r i h)
 
   part-stays : (a : Plane) (c r : ℕ) → Inside t a c r → done t m ≤ blockAt across a c r
-      → getD (parts simple (there .strengths) across (t .height / 16) (planesOf there) a) (r * (across * sideOf a) + c) 0 ≡ getD (plane a (planesOf there)) (r * (across * sideOf a) + c) 0
+      → getD (parts simple (there .strengths) across (t .tile .height / 16) (planesIn there) a) (r * (across * sideOf a) + c) 0 ≡ getD (plane a (planesIn there)) (r * (across * sideOf a) + c) 0
   part-stays luma c r i h = unmoved (checks.luma-whole (fine t m e b) .grid) (there .y) c r (i .across) h
   part-stays blue c r i h = unmoved-chroma (checks.blue-whole (fine t m e b) .grid) (there .u) c r (i .across) h
   part-stays red c r i h = unmoved-chroma (checks.red-whole (fine t m e b) .grid) (there .v) c r (i .across) h
 
-  plane-is : (a : Plane) → plane a (planesOf there) ≡ planeOf a there
+  plane-is : (a : Plane) → plane a (planesIn there) ≡ planeOf a there
   plane-is luma = refl
   plane-is blue = refl
   plane-is red = refl
@@ -152,17 +153,17 @@ module _ (t : Tile) (m : Memory) (e : Fine t m) (b : Bytes (t .bytes)) (simple :
   stays-grey : (a : Plane) (c r : ℕ) → Inside t a c r → done t m ≤ blockAt across a c r → sampleAfter t m simple a c r ≡ 128
   stays-grey a c r i h =
       ap (λ (E : Outcome). getD (plane a (E .planes)) (r * (across * sideOf a) + c) 0) (is t m e b simple)
-      ∙ ap (λ (q : List ℕ). getD q (r * (across * sideOf a) + c) 0) (parts-is simple (there .strengths) across (t .height / 16) (planesOf there) a)
+      ∙ ap (λ (q : List ℕ). getD q (r * (across * sideOf a) + c) 0) (parts-is simple (there .strengths) across (t .tile .height / 16) (planesIn there) a)
       ∙ part-stays a c r i h
       ∙ ap (λ (q : List ℕ). getD q (r * (across * sideOf a) + c) 0) (plane-is a)
       ∙ ended .grey a c r i h
 
 -- GREY STAYS GREY, after 0, 6 and 7
-pub grey-stays : (t : Tile) (m : Memory) → Bytes (t .bytes) → Fine t m → (simple : Bool) → GreyStays t m simple
+pub grey-stays : (t : Call) (m : Memory) → Bytes (t .bytes) → Fine t m → (simple : Bool) → GreyStays t m simple
 grey-stays t m b e simple = record { answer = ap (λ (E : Outcome). E .answer) (is t m e b simple); grey = stays-grey t m e b simple }
 
 -- ---- the two calls
-module _ (p : ℕ) (t u : Tile) (m n : Memory) (a : Alike p t u) (e : Fine t m) (f : Fine u n) (b : Bytes (t .bytes)) (d : Bytes (u .bytes)) (simple : Bool) where
+module _ (p : ℕ) (t u : Call) (m n : Memory) (a : Alike p t u) (e : Fine t m) (f : Fine u n) (b : Bytes (t .bytes)) (d : Bytes (u .bytes)) (simple : Bool) where
   before : Isolated p t u m n
   before = isolated p t u m n a e f b d
 
@@ -173,29 +174,27 @@ module _ (p : ℕ) (t u : Tile) (m n : Memory) (a : Alike p t u) (e : Fine t m) 
   two = pictureOf u n .mem
 
   abbrev wide : ℕ
-  wide = t .width / 16
+  wide = t .tile .width / 16
 
   abbrev high : ℕ
-  high = t .height / 16
+  high = t .tile .height / 16
 
   some : 0 < wide
   some = omega (arith, fine-side t (sizesOf m) e .width .least)
 
-  first-is : deblockedOf t m simple ≡ record { answer = Done; planes = deblock.planesDeblocked simple (one .strengths) wide high (planesOf one) }
+  first-is : deblockedOf t m simple ≡ record { answer = Done; planes = deblock.planesDeblocked simple (one .strengths) wide high (planesIn one) }
   first-is = is t m e b simple
 
-  second-is : deblockedOf u n simple ≡ record { answer = Done; planes = deblock.planesDeblocked simple (two .strengths) wide high (planesOf two) }
-  second-is = is u n f d simple ∙ ap₂ (λ (w h : ℕ). record { answer = Done; planes = deblock.planesDeblocked simple (two .strengths) (w / 16) (h / 16) (planesOf two) }) (sym (a .width)) (sym (a .height))
+  second-is : deblockedOf u n simple ≡ record { answer = Done; planes = deblock.planesDeblocked simple (two .strengths) wide high (planesIn two) }
+  second-is = is u n f d simple ∙ ap₂ (λ (w h : ℕ). record { answer = Done; planes = deblock.planesDeblocked simple (two .strengths) (w / 16) (h / 16) (planesIn two) }) (sym (a .width)) (sym (a .height))
 
   all-same : pictureOf t m ≡ pictureOf u n → deblockedOf t m simple ≡ deblockedOf u n simple
   all-same z =
-      first-is ∙ ap (λ (E : Ended). record { answer = Done; planes = deblock.planesDeblocked simple (E .mem .strengths) wide high (planesOf (E .mem)) }) z ∙ sym second-is
+      first-is ∙ ap (λ (E : Ended). record { answer = Done; planes = deblock.planesDeblocked simple (E .mem .strengths) wide high (planesIn (E .mem)) }) z ∙ sym second-is
 
   strength-same : (k : ℕ) → k < wide * p → strengthAt (one .strengths) k ≡ strengthAt (two .strengths) k
   strength-same k h =
-      let at : (j : ℕ) → j < 4 → getD (one .strengths) (k * 4 + j) 0 ≡ getD (two .strengths) (k * 4 + j) 0 = λ j l. before .strengths (k * 4 + j) (omega (arith, mul-comm wide p)) in
-      let z : getD (one .strengths) (k * 4) 0 ≡ getD (two .strengths) (k * 4) 0 = before .strengths (k * 4) (omega (arith, mul-comm wide p)) in
-      rw (z, at 1 (omega arith), at 2 (omega arith), at 3 (omega arith))
+      ap strengthIn (record-same strengthWidth (one .strengths) (two .strengths) k k (λ j l. before .strengths (k * 4 + j) (omega (arith, mul-comm wide p))))
 
   -- a plane of squares of z by z
   module _ (l : p ≤ high) {len z : ℕ} (g : Grid len z wide high) (P Q : List ℕ) (long : length P ≡ length Q) (filled : 0 < wide * z)
@@ -206,17 +205,17 @@ module _ (p : ℕ) (t u : Tile) (m n : Memory) (a : Alike p t u) (e : Fine t m) 
     filtered : getD (rasterOf simple (one .strengths) z wide (wide * high) P) i 0 ≡ getD (rasterOf simple (two .strengths) z wide (wide * high) Q) i 0
     filtered = plane-local simple (g .size) some l (one .strengths) (two .strengths) P Q strength-same (record { long = long; same = place P Q filled h }) i k
 
-    filtered-chroma : z ≡ 8 → getD (chroma simple (one .strengths) wide high (planesOf one) P) i 0 ≡ getD (chroma simple (two .strengths) wide high (planesOf two) Q) i 0
+    filtered-chroma : z ≡ 8 → getD (chroma simple (one .strengths) wide high (planesIn one) P) i 0 ≡ getD (chroma simple (two .strengths) wide high (planesIn two) Q) i 0
     filtered-chroma v = when-local (not simple) _ _ P Q i (rw v at filtered) higher
 
-  long-one : deblock.Lengths (t .width) (t .height) (length (one .y)) (length (one .u)) (length (one .v)) (length (one .strengths))
+  long-one : deblock.Lengths (t .tile .width) (t .tile .height) (length (one .y)) (length (one .u)) (length (one .v)) (length (one .strengths))
   long-one = lengths t m e b
 
-  long-two : deblock.Lengths (u .width) (u .height) (length (two .y)) (length (two .u)) (length (two .v)) (length (two .strengths))
+  long-two : deblock.Lengths (u .tile .width) (u .tile .height) (length (two .y)) (length (two .u)) (length (two .v)) (length (two .strengths))
   long-two = lengths u n f d
 
   parts-same : p ≤ high → (c : Plane) (i : ℕ) → i < (p * sideOf c - 3) * (wide * sideOf c)
-      → getD (parts simple (one .strengths) wide high (planesOf one) c) i 0 ≡ getD (parts simple (two .strengths) wide high (planesOf two) c) i 0
+      → getD (parts simple (one .strengths) wide high (planesIn one) c) i 0 ≡ getD (parts simple (two .strengths) wide high (planesIn two) c) i 0
   parts-same l luma i k =
       filtered l (checks.luma-whole (fine t m e b) .grid) (one .y) (two .y)
       (long-one .luma ∙ ap₂ (λ (w h : ℕ). w * h) (a .width) (a .height) ∙ sym (long-two .luma)) (omega (arith, some)) (before .samples luma) i k
@@ -232,9 +231,9 @@ module _ (p : ℕ) (t u : Tile) (m n : Memory) (a : Alike p t u) (e : Fine t m) 
       let i : r * (wide * sideOf x) + c < (p * sideOf x - 3) * (wide * sideOf x) = omega (arith, next-row r (p * sideOf x - 3) (wide * sideOf x) (omega arith)) in
       ⊎-elim
       (λ l. ap (λ (E : Outcome). getD (plane x (E .planes)) (r * (wide * sideOf x) + c) 0) first-is
-      ∙ ap (λ (q : List ℕ). getD q (r * (wide * sideOf x) + c) 0) (parts-is simple (one .strengths) wide high (planesOf one) x)
+      ∙ ap (λ (q : List ℕ). getD q (r * (wide * sideOf x) + c) 0) (parts-is simple (one .strengths) wide high (planesIn one) x)
       ∙ parts-same (omega arith) x (r * (wide * sideOf x) + c) i
-      ∙ sym (ap (λ (q : List ℕ). getD q (r * (wide * sideOf x) + c) 0) (parts-is simple (two .strengths) wide high (planesOf two) x))
+      ∙ sym (ap (λ (q : List ℕ). getD q (r * (wide * sideOf x) + c) 0) (parts-is simple (two .strengths) wide high (planesIn two) x))
       ∙ sym (ap (λ (E : Outcome). getD (plane x (E .planes)) (r * (wide * sideOf x) + c) 0) second-is))
       (λ l. ap (λ (E : Outcome). getD (plane x (E .planes)) (r * (wide * sideOf x) + c) 0) (all-same (before .no-row l)))
       (lt-or p high)
@@ -251,5 +250,5 @@ module _ (p : ℕ) (t u : Tile) (m n : Memory) (a : Alike p t u) (e : Fine t m) 
   }
 
 -- DEMAND 3 AFTER DEBLOCKING
-pub isolated-deblocked : (p : ℕ) (t u : Tile) (m n : Memory) → Alike p t u → Fine t m → Fine u n → Bytes (t .bytes) → Bytes (u .bytes) → (simple : Bool) → IsolatedDeblocked p t u m n simple
+pub isolated-deblocked : (p : ℕ) (t u : Call) (m n : Memory) → Alike p t u → Fine t m → Fine u n → Bytes (t .bytes) → Bytes (u .bytes) → (simple : Bool) → IsolatedDeblocked p t u m n simple
 isolated-deblocked = both

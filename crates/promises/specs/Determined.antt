@@ -9,36 +9,46 @@ use Rattle.numbers.specs.Clamp.{upTo, clipZ, signedTo, signedByteZ}
 use Rattle.numbers.specs.Wrap.{wrap16Of}
 use Rattle.reader.specs.Boolean.{validOf, firstReader, symbolAnswer}
 use Rattle.reader.specs.Extra.{extraAnswer}
-use Rattle.reader.specs.Header.{presentOf, probabilityOf, entriesOf, headerOf}
+use Rattle.header.specs.Header.{presentOf, probabilityOf, presentAt, probabilityAt, entriesOf, headerOf}
 use Rattle.reader.specs.Token.{tokenAnswer}
 use Rattle.reader.specs.Trees.{walkAnswer}
 use Rattle.reader.specs.declared.boolean.Reader.{Reader}
-use Rattle.segments.specs.Levels.{levelAnswer}
-use Rattle.segments.specs.Quantizers.{quantizersOf}
-use Rattle.segments.specs.declared.quantizers.Factors.{Factors}
+use Rattle.header.specs.Levels.{levelAnswer}
+use Rattle.header.specs.Quantizers.{quantizersOf}
+use Rattle.header.specs.declared.quantizers.Factors.{Factors}
 use Rattle.coefficients.specs.Tokens as Tokens
 use Rattle.coefficients.specs.Tokens.{numberAnswer, signedAnswer, tableOf}
-use Rattle.coefficients.specs.Transform.{transformOf}
+use Rattle.transform.specs.Transform.{transformOf}
 use Rattle.filter.specs.declared.answers.Rule.{Rule}
 use Rattle.filter.specs.Kernel.{samplesOf, ruleOf, stepsOf, movedOf, filterOf, pixelOf}
+use Rattle.modes.specs.Answers.{eachBelow, prefixAnswer, mainAnswer, blockAnswer, smallAnswer, modesAnswer}
 use Rattle.filter.specs.Explain.{explainOf}
-use Rattle.modes.specs.Answers.{prefixAnswer, mainAnswer, blockAnswer, smallAnswer, modesAnswer}
 use Rattle.modes.specs.Modes as Modes
 use Rattle.modes.specs.Modes.{bottomOf}
-use Rattle.modes.specs.Records.{emptyContext, contextFine, columnWritten, columnFound, modeWritten, modeFound}
+use Rattle.modes.specs.Contexts.{emptyContext, contextFine}
+use Rattle.lent.specs.Records.{columnWritten, columnFound, modeWritten, modeFound, strengthWritten, strengthFound}
+use Rattle.lent.specs.declared.sizes.Sizes.{Sizes}
+use Rattle.lent.specs.Sizes.{lumaFine, chromaFine, columnsFine, modesFine, strengthsFine, sizesFine}
+use Rattle.tile.specs.declared.Span.{Span}
+use Rattle.tile.specs.declared.Tile.{Tile}
+use Rattle.tile.specs.Checks.{sideOf, sidesOf, countOf, partitionsOf}
+use Rattle.tile.specs.Partitions.{pickOf, partOf, tokenOf, readersOf}
 use Rattle.modes.specs.declared.answers.Kinds.{Kinds}
-use Rattle.modes.specs.declared.columns.Context.{Context}
+use Rattle.modes.specs.declared.contexts.Context.{Context}
 use Rattle.residual.specs.Residual as Residual
 use Rattle.planes.specs.Paint.{paintOf}
-use Rattle.segments.specs.Frame.{framedOf}
+use Rattle.header.specs.Frame.{announcedOf, framedOf}
+use Rattle.header.specs.declared.frame.Announced.{Announced}
+use Rattle.macroblock.specs.declared.arguments.Place.{Place}
+use Rattle.macroblock.specs.declared.arguments.Readers.{Readers}
+use Rattle.macroblock.specs.declared.arguments.Around.{Around}
 use Rattle.macroblock.specs.Macroblock as Macroblock
 use Rattle.macroblock.specs.Macroblock.{Planes}
-use Rattle.macroblock.specs.StrengthRecords.{strengthWritten}
-use Rattle.filter.specs.Strengths.{strengthAnswer}
-use Rattle.segments.specs.declared.frame.Frame.{Frame}
+use Rattle.filter.specs.Strengths.{strengthAnswer, strengthFine}
+use Rattle.header.specs.declared.frame.Frame.{Frame}
 use Rattle.filter.specs.declared.strengths.Strength.{Strength}
-use Rattle.picture.specs.Checks.{Tile}
-use Rattle.picture.specs.Memory.{Memory}
+use Rattle.picture.specs.Checks.{Call}
+use Rattle.lent.specs.Memory.{Memory, filled, blankOf}
 use Rattle.casefile.specs.Run.{ranOf}
 use Rattle.deblock.specs.Deblock.{deblockOf}
 use Rattle.hookbarley.specs.Calls.{calledOf, deblockCalledOf, filteredOf}
@@ -89,30 +99,39 @@ reader-walk-tree s probs tree start r = determined (walkAnswer s probs tree star
 pub reader-extra-bits : (s probs : List ℕ) (r : Reader) → One (λ x. x ≡ extraAnswer s probs r)
 reader-extra-bits s probs r = determined (extraAnswer s probs r)
 
-pub reader-present : (entry : ℤ) → One (λ x. x ≡ presentOf entry)
-reader-present entry = determined (presentOf entry)
-
-pub reader-probability : (entry : ℤ) → One (λ x. x ≡ probabilityOf entry)
-reader-probability entry = determined (probabilityOf entry)
-
-pub reader-entries-fine : (h : List ℤ) → One (λ x. x ≡ entriesOf h)
-reader-entries-fine h = determined (entriesOf h)
-
-pub reader-header-fine : (h : List ℤ) → One (λ x. x ≡ headerOf h)
-reader-header-fine h = determined (headerOf h)
-
 pub reader-walk-token : (s table : List ℕ) (at : ℕ) (zero : Bool) (r : Reader) → One (λ x. x ≡ tokenAnswer s table at zero r)
 reader-walk-token s table at zero r = determined (tokenAnswer s table at zero r)
 
--- ---- segments
-pub segments-for-segment : (h : List ℤ) (segment : ℕ) → One (λ x. x ≡ quantizersOf h segment)
-segments-for-segment h segment = determined (quantizersOf h segment)
+-- ---- header
+pub header-present : (entry : ℤ) → One (λ x. x ≡ presentOf entry)
+header-present entry = determined (presentOf entry)
 
-pub segments-for-macroblock : (h : List ℤ) (segment : ℕ) (small : Bool) → One (λ x. x ≡ levelAnswer h segment small)
-segments-for-macroblock h segment small = determined (levelAnswer h segment small)
+pub header-probability : (entry : ℤ) → One (λ x. x ≡ probabilityOf entry)
+header-probability entry = determined (probabilityOf entry)
 
-pub segments-take : (h : List ℤ) → One (λ x. x ≡ framedOf h)
-segments-take h = determined (framedOf h)
+pub header-present-at : (h : List ℤ) (i : ℕ) → One (λ x. x ≡ presentAt h i)
+header-present-at h i = determined (presentAt h i)
+
+pub header-probability-at : (h : List ℤ) (i : ℕ) → One (λ x. x ≡ probabilityAt h i)
+header-probability-at h i = determined (probabilityAt h i)
+
+pub header-entries-fine : (h : List ℤ) → One (λ x. x ≡ entriesOf h)
+header-entries-fine h = determined (entriesOf h)
+
+pub header-header-fine : (h : List ℤ) → One (λ x. x ≡ headerOf h)
+header-header-fine h = determined (headerOf h)
+
+pub header-announced-by : (h : List ℤ) → One (λ x. x ≡ announcedOf h)
+header-announced-by h = determined (announcedOf h)
+
+pub header-for-segment : (h : List ℤ) (segment : ℕ) → One (λ x. x ≡ quantizersOf h segment)
+header-for-segment h segment = determined (quantizersOf h segment)
+
+pub header-for-macroblock : (h : List ℤ) (segment : ℕ) (small : Bool) → One (λ x. x ≡ levelAnswer h segment small)
+header-for-macroblock h segment small = determined (levelAnswer h segment small)
+
+pub header-take : (h : List ℤ) → One (λ x. x ≡ framedOf h)
+header-take h = determined (framedOf h)
 
 -- ---- coefficients
 pub coefficients-number : (s : List ℕ) (token : ℕ) (r : Reader) → One (λ x. x ≡ numberAnswer s token r)
@@ -130,27 +149,34 @@ coefficients-decode s r table kind ctx first q0 q1 out = determined (Tokens.deco
 pub coefficients-decode-header : (s : List ℕ) (r : Reader) (h : List ℤ) (kind ctx first q0 q1 : ℕ) (out : List ℤ) → One (λ x. x ≡ Tokens.decodeHeaderOf s r h kind ctx first q0 q1 out)
 coefficients-decode-header s r h kind ctx first q0 q1 out = determined (Tokens.decodeHeaderOf s r h kind ctx first q0 q1 out)
 
-pub coefficients-transform : (c : List ℤ) (walsh : Bool) → One (λ x. x ≡ transformOf c walsh)
-coefficients-transform c walsh = determined (transformOf c walsh)
+-- ---- transform
+pub transform-transform : (c : List ℤ) (walsh : Bool) → One (λ x. x ≡ transformOf c walsh)
+transform-transform c walsh = determined (transformOf c walsh)
 
--- ---- kernel
-pub kernel-filter : (e : List ℕ) (simple edge : Bool) (limit inner threshold : ℕ) → One (λ x. x ≡ filterOf e simple edge limit inner threshold)
-kernel-filter e simple edge limit inner threshold = determined (filterOf e simple edge limit inner threshold)
+-- ---- filter
+pub filter-filter : (e : List ℕ) (simple edge : Bool) (limit inner threshold : ℕ) → One (λ x. x ≡ filterOf e simple edge limit inner threshold)
+filter-filter e simple edge limit inner threshold = determined (filterOf e simple edge limit inner threshold)
 
-pub kernel-pixel : (e : List ℕ) (simple edge : Bool) (limit inner threshold k : ℕ) → One (λ x. x ≡ pixelOf e simple edge limit inner threshold k)
-kernel-pixel e simple edge limit inner threshold k = determined (pixelOf e simple edge limit inner threshold k)
+pub filter-pixel : (e : List ℕ) (simple edge : Bool) (limit inner threshold k : ℕ) → One (λ x. x ≡ pixelOf e simple edge limit inner threshold k)
+filter-pixel e simple edge limit inner threshold k = determined (pixelOf e simple edge limit inner threshold k)
 
-pub kernel-rule : (e : List ℕ) (simple edge : Bool) (limit inner threshold : ℕ) → One (λ x. x ≡ ruleOf (samplesOf e) simple edge limit inner threshold)
-kernel-rule e simple edge limit inner threshold = determined (ruleOf (samplesOf e) simple edge limit inner threshold)
+pub filter-rule : (e : List ℕ) (simple edge : Bool) (limit inner threshold : ℕ) → One (λ x. x ≡ ruleOf (samplesOf e) simple edge limit inner threshold)
+filter-rule e simple edge limit inner threshold = determined (ruleOf (samplesOf e) simple edge limit inner threshold)
 
-pub kernel-acted : (e : List ℕ) (rule : Rule) → One (λ x. x ≡ movedOf e (stepsOf rule (samplesOf e)))
-kernel-acted e rule = determined (movedOf e (stepsOf rule (samplesOf e)))
+pub filter-acted : (e : List ℕ) (rule : Rule) → One (λ x. x ≡ movedOf e (stepsOf rule (samplesOf e)))
+filter-acted e rule = determined (movedOf e (stepsOf rule (samplesOf e)))
 
-pub kernel-added : (e : List ℕ) (rule : Rule) → One (λ x. x ≡ stepsOf rule (samplesOf e))
-kernel-added e rule = determined (stepsOf rule (samplesOf e))
+pub filter-at-level : (level sharp : ℕ) (inside : Bool) → One (λ x. x ≡ strengthAnswer level sharp inside)
+filter-at-level level sharp inside = determined (strengthAnswer level sharp inside)
 
-pub kernel-explain : (e : List ℕ) (simple edge : Bool) (limit inner threshold : ℕ) → One (λ x. x ≡ explainOf e simple edge limit inner threshold)
-kernel-explain e simple edge limit inner threshold = determined (explainOf e simple edge limit inner threshold)
+pub filter-strength-fine : (t : Strength) → One (λ x. x ≡ strengthFine t)
+filter-strength-fine t = determined (strengthFine t)
+
+pub filter-added : (e : List ℕ) (rule : Rule) → One (λ x. x ≡ stepsOf rule (samplesOf e))
+filter-added e rule = determined (stepsOf rule (samplesOf e))
+
+pub filter-explain : (e : List ℕ) (simple edge : Bool) (limit inner threshold : ℕ) → One (λ x. x ≡ explainOf e simple edge limit inner threshold)
+filter-explain e simple edge limit inner threshold = determined (explainOf e simple edge limit inner threshold)
 
 -- ---- modes
 pub modes-prefix : (s : List ℕ) (r : Reader) (h : List ℤ) → One (λ x. x ≡ prefixAnswer s r h)
@@ -165,8 +191,8 @@ modes-block-mode s r top left = determined (blockAnswer s r top left)
 pub modes-small-modes : (s : List ℕ) (r : Reader) (top left modes : List ℕ) → One (λ x. x ≡ smallAnswer s r top left modes)
 modes-small-modes s r top left modes = determined (smallAnswer s r top left modes)
 
-pub modes-read-modes : (s : List ℕ) (h : List ℤ) (r : Reader) (top left modes : List ℕ) → One (λ x. x ≡ modesAnswer s h r top left modes)
-modes-read-modes s h r top left modes = determined (modesAnswer s h r top left modes)
+pub modes-read-modes : (s : List ℕ) (announced : Announced) (r : Reader) (top left modes : List ℕ) → One (λ x. x ≡ modesAnswer s announced r top left modes)
+modes-read-modes s announced r top left modes = determined (modesAnswer s announced r top left modes)
 
 pub modes-empty : One (λ x. x ≡ emptyContext)
 modes-empty = determined emptyContext
@@ -177,20 +203,11 @@ modes-bottom modes = determined (bottomOf modes)
 pub modes-right : (modes : List ℕ) → One (λ x. x ≡ Modes.rightOf modes)
 modes-right modes = determined (Modes.rightOf modes)
 
+pub modes-each-below : (l : List ℕ) (limit : ℕ) → One (λ x. x ≡ eachBelow limit l)
+modes-each-below l limit = determined (eachBelow limit l)
+
 pub modes-context-fine : (c : Context) → One (λ x. x ≡ contextFine c)
 modes-context-fine c = determined (contextFine c)
-
-pub modes-write-column : (mem : List ℕ) (column : ℕ) (c : Context) → One (λ x. x ≡ columnWritten mem column c)
-modes-write-column mem column c = determined (columnWritten mem column c)
-
-pub modes-read-column : (mem : List ℕ) (column : ℕ) → One (λ x. x ≡ columnFound mem column)
-modes-read-column mem column = determined (columnFound mem column)
-
-pub modes-write-mode-record : (mem : List ℕ) (i : ℕ) (kinds : Kinds) (modes : List ℕ) → One (λ x. x ≡ modeWritten mem i kinds modes)
-modes-write-mode-record mem i kinds modes = determined (modeWritten mem i kinds modes)
-
-pub modes-read-mode-record : (mem : List ℕ) (i : ℕ) → One (λ x. x ≡ modeFound mem i)
-modes-read-mode-record mem i = determined (modeFound mem i)
 
 -- ---- residual
 pub residual-decode : (s : List ℕ) (r : Reader) (table : List ℕ) (f : Factors) (small skip : Bool) (top left : List ℕ) (out : List ℤ) → One (λ x. x ≡ Residual.decodeOf s r table f small skip top left out)
@@ -203,15 +220,77 @@ residual-decode-header s r h segment small skip top left out = determined (Resid
 pub planes-paint : (plane : List ℕ) (stride column row size : ℕ) (small : Bool) (mode : ℕ) (modes : List ℕ) (coefficients : List ℤ) → One (λ x. x ≡ paintOf plane stride column row size small mode modes coefficients)
 planes-paint plane stride column row size small mode modes coefficients = determined (paintOf plane stride column row size small mode modes coefficients)
 
+-- ---- tile
+pub tile-side-fine : (n : ℕ) → One (λ x. x ≡ sideOf n)
+tile-side-fine n = determined (sideOf n)
+
+pub tile-sides-fine : (w h : ℕ) → One (λ x. x ≡ sidesOf w h)
+tile-sides-fine w h = determined (sidesOf w h)
+
+pub tile-count-fine : (count : ℕ) → One (λ x. x ≡ countOf count)
+tile-count-fine count = determined (countOf count)
+
+pub tile-partitions-fine : (bytes : List ℕ) (t : Tile) → One (λ x. x ≡ partitionsOf bytes t)
+tile-partitions-fine bytes t = determined (partitionsOf bytes t)
+
+pub tile-pick : (row count : ℕ) → One (λ x. x ≡ pickOf row count)
+tile-pick row count = determined (pickOf row count)
+
+pub tile-part : (bytes : List ℕ) (s : Span) → One (λ x. x ≡ partOf bytes s)
+tile-part bytes s = determined (partOf bytes s)
+
+pub tile-token : (bytes : List ℕ) (t : Tile) (i : ℕ) → One (λ x. x ≡ tokenOf bytes t i)
+tile-token bytes t i = determined (tokenOf bytes t i)
+
+pub tile-openers : (bytes : List ℕ) (t : Tile) → One (λ x. x ≡ readersOf bytes t)
+tile-openers bytes t = determined (readersOf bytes t)
+
+-- ---- lent
+pub lent-fill : (mem : List ℕ) (value : ℕ) → One (λ x. x ≡ filled mem value)
+lent-fill mem value = determined (filled mem value)
+
+pub lent-blank : (m : Memory) → One (λ x. x ≡ blankOf m)
+lent-blank m = determined (blankOf m)
+
+pub lent-luma-fine : (w h n : ℕ) → One (λ x. x ≡ lumaFine w h n)
+lent-luma-fine w h n = determined (lumaFine w h n)
+
+pub lent-chroma-fine : (w h n : ℕ) → One (λ x. x ≡ chromaFine w h n)
+lent-chroma-fine w h n = determined (chromaFine w h n)
+
+pub lent-columns-fine : (w h n : ℕ) → One (λ x. x ≡ columnsFine w h n)
+lent-columns-fine w h n = determined (columnsFine w h n)
+
+pub lent-modes-fine : (w h n : ℕ) → One (λ x. x ≡ modesFine w h n)
+lent-modes-fine w h n = determined (modesFine w h n)
+
+pub lent-strengths-fine : (w h n : ℕ) → One (λ x. x ≡ strengthsFine w h n)
+lent-strengths-fine w h n = determined (strengthsFine w h n)
+
+pub lent-sizes-fine : (w h : ℕ) (z : Sizes) → One (λ x. x ≡ sizesFine w h z)
+lent-sizes-fine w h z = determined (sizesFine w h z)
+
+pub lent-write-column : (mem : List ℕ) (column : ℕ) (c : Context) → One (λ x. x ≡ columnWritten mem column c)
+lent-write-column mem column c = determined (columnWritten mem column c)
+
+pub lent-read-column : (mem : List ℕ) (column : ℕ) → One (λ x. x ≡ columnFound mem column)
+lent-read-column mem column = determined (columnFound mem column)
+
+pub lent-write-mode-record : (mem : List ℕ) (i : ℕ) (kinds : Kinds) (modes : List ℕ) → One (λ x. x ≡ modeWritten mem i kinds modes)
+lent-write-mode-record mem i kinds modes = determined (modeWritten mem i kinds modes)
+
+pub lent-read-mode-record : (mem : List ℕ) (i : ℕ) → One (λ x. x ≡ modeFound mem i)
+lent-read-mode-record mem i = determined (modeFound mem i)
+
+pub lent-write-strength : (mem : List ℕ) (i : ℕ) (t : Strength) → One (λ x. x ≡ strengthWritten mem i t)
+lent-write-strength mem i t = determined (strengthWritten mem i t)
+
+pub lent-read-strength : (mem : List ℕ) (i : ℕ) → One (λ x. x ≡ strengthFound mem i)
+lent-read-strength mem i = determined (strengthFound mem i)
+
 -- ---- macroblock
-pub macroblock-at-level : (level sharp : ℕ) (inside : Bool) → One (λ x. x ≡ strengthAnswer level sharp inside)
-macroblock-at-level level sharp inside = determined (strengthAnswer level sharp inside)
-
-pub macroblock-write-strength : (mem : List ℕ) (i : ℕ) (t : Strength) → One (λ x. x ≡ strengthWritten mem i t)
-macroblock-write-strength mem i t = determined (strengthWritten mem i t)
-
-pub macroblock-decode : (s : List ℕ) (r : Reader) (tokens : List ℕ) (t : Reader) (h : List ℤ) (table : List ℕ) (frame : Frame) (top left : Context) (w column row : ℕ) (p : Planes) → One (λ x. x ≡ Macroblock.decodeOf s r tokens t h table frame top left w column row p)
-macroblock-decode s r tokens t h table frame top left w column row p = determined (Macroblock.decodeOf s r tokens t h table frame top left w column row p)
+pub macroblock-decode : (first tokens : List ℕ) (readers : Readers) (frame : Frame) (table : List ℕ) (around : Around) (place : Place) (p : Planes) → One (λ x. x ≡ Macroblock.decodeOf first tokens readers frame table around place p)
+macroblock-decode first tokens readers frame table around place p = determined (Macroblock.decodeOf first tokens readers frame table around place p)
 
 -- ---- picture
 pub picture-number : (d : Decoded) → One (λ x. x ≡ numberOf d)
@@ -220,7 +299,7 @@ picture-number d = determined (numberOf d)
 pub picture-finished : (d : Decoded) → One (λ x. x ≡ valuesOf d)
 picture-finished d = determined (valuesOf d)
 
-pub picture-decode : (t : Tile) (m : Memory) → One (λ x. x ≡ pictureOf t m)
+pub picture-decode : (t : Call) (m : Memory) → One (λ x. x ≡ pictureOf t m)
 picture-decode t m = determined (pictureOf t m)
 
 -- ---- deblock
@@ -239,8 +318,8 @@ pub webp-wrap : (frame out : List ℕ) → One (λ x. x ≡ wrapOf frame out)
 webp-wrap frame out = determined (wrapOf frame out)
 
 -- ---- hookbarley
-pub hookbarley-decode : (t : Tile) (m : Memory) → One (λ x. x ≡ calledOf t m)
-hookbarley-decode t m = determined (calledOf t m)
+pub hookbarley-decode : (starts lengths : List ℕ) (c : Call) (m : Memory) → One (λ x. x ≡ calledOf starts lengths c m)
+hookbarley-decode starts lengths c m = determined (calledOf starts lengths c m)
 
 pub hookbarley-deblock : (d : Planes) (strengths : List ℕ) (w h simple : ℕ) → One (λ x. x ≡ deblockCalledOf d strengths w h simple)
 hookbarley-deblock d strengths w h simple = determined (deblockCalledOf d strengths w h simple)

@@ -6,17 +6,18 @@ use mathlib.Core.Logic.{_⊎_, inl, inr}
 use native.Mathlib.Nat.{add-mul, one-mul, mul-comm, div-eq-of-lt-le, div-add-mod}
 use native.Mathlib.Omega.{arith}
 use lib.ListN.{length, getD, replicate, getD-replicate, length-replicate}
+use lib.Dec.{lit<}
 use Rattle.numbers.specs.Lists.{getD-constant}
 use Rattle.numbers.specs.Tests.{lt-or}
 use Rattle.reader.specs.BooleanLaws.{Bytes}
 use Rattle.modes.specs.Answers.{kindsOf}
-use Rattle.modes.specs.RecordsLaws.{mode-set-in}
 use Rattle.planes.specs.Places.{Outside, next-row}
 use Rattle.macroblock.specs.Macroblock.{Finished, finished}
-use Rattle.macroblock.specs.StrengthRecordsLaws.{strength-set-in}
-use Rattle.picture.specs.Memory.{Memory}
-use Rattle.picture.specs.Checks.{Tile}
-use Rattle.picture.specs.Picture.{State, Ended, cutOut, startOf, stepAt, nextOf, pictureOf}
+use Rattle.lent.specs.Records.{modeWidth, strengthWidth, modeRecord, strengthRecord}
+use Rattle.lent.specs.RecordsLaws.{record-set-in}
+use Rattle.lent.specs.Memory.{Memory}
+use Rattle.picture.specs.Checks.{Call}
+use Rattle.picture.specs.Picture.{State, Ended, picturedOf, begunOf, stepAt, nextOf, pictureOf}
 use Rattle.picture.specs.PictureLaws.{room-at}
 use Rattle.promises.specs.Refusals.{Fine, fine-is}
 use Rattle.promises.specs.Reached.{Reached, after}
@@ -48,63 +49,63 @@ module _ (wide n k c r : ℕ) (o : k ≡ r / n * wide + c / n → ⊥) where
           absurd (o (sym (div-add-mod k wide) ∙ ap (λ (i : ℕ). i + k % wide) (mul-comm wide (k / wide)) ∙ sym (same (held (k / wide) r d e) (held (k % wide) c a b))))
 
 -- ---- blank memory
-module _ (t : Tile) (m : Memory) (z : Sound (cutOut t) (startOf t m)) where
-  plane-long : (a : Plane) → length (planeOf a m) ≡ t .height / 16 * sideOf a * (t .width / 16 * sideOf a)
+module _ (t : Call) (m : Memory) (z : Sound (picturedOf t) (begunOf t m)) where
+  plane-long : (a : Plane) → length (planeOf a m) ≡ t .tile .height / 16 * sideOf a * (t .tile .width / 16 * sideOf a)
   plane-long luma = sym (length-replicate (length (m .y)) 128) ∙ z .live .y
-  plane-long blue = sym (length-replicate (length (m .u)) 128) ∙ z .live .u ∙ ap (λ (w : ℕ). t .height / 16 * 8 * w) {x = t .width / 16 * 16 / 2} {y = t .width / 16 * 8} (omega arith)
-  plane-long red = sym (length-replicate (length (m .v)) 128) ∙ z .live .v ∙ ap (λ (w : ℕ). t .height / 16 * 8 * w) {x = t .width / 16 * 16 / 2} {y = t .width / 16 * 8} (omega arith)
+  plane-long blue = sym (length-replicate (length (m .u)) 128) ∙ z .live .u ∙ ap (λ (w : ℕ). t .tile .height / 16 * 8 * w) {x = t .tile .width / 16 * 16 / 2} {y = t .tile .width / 16 * 8} (omega arith)
+  plane-long red = sym (length-replicate (length (m .v)) 128) ∙ z .live .v ∙ ap (λ (w : ℕ). t .tile .height / 16 * 8 * w) {x = t .tile .width / 16 * 16 / 2} {y = t .tile .width / 16 * 8} (omega arith)
 
-  blank-plane : (a : Plane) → planeOf a (startOf t m .mem) ≡ replicate (length (planeOf a m)) 128
+  blank-plane : (a : Plane) → planeOf a (begunOf t m .mem) ≡ replicate (length (planeOf a m)) 128
   blank-plane luma = refl
   blank-plane blue = refl
   blank-plane red = refl
 
-  blank-sample : (a : Plane) (c r : ℕ) → Inside t a c r → sampleOf (t .width / 16) a c r (startOf t m .mem) ≡ 128
+  blank-sample : (a : Plane) (c r : ℕ) → Inside t a c r → sampleOf (t .tile .width / 16) a c r (begunOf t m .mem) ≡ 128
   blank-sample a c r h =
-      ap (λ (p : List ℕ). getD p (r * (t .width / 16 * sideOf a) + c) 0) (blank-plane a)
-      ∙ getD-replicate (length (planeOf a m)) (r * (t .width / 16 * sideOf a) + c) 128 0
-      (rw (plane-long a) (omega (arith, h .across, next-row r (t .height / 16 * sideOf a) (t .width / 16 * sideOf a) (h .down))))
+      ap (λ (p : List ℕ). getD p (r * (t .tile .width / 16 * sideOf a) + c) 0) (blank-plane a)
+      ∙ getD-replicate (length (planeOf a m)) (r * (t .tile .width / 16 * sideOf a) + c) 128 0
+      (rw (plane-long a) (omega (arith, h .across, next-row r (t .tile .height / 16 * sideOf a) (t .tile .width / 16 * sideOf a) (h .down))))
 
 -- ---- a macroblock that is finished
 -- where the picture ends
-last-is : (t : Tile) (m : Memory) → Fine t m → Last (cutOut t) (startOf t m) (macroblocks t) (pictureOf t m)
-last-is t m e = subst (Last (cutOut t) (startOf t m) (macroblocks t)) (sym (fine-is t m e)) (last (ending (cutOut t) (startOf t m) (macroblocks t)))
+last-is : (t : Call) (m : Memory) → Fine t m → Last (picturedOf t) (begunOf t m) (macroblocks t) (pictureOf t m)
+last-is t m e = subst (Last (picturedOf t) (begunOf t m) (macroblocks t)) (sym (fine-is t m e)) (last (ending (picturedOf t) (begunOf t m) (macroblocks t)))
 
-module _ (t : Tile) (m : Memory) (e : Fine t m) (z : Sound (cutOut t) (startOf t m)) where
-  end : Last (cutOut t) (startOf t m) (macroblocks t) (pictureOf t m)
+module _ (t : Call) (m : Memory) (e : Fine t m) (z : Sound (picturedOf t) (begunOf t m)) where
+  end : Last (picturedOf t) (begunOf t m) (macroblocks t) (pictureOf t m)
   end = last-is t m e
 
   -- what no later one touches
-  stays : (g : Memory → ℕ) {k : ℕ} {S : State} {x : Finished} → k < macroblocks t → Reached (cutOut t) (startOf t m) k S → stepAt (cutOut t) k S ≡ finished x
-      → ((j : ℕ) → k < j → j < macroblocks t → Keeps (cutOut t) g j) → g (pictureOf t m .mem) ≡ g (nextOf (cutOut t) k S x .mem)
+  stays : (g : Memory → ℕ) {k : ℕ} {S : State} {x : Finished} → k < macroblocks t → Reached (picturedOf t) (begunOf t m) k S → stepAt (picturedOf t) k S ≡ finished x
+      → ((j : ℕ) → k < j → j < macroblocks t → Keeps (picturedOf t) g j) → g (pictureOf t m .mem) ≡ g (nextOf (picturedOf t) k S x .mem)
   stays g h r s f = ap (λ (E : Ended). g (E .mem)) (fine-is t m e) ∙ rest-keeps z g (omega arith) (after r s) (λ j l i. f j (omega arith) i)
 
-  made-at : {k : ℕ} {S : State} → k < macroblocks t → Latest (cutOut t) (startOf t m) k S → Made t m k
+  made-at : {k : ℕ} {S : State} → k < macroblocks t → Latest (picturedOf t) (begunOf t m) k S → Made t m k
   made-at {k} h l =
       let live = live-reached z (omega arith) (l .reached) in
-      let room = room-at (cutOut t) (l .found) k (z .shared) live h in
+      let room = room-at (picturedOf t) (l .found) k (z .shared) live h in
       record {
         found = l .found;
         made = l .made;
         reached = l .reached;
         step = l .step;
-        samples = λ a c r i o. stays (sampleOf (t .width / 16) a c r) h (l .reached) (l .step)
-            (λ j g v. keeps-sample z j v a c r (i .across) (other-block (t .width / 16) (sideOf a) j c r (λ q. omega arith)));
+        samples = λ a c r i o. stays (sampleOf (t .tile .width / 16) a c r) h (l .reached) (l .step)
+            (λ j g v. keeps-sample z j v a c r (i .across) (other-block (t .tile .width / 16) (sideOf a) j c r (λ q. omega arith)));
         kinds = λ i o. stays (modeByte (k * 20 + i)) h (l .reached) (l .step) (λ j g v. keeps-mode z j v (k * 20 + i) (inl (omega arith)))
-            ∙ mode-set-in (l .found .mem .modes) k (kindsOf (l .made .modes)) (l .made .modes .modes) (room .modes) i o;
+            ∙ record-set-in modeWidth (l .found .mem .modes) k (modeRecord (kindsOf (l .made .modes)) (l .made .modes .modes)) (lit< tt) (room .modes) i o;
         strength = λ i o. stays (strengthByte (k * 4 + i)) h (l .reached) (l .step) (λ j g v. keeps-strength z j v (k * 4 + i) (inl (omega arith)))
-            ∙ strength-set-in (l .found .mem .strengths) k (l .made .strength) (room .strengths) i o;
+            ∙ record-set-in strengthWidth (l .found .mem .strengths) k (strengthRecord (l .made .strength)) (lit< tt) (room .strengths) i o;
       }
 
   -- what none that is finished touches
-  untouched : (g : Memory → ℕ) → ((j : ℕ) → j < done t m → j < macroblocks t → Keeps (cutOut t) g j) → g (pictureOf t m .mem) ≡ g (startOf t m .mem)
+  untouched : (g : Memory → ℕ) → ((j : ℕ) → j < done t m → j < macroblocks t → Keeps (picturedOf t) g j) → g (pictureOf t m .mem) ≡ g (begunOf t m .mem)
   untouched g f = ap g (end .mem) ∙ reached-keeps z g (end .upto) (end .reached) (λ j l. f j l (omega (arith, end .upto)))
 
   grey-all : FinishedOrGrey t m
   grey-all = record {
     before = λ k h. made-at (omega (arith, end .upto)) (latest (reached-before (suc k) (omega arith) (end .reached) .reached));
-    grey = λ a c r i h. untouched (sampleOf (t .width / 16) a c r)
-        (λ j l v. keeps-sample z j v a c r (i .across) (other-block (t .width / 16) (sideOf a) j c r (λ q. omega arith)))
+    grey = λ a c r i h. untouched (sampleOf (t .tile .width / 16) a c r)
+        (λ j l v. keeps-sample z j v a c r (i .across) (other-block (t .tile .width / 16) (sideOf a) j c r (λ q. omega arith)))
         ∙ blank-sample t m z a c r i;
     no-kinds = λ i h. untouched (modeByte i) (λ j l v. keeps-mode z j v i (inr (omega arith))) ∙ getD-constant (length (m .modes)) i 0;
     no-strengths = λ i h. untouched (strengthByte i) (λ j l v. keeps-strength z j v i (inr (omega arith))) ∙ getD-constant (length (m .strengths)) i 0;
@@ -114,5 +115,5 @@ module _ (t : Tile) (m : Memory) (e : Fine t m) (z : Sound (cutOut t) (startOf t
   }
 
 -- DEMAND 1, after 0, 6 and 7. That the bytes are bytes is what the call's type says
-pub finished-or-grey : (t : Tile) (m : Memory) → Bytes (t .bytes) → Fine t m → FinishedOrGrey t m
+pub finished-or-grey : (t : Call) (m : Memory) → Bytes (t .bytes) → Fine t m → FinishedOrGrey t m
 finished-or-grey t m b e = grey-all t m e (sound t m b e)

@@ -3,20 +3,22 @@ use Prim.Native.Nat.{ℕ, zero, suc, _+_, _-_, _*_, _/_, _≤_, _<_}
 use mathlib.Core.Path.{_≡_, refl, sym, _∙_, ap, subst}
 use mathlib.Core.List.{List}
 use mathlib.Core.Logic.{_⊎_, inl, inr, ⊎-elim}
-use native.Mathlib.Nat.{mod-lt, mod-eq-of-lt, div-lt-iff-lt-mul, le-div-iff-mul-le, mul-comm, mul-le-mul-right}
+use native.Mathlib.Nat.{mod-eq-of-lt, div-lt-iff-lt-mul, le-div-iff-mul-le, mul-comm, mul-le-mul-right}
 use native.Mathlib.Omega.{arith}
-use lib.ListN.{length, getD}
-use lib.Seq.{ext-getD}
+use lib.ListN.{getD}
 use Rattle.numbers.specs.Tests.{lt-or, eq-or}
-use Rattle.reader.specs.Boolean.{firstReader, noReader}
+use Rattle.reader.specs.Boolean.{noReader}
 use Rattle.reader.specs.BooleanLaws.{Bytes}
-use Rattle.modes.specs.Records.{columnAt}
-use Rattle.picture.specs.Memory.{Memory, sizesOf}
-use Rattle.picture.specs.Partitions.{partOf, tokenOf, readersOf}
-use Rattle.picture.specs.PartitionsLaws.{part-length, part-at, readers-at, readers-length, reader-first}
-use Rattle.picture.specs.Checks.{Tile}
+use Rattle.lent.specs.Records.{columnAt}
+use Rattle.lent.specs.Memory.{Memory, sizesOf}
+use Rattle.coefficients.specs.Tokens.{headerTable}
+use Rattle.header.specs.declared.frame.Frame.{Frame}
+use Rattle.header.specs.Frame.{frameOf}
+use Rattle.tile.specs.Partitions.{spanAt, tokenOf, readersOf}
+use Rattle.tile.specs.PartitionsLaws.{part-same, readers-same, readers-length, pick-some, pick-below}
+use Rattle.picture.specs.Checks.{Call}
 use Rattle.picture.specs.ChecksLaws.{fine-side, fine-count, fine-partitions}
-use Rattle.picture.specs.Picture.{Picture, State, Ended, cutOut, startOf, rowOf, partitionOf, runOf, pictureOf, valuesOf}
+use Rattle.picture.specs.Picture.{Picture, State, Ended, picturedOf, begunOf, rowOf, partitionOf, runOf, pictureOf, valuesOf}
 use Rattle.promises.specs.Refusals.{Fine, fine-is, blank-same, sizes-same}
 use Rattle.promises.specs.Reached.{Reached}
 use Rattle.promises.specs.ReachedLaws.{values-from, ending, last, reached-before}
@@ -45,97 +47,87 @@ module _ {P : Picture} {S₀ : State} (z : Sound P S₀) (p k : ℕ) (g : p * P 
   strengths-kept i l = keeps-strength z k h i (inl (omega arith))
 
 -- ---- the contents of partitions
-part-same : (b c : List ℕ) (s r n m : ℕ) → n ≡ m → s + n ≤ length b → r + m ≤ length c → ((i : ℕ) → i < n → getD b (s + i) 0 ≡ getD c (r + i) 0) → partOf b s n ≡ partOf c r m
-part-same b c s r n m e f g h =
-    let l : length (partOf b s n) ≡ n = part-length b s n f in
-    let k : length (partOf c r m) ≡ m = part-length c r m g in
-    ext-getD 0 (partOf b s n) (partOf c r m) (l ∙ e ∙ sym k)
-    (λ i o. let a : i < n = rw l at o in let d : i < m = omega arith in part-at b s n i a ∙ h i a ∙ sym (part-at c r m i d))
-
-module _ (p : ℕ) (t u : Tile) (m n : Memory) (a : Alike p t u) (e : Fine t m) (f : Fine u n) where
-  token-same : (q : ℕ) → q < t .count → SameTokens t u q → tokenOf (t .bytes) (t .starts) (t .lengths) q ≡ tokenOf (u .bytes) (u .starts) (u .lengths) q
+module _ (p : ℕ) (t u : Call) (m n : Memory) (a : Alike p t u) (e : Fine t m) (f : Fine u n) where
+  token-same : (q : ℕ) → q < t .tile .count → SameTokens t u q → tokenOf (t .bytes) (t .tile) q ≡ tokenOf (u .bytes) (u .tile) q
   token-same q h s =
-      part-same (t .bytes) (u .bytes) (getD (t .starts) q 0) (getD (u .starts) q 0) (getD (t .lengths) q 0) (getD (u .lengths) q 0) (a .lengths q h)
-      (fine-partitions t (sizesOf m) e .tokens q h .fits) (fine-partitions u (sizesOf n) f .tokens q (rw (a .count) at h) .fits) s
+      part-same (t .bytes) (u .bytes) (spanAt (t .tile) q) (spanAt (u .tile) q) (fine-partitions t (sizesOf m) e .tokens q h)
+      (fine-partitions u (sizesOf n) f .tokens q (rw (a .count) at h)) (a .lengths q h) s
 
-  few : t .count ≤ 8
+  few : t .tile .count ≤ 8
   few = fine-count t (sizesOf m) e .most
 
-  some : 1 ≤ t .count
+  some : 1 ≤ t .tile .count
   some = fine-count t (sizesOf m) e .least
 
-  module _ (U : ℕ → Type 0) (below : (q : ℕ) → U q → q < t .count) (same : (q : ℕ) → U q → SameTokens t u q) where
-    twins : Twins U (cutOut t) (cutOut u)
+  module _ (U : ℕ → Type 0) (below : (q : ℕ) → U q → q < t .tile .count) (same : (q : ℕ) → U q → SameTokens t u q) where
+    twins : Twins U (picturedOf t) (picturedOf u)
     twins = record {
-      first = part-same (t .bytes) (u .bytes) (t .firstStart) (u .firstStart) (t .firstLength) (u .firstLength) (a .firstLength) (fine-partitions t (sizesOf m) e .first .fits) (fine-partitions u (sizesOf n) f .first .fits) (a .first);
+      first = part-same (t .bytes) (u .bytes) (t .tile .first) (u .tile .first) (fine-partitions t (sizesOf m) e .first) (fine-partitions u (sizesOf n) f .first) (a .firstLength) (a .first);
       count = a .count;
       few = few;
-      header = a .header;
+      frame = ap frameOf (a .header);
+      table = ap headerTable (a .header);
       wide = ap (λ (w : ℕ). w / 16) (a .width);
       token = λ q h. token-same q (below q h) (same q h);
     }
 
-    reader-same : (q : ℕ) → U q → getD (readersOf (t .bytes) (t .starts) (t .lengths) (t .count)) q noReader ≡ getD (readersOf (u .bytes) (u .starts) (u .lengths) (u .count)) q noReader
+    reader-same : (q : ℕ) → U q → getD (readersOf (t .bytes) (t .tile)) q noReader ≡ getD (readersOf (u .bytes) (u .tile)) q noReader
     reader-same q h =
         let l = below q h in
-        let k : q < u .count = rw (a .count) at l in
-        let o : q < 8 = omega (arith, few) in
-        readers-at (t .bytes) (t .starts) (t .lengths) (t .count) q noReader o ∙ reader-first (t .bytes) (t .starts) (t .lengths) (t .count) q l
-        ∙ ap firstReader (token-same q l (same q h))
-        ∙ sym (readers-at (u .bytes) (u .starts) (u .lengths) (u .count) q noReader o ∙ reader-first (u .bytes) (u .starts) (u .lengths) (u .count) q k)
+        readers-same (t .bytes) (u .bytes) (t .tile) (u .tile) q noReader (omega (arith, few)) l (rw (a .count) at l) (token-same q l (same q h))
 
-    start-same : Same U (startOf t m) (startOf u n)
+    start-same : Same U (begunOf t m) (begunOf u n)
     start-same = record {
       reader = a .reader;
-      eight = readers-length (t .bytes) (t .starts) (t .lengths) (t .count);
-      eight′ = readers-length (u .bytes) (u .starts) (u .lengths) (u .count);
+      eight = readers-length (t .bytes) (t .tile);
+      eight′ = readers-length (u .bytes) (u .tile);
       readers = reader-same;
       left = refl;
       mem = blank-same m n (sizes-same t u m n (a .width) (a .height) e f);
     }
 
   -- the call of the second tile, as many macroblocks as the first has
-  second-is : pictureOf u n ≡ runOf (macroblocks t) (cutOut u) 0 (startOf u n)
+  second-is : pictureOf u n ≡ runOf (macroblocks t) (picturedOf u) 0 (begunOf u n)
   second-is =
-      let g : runOf (macroblocks t) (cutOut u) 0 (startOf u n) ≡ runOf (macroblocks u) (cutOut u) 0 (startOf u n) = λ i. runOf (a .width i / 16 * (a .height i / 16)) (cutOut u) 0 (startOf u n) in
+      let g : runOf (macroblocks t) (picturedOf u) 0 (begunOf u n) ≡ runOf (macroblocks u) (picturedOf u) 0 (begunOf u n) = λ i. runOf (a .width i / 16 * (a .height i / 16)) (picturedOf u) 0 (begunOf u n) in
       fine-is u n f ∙ sym g
 
-  inside : (k : ℕ) → partitionOf (cutOut t) k < t .count
-  inside k = mod-lt (rowOf (cutOut t) k) {m = t .count} some
+  inside : (k : ℕ) → partitionOf (picturedOf t) k < t .tile .count
+  inside k = pick-below (rowOf (picturedOf t) k) (t .tile .count) some
 
   -- every partition that is read is the same
-  all-same : ((q : ℕ) → q < t .count → SameTokens t u q) → pictureOf t m ≡ pictureOf u n
+  all-same : ((q : ℕ) → q < t .tile .count → SameTokens t u q) → pictureOf t m ≡ pictureOf u n
   all-same s =
-      let U : ℕ → Type 0 = λ q. q < t .count in
+      let U : ℕ → Type 0 = λ q. q < t .tile .count in
       fine-is t m e
       ∙ all-alike (twins U (λ q h. h) s) (macroblocks t) (λ k h. inside k) (λ k h. inside k) (start-same U (λ q h. h) s) (macroblocks t) (omega arith)
       ∙ sym second-is
 
   -- ---- the rows above row p
-  wide-some : 0 < t .width / 16
+  wide-some : 0 < t .tile .width / 16
   wide-some = omega (arith, fine-side t (sizesOf m) e .width .least)
 
   -- partitions below the count that are not p
   abbrev Rest : ℕ → Type 0
-  Rest q = (q < t .count) × (q ≡ p → ⊥)
+  Rest q = (q < t .tile .count) × (q ≡ p → ⊥)
 
-  module _ (h : p < t .count) where
+  module _ (h : p < t .tile .count) where
     -- above row p no macroblock reads partition p
-    apart : (k : ℕ) → k < p * (t .width / 16) → partitionOf (cutOut t) k ≡ p → ⊥
+    apart : (k : ℕ) → k < p * (t .tile .width / 16) → partitionOf (picturedOf t) k ≡ p → ⊥
     apart k l z =
-        let r : rowOf (cutOut t) k < p = div-lt-iff-lt-mul wide-some .1 l in
-        let o : partitionOf (cutOut t) k ≡ rowOf (cutOut t) k = mod-eq-of-lt (omega arith) in
+        let r : rowOf (picturedOf t) k < p = div-lt-iff-lt-mul wide-some .1 l in
+        let o : partitionOf (picturedOf t) k ≡ rowOf (picturedOf t) k = sym (pick-some (rowOf (picturedOf t) k) (t .tile .count) (λ n. omega (arith, some))) ∙ mod-eq-of-lt (omega arith) in
         omega arith
 
     abbrev both : Type 0
-    both = Split (twins Rest (λ q r. r .0) (λ q r. a .tokens q (r .0) (r .1))) (p * (t .width / 16)) (λ k l. (inside k, apart k l)) (λ k l. inside k) (start-same Rest (λ q r. r .0) (λ q r. a .tokens q (r .0) (r .1))) (macroblocks t)
+    both = Split (twins Rest (λ q r. r .0) (λ q r. a .tokens q (r .0) (r .1))) (p * (t .tile .width / 16)) (λ k l. (inside k, apart k l)) (λ k l. inside k) (start-same Rest (λ q r. r .0) (λ q r. a .tokens q (r .0) (r .1))) (macroblocks t)
 
     two : both
-    two = split (twins Rest (λ q r. r .0) (λ q r. a .tokens q (r .0) (r .1))) (p * (t .width / 16)) (λ k l. (inside k, apart k l)) (λ k l. inside k) (start-same Rest (λ q r. r .0) (λ q r. a .tokens q (r .0) (r .1))) (macroblocks t)
+    two = split (twins Rest (λ q r. r .0) (λ q r. a .tokens q (r .0) (r .1))) (p * (t .tile .width / 16)) (λ k l. (inside k, apart k l)) (λ k l. inside k) (start-same Rest (λ q r. r .0) (λ q r. a .tokens q (r .0) (r .1))) (macroblocks t)
 
     -- both end alike, or both come to row p with the same memory
     by-split : (C : Type 0) → (pictureOf t m ≡ pictureOf u n → C)
-        → ((S T : State) → p * (t .width / 16) < macroblocks t → Reached (cutOut t) (startOf t m) (p * (t .width / 16)) S → Reached (cutOut u) (startOf u n) (p * (t .width / 16)) T → S .mem ≡ T .mem → C) → C
+        → ((S T : State) → p * (t .tile .width / 16) < macroblocks t → Reached (picturedOf t) (begunOf t m) (p * (t .tile .width / 16)) S → Reached (picturedOf u) (begunOf u n) (p * (t .tile .width / 16)) T → S .mem ≡ T .mem → C) → C
     by-split C x y = go two
       where
         go : both → C
@@ -143,79 +135,79 @@ module _ (p : ℕ) (t u : Tile) (m n : Memory) (a : Alike p t u) (e : Fine t m) 
         go (past {S} {T} l r q s) = y S T l r q (s .mem)
 
     -- what the macroblocks from row p on leave alone is the same in both
-    module _ (z : Sound (cutOut t) (startOf t m)) (y : Sound (cutOut u) (startOf u n)) where
+    module _ (z : Sound (picturedOf t) (begunOf t m)) (y : Sound (picturedOf u) (begunOf u n)) where
       cell-same : (g : ℕ → Memory → ℕ)
-          → ((k : ℕ) → p * (t .width / 16) ≤ k → k < macroblocks t → Keeps (cutOut t) (g (t .width / 16)) k)
-          → ((k : ℕ) → p * (u .width / 16) ≤ k → k < macroblocks u → Keeps (cutOut u) (g (u .width / 16)) k)
-          → g (t .width / 16) (pictureOf t m .mem) ≡ g (t .width / 16) (pictureOf u n .mem)
+          → ((k : ℕ) → p * (t .tile .width / 16) ≤ k → k < macroblocks t → Keeps (picturedOf t) (g (t .tile .width / 16)) k)
+          → ((k : ℕ) → p * (u .tile .width / 16) ≤ k → k < macroblocks u → Keeps (picturedOf u) (g (u .tile .width / 16)) k)
+          → g (t .tile .width / 16) (pictureOf t m .mem) ≡ g (t .tile .width / 16) (pictureOf u n .mem)
       cell-same g v w =
-          by-split (g (t .width / 16) (pictureOf t m .mem) ≡ g (t .width / 16) (pictureOf u n .mem)) (ap (λ (E : Ended). g (t .width / 16) (E .mem)))
+          by-split (g (t .tile .width / 16) (pictureOf t m .mem) ≡ g (t .tile .width / 16) (pictureOf u n .mem)) (ap (λ (E : Ended). g (t .tile .width / 16) (E .mem)))
           (λ S T l r q s.
-          let wide : t .width / 16 ≡ u .width / 16 = ap (λ (w : ℕ). w / 16) (a .width) in
-          let l′ : p * (u .width / 16) ≤ macroblocks u = subst (λ (x : ℕ). p * (x / 16) ≤ x / 16 * (u .height / 16)) (a .width) (subst (λ (x : ℕ). p * (t .width / 16) ≤ t .width / 16 * (x / 16)) (a .height) (omega arith)) in
-          let q′ : Reached (cutOut u) (startOf u n) (p * (u .width / 16)) T = subst (λ (w : ℕ). Reached (cutOut u) (startOf u n) (p * w) T) wide q in
-          ap (λ (E : Ended). g (t .width / 16) (E .mem)) (fine-is t m e)
-          ∙ rest-keeps z (g (t .width / 16)) (omega arith) r v
-          ∙ ap (g (t .width / 16)) s
+          let wide : t .tile .width / 16 ≡ u .tile .width / 16 = ap (λ (w : ℕ). w / 16) (a .width) in
+          let l′ : p * (u .tile .width / 16) ≤ macroblocks u = subst (λ (x : ℕ). p * (x / 16) ≤ x / 16 * (u .tile .height / 16)) (a .width) (subst (λ (x : ℕ). p * (t .tile .width / 16) ≤ t .tile .width / 16 * (x / 16)) (a .height) (omega arith)) in
+          let q′ : Reached (picturedOf u) (begunOf u n) (p * (u .tile .width / 16)) T = subst (λ (w : ℕ). Reached (picturedOf u) (begunOf u n) (p * w) T) wide q in
+          ap (λ (E : Ended). g (t .tile .width / 16) (E .mem)) (fine-is t m e)
+          ∙ rest-keeps z (g (t .tile .width / 16)) (omega arith) r v
+          ∙ ap (g (t .tile .width / 16)) s
           ∙ ap (λ (w : ℕ). g w (T .mem)) wide
-          ∙ sym (rest-keeps y (g (u .width / 16)) l′ q′ w)
-          ∙ sym (ap (λ (E : Ended). g (u .width / 16) (E .mem)) (fine-is u n f))
+          ∙ sym (rest-keeps y (g (u .tile .width / 16)) l′ q′ w)
+          ∙ sym (ap (λ (E : Ended). g (u .tile .width / 16) (E .mem)) (fine-is u n f))
           ∙ ap (λ (w : ℕ). g w (pictureOf u n .mem)) (sym wide))
 
     -- where one stops above row p, both end alike
-    stopped-first : (number k : ℕ) → k < p * (t .width / 16) → Stopped (pictureOf t m) number k → Stopped (pictureOf u n) number k
+    stopped-first : (number k : ℕ) → k < p * (t .tile .width / 16) → Stopped (pictureOf t m) number k → Stopped (pictureOf u n) number k
     stopped-first number k l o =
         by-split (Stopped (pictureOf u n) number k) (λ g. subst (λ (E : Ended). Stopped E number k) g o)
         (λ S T i r q s.
-        let v : p * (t .width / 16) ≤ valuesOf (pictureOf t m .answer) = rw (fine-is t m e) (values-from (macroblocks t) (omega arith) r) in
+        let v : p * (t .tile .width / 16) ≤ valuesOf (pictureOf t m .answer) = rw (fine-is t m e) (values-from (macroblocks t) (omega arith) r) in
         absurd (omega (arith, o .1)))
 
-    stopped-second : (number k : ℕ) → k < p * (t .width / 16) → Stopped (pictureOf u n) number k → Stopped (pictureOf t m) number k
+    stopped-second : (number k : ℕ) → k < p * (t .tile .width / 16) → Stopped (pictureOf u n) number k → Stopped (pictureOf t m) number k
     stopped-second number k l o =
         by-split (Stopped (pictureOf t m) number k) (λ g. subst (λ (E : Ended). Stopped E number k) (sym g) o)
         (λ S T i r q s.
-        let v : p * (t .width / 16) ≤ valuesOf (pictureOf u n .answer) = rw second-is (values-from (macroblocks t) (omega arith) q) in
+        let v : p * (t .tile .width / 16) ≤ valuesOf (pictureOf u n .answer) = rw second-is (values-from (macroblocks t) (omega arith) q) in
         absurd (omega (arith, o .1)))
 
     -- no row p: the rows above are all
-    rows-all : t .height / 16 ≤ p → pictureOf t m ≡ pictureOf u n
+    rows-all : t .tile .height / 16 ≤ p → pictureOf t m ≡ pictureOf u n
     rows-all l =
         by-split (pictureOf t m ≡ pictureOf u n) (λ g. g)
-        (λ S T i r q s. absurd (omega (arith, mul-le-mul-right {m = t .height / 16} {n = p} (t .width / 16) l, mul-comm (t .width / 16) (t .height / 16))))
+        (λ S T i r q s. absurd (omega (arith, mul-le-mul-right {m = t .tile .height / 16} {n = p} (t .tile .width / 16) l, mul-comm (t .tile .width / 16) (t .tile .height / 16))))
 
   -- ---- p below the count, or not
-  past-count : t .count ≤ p → pictureOf t m ≡ pictureOf u n
+  past-count : t .tile .count ≤ p → pictureOf t m ≡ pictureOf u n
   past-count h = all-same (λ q l. a .tokens q l (λ z. omega arith))
 
-  by-count : (C : Type 0) → (p < t .count → C) → (pictureOf t m ≡ pictureOf u n → C) → C
-  by-count C x y = ⊎-elim x (λ h. y (past-count h)) (lt-or p (t .count))
+  by-count : (C : Type 0) → (p < t .tile .count → C) → (pictureOf t m ≡ pictureOf u n → C) → C
+  by-count C x y = ⊎-elim x (λ h. y (past-count h)) (lt-or p (t .tile .count))
 
   nothing-differs : SameTokens t u p → pictureOf t m ≡ pictureOf u n
   nothing-differs s = all-same (λ q l. ⊎-elim (λ (z : q ≡ p). subst (SameTokens t u) (sym z) s) (λ z. a .tokens q l z) (eq-or q p))
 
   -- ---- modes: what is finished in both
-  module _ (z : Sound (cutOut t) (startOf t m)) (y : Sound (cutOut u) (startOf u n)) where
-    shared : Twins Rest (cutOut t) (cutOut u)
+  module _ (z : Sound (picturedOf t) (begunOf t m)) (y : Sound (picturedOf u) (begunOf u n)) where
+    shared : Twins Rest (picturedOf t) (picturedOf u)
     shared = twins Rest (λ q r. r .0) (λ q r. a .tokens q (r .0) (r .1))
 
-    blank : startOf t m .mem ≡ startOf u n .mem
+    blank : begunOf t m .mem ≡ begunOf u n .mem
     blank = blank-same m n (sizes-same t u m n (a .width) (a .height) e f)
 
-    start-modes : Moded (t .width / 16) (startOf t m) (startOf u n)
+    start-modes : Moded (t .tile .width / 16) (begunOf t m) (begunOf u n)
     start-modes = record { reader = a .reader; left = refl; above = λ c h. ap (λ (b : Memory). columnAt (b .columns) c .modes) blank; modes = ap (λ (b : Memory). b .modes) blank }
 
     kinds-same : (k i : ℕ) → k < valuesOf (pictureOf t m .answer) → k < valuesOf (pictureOf u n .answer) → i < 20
         → modeByte (k * 20 + i) (pictureOf t m .mem) ≡ modeByte (k * 20 + i) (pictureOf u n .mem)
     kinds-same k i h l o =
-        let h′ : k < valuesOf (runOf (macroblocks t) (cutOut t) 0 (startOf t m) .answer) = rw (fine-is t m e) at h in
-        let l′ : k < valuesOf (runOf (macroblocks u) (cutOut u) 0 (startOf u n) .answer) = rw (fine-is u n f) at l in
-        let b = last (ending (cutOut t) (startOf t m) (macroblocks t)) in
-        let c = last (ending (cutOut u) (startOf u n) (macroblocks u)) in
+        let h′ : k < valuesOf (runOf (macroblocks t) (picturedOf t) 0 (begunOf t m) .answer) = rw (fine-is t m e) at h in
+        let l′ : k < valuesOf (runOf (macroblocks u) (picturedOf u) 0 (begunOf u n) .answer) = rw (fine-is u n f) at l in
+        let b = last (ending (picturedOf t) (begunOf t m) (macroblocks t)) in
+        let c = last (ending (picturedOf u) (begunOf u n) (macroblocks u)) in
         let r = reached-before (suc k) (omega arith) (b .reached) in
         let q = reached-before (suc k) (omega arith) (c .reached) in
         let some : suc k ≤ macroblocks t = omega (arith, b .upto) in
         let few : suc k ≤ macroblocks u = omega (arith, c .upto) in
-        let d = same-modes z y (shared .first) (shared .header) (shared .wide) (ap (λ (x : ℕ). x / 16) (a .height)) start-modes some (r .reached) (q .reached) in
+        let d = same-modes z y (shared .first) (ap (λ (f : Frame). f .announced) (shared .frame)) (shared .wide) (ap (λ (x : ℕ). x / 16) (a .height)) start-modes some (r .reached) (q .reached) in
         ap (λ (E : Ended). modeByte (k * 20 + i) (E .mem)) (fine-is t m e)
         ∙ rest-keeps z (modeByte (k * 20 + i)) some (r .reached) (λ j g v. keeps-mode z j v (k * 20 + i) (inl (omega arith)))
         ∙ ap (λ (x : List ℕ). getD x (k * 20 + i) 0) (d .modes)
@@ -229,7 +221,7 @@ module _ (p : ℕ) (t u : Tile) (m n : Memory) (a : Alike p t u) (e : Fine t m) 
       record {
         samples = λ o c r h l. by-count _
             (λ g. cell-same g z y (λ w. sampleOf w o c r) (λ k i j. rows-kept z p k i j o c r h l) (λ k i j. rows-kept y p k i j o c r (subst (λ (w : ℕ). c < w / 16 * sideOf o) (a .width) h) l))
-            (ap (λ (E : Ended). sampleOf (t .width / 16) o c r (E .mem)));
+            (ap (λ (E : Ended). sampleOf (t .tile .width / 16) o c r (E .mem)));
         modes = λ i h. by-count _
             (λ g. cell-same g z y (λ w. modeByte i) (λ k v j. modes-kept z p k v j i h) (λ k v j. modes-kept y p k v j i (subst (λ (w : ℕ). i < p * (w / 16) * 20) (a .width) h)))
             (ap (λ (E : Ended). modeByte i (E .mem)));
@@ -246,5 +238,5 @@ module _ (p : ℕ) (t u : Tile) (m n : Memory) (a : Alike p t u) (e : Fine t m) 
 
 -- DEMAND 3: for any two tiles alike in all but token partition p's bytes, with any old contents in memory, neither being refused.
 -- That the bytes are bytes is what the call's type says
-pub isolated : (p : ℕ) (t u : Tile) (m n : Memory) → Alike p t u → Fine t m → Fine u n → Bytes (t .bytes) → Bytes (u .bytes) → Isolated p t u m n
+pub isolated : (p : ℕ) (t u : Call) (m n : Memory) → Alike p t u → Fine t m → Fine u n → Bytes (t .bytes) → Bytes (u .bytes) → Isolated p t u m n
 isolated = both-calls

@@ -3,26 +3,20 @@ use Prim.Native.Nat.{ℕ, zero, suc, _+_, _-_, _*_, _/_, _≤_, _<_}
 use mathlib.Core.Path.{_≡_, refl, sym, _∙_, subst}
 use mathlib.Core.List.{List}
 use native.Mathlib.Omega.{arith}
-use lib.ListN.{getD}
 use Rattle.numbers.specs.Runs.{Off}
-use Rattle.reader.specs.Boolean.{noReader}
 use Rattle.reader.specs.BooleanLaws.{Bytes}
-use Rattle.coefficients.specs.Tokens.{headerTable}
-use Rattle.coefficients.specs.TokenLaws.{header-bytes}
 use Rattle.modes.specs.Answers.{kindsOf}
-use Rattle.modes.specs.Records.{columnAt}
-use Rattle.modes.specs.RecordsLaws.{mode-set-off}
 use Rattle.planes.specs.Places.{Outside}
-use Rattle.segments.specs.Frame.{frameOf}
 use Rattle.macroblock.specs.Macroblock.{Finished, Step, finished, no-modes, no-tokens}
 use Rattle.macroblock.specs.StepLaws.{Kept, Elsewhere, step-outside}
-use Rattle.macroblock.specs.StrengthRecordsLaws.{strength-set-off}
-use Rattle.picture.specs.Memory.{Memory, sizesOf}
-use Rattle.picture.specs.PartitionsLaws.{part-bytes}
-use Rattle.picture.specs.Checks.{Tile}
-use Rattle.picture.specs.ChecksLaws.{fine-partitions}
+use Rattle.lent.specs.Memory.{Memory}
+use Rattle.tile.specs.Partitions.{spanAt}
+use Rattle.tile.specs.PartitionsLaws.{part-bytes}
+use Rattle.lent.specs.Records.{modeWidth, strengthWidth, modeRecord, strengthRecord}
+use Rattle.lent.specs.RecordsLaws.{record-set-off}
+use Rattle.picture.specs.Checks.{Call}
 use Rattle.picture.specs.CallLaws.{shared-start, live-start}
-use Rattle.picture.specs.Picture.{Picture, State, cutOut, startOf, columnOf, rowOf, partitionOf, besideOf, planesOf, stepAt, nextOf, runOf}
+use Rattle.picture.specs.Picture.{Picture, State, picturedOf, begunOf, columnOf, rowOf, partitionOf, planesIn, placeOf, readersAt, aroundAt, stepAt, nextOf, runOf}
 use Rattle.picture.specs.PictureLaws.{Shared, Live, step-at, column-below, partition-below, laid-at, ready-at, ends-at, live-next, run-none, run-finished, run-no-modes, run-no-tokens}
 use Rattle.promises.specs.Refusals.{Fine}
 use Rattle.promises.specs.Reached.{Reached, start, after}
@@ -36,15 +30,13 @@ pub record Sound (P : Picture) (S₀ : State) : Type 0 where
   pub tokens : (q : ℕ) → q < P .count → Bytes (P .token q)
   pub live : Live P S₀
 
-pub sound : (t : Tile) (m : Memory) → Bytes (t .bytes) → Fine t m → Sound (cutOut t) (startOf t m)
-sound t m b e =
-    let parts = fine-partitions t (sizesOf m) e in
-    record {
-      shared = shared-start t m e;
-      first = part-bytes (t .bytes) (t .firstStart) (t .firstLength) (parts .first .fits) b;
-      tokens = λ q l. part-bytes (t .bytes) (getD (t .starts) q 0) (getD (t .lengths) q 0) (parts .tokens q l .fits) b;
-      live = live-start t m e b;
-    }
+pub sound : (t : Call) (m : Memory) → Bytes (t .bytes) → Fine t m → Sound (picturedOf t) (begunOf t m)
+sound t m b e = record {
+  shared = shared-start t m e;
+  first = part-bytes (t .bytes) (t .tile .first) b;
+  tokens = λ q l. part-bytes (t .bytes) (spanAt (t .tile) q) b;
+  live = live-start t m e b;
+}
 
 -- ---- one macroblock
 module _ {P : Picture} {S₀ : State} (z : Sound P S₀) where
@@ -55,11 +47,10 @@ module _ {P : Picture} {S₀ : State} (z : Sound P S₀) where
     pub live-after : Live P (nextOf P k S x)
     live-after = live-next P S k (z .shared) l h x (ends-at P S k (z .shared) l h (z .first) (z .tokens (partitionOf P k) q-below) x e)
 
-    elsewhere : Elsewhere (P .wide * 16) (columnOf P k) (rowOf P k) (planesOf (S .mem)) (x .planes)
+    elsewhere : Elsewhere (placeOf P k) (planesIn (S .mem)) (x .planes)
     elsewhere =
-        step-outside (P .first) (S .reader) (P .token (partitionOf P k)) (getD (S .readers) (partitionOf P k) noReader) (P .header) (headerTable (P .header)) (frameOf (P .header))
-        (columnAt (S .mem .columns) (columnOf P k)) (besideOf (columnOf P k) (S .left)) (P .wide * 16) (columnOf P k) (rowOf P k) (planesOf (S .mem))
-        (ready-at P S k (z .shared) l h (columnOf P k) (partitionOf P k) (column-below P k h) q-below refl refl refl) (z .first) (z .tokens (partitionOf P k) q-below) (header-bytes (P .header)) (sym (step-at P k S) ∙ e) (laid-at P S k (z .shared) l h)
+        step-outside (P .first) (P .token (partitionOf P k)) (readersAt S (partitionOf P k)) (P .frame) (P .table) (aroundAt S (columnOf P k)) (placeOf P k) (planesIn (S .mem))
+        (ready-at P S k (z .shared) l h (columnOf P k) (partitionOf P k) (column-below P k h) q-below refl refl) (z .first) (z .tokens (partitionOf P k) q-below) (z .shared .bytes) (sym (step-at P k S) ∙ e) (laid-at P S k (z .shared) l h)
 
     half : {w n : ℕ} {p q : List ℕ} {a b : ℕ} → w ≡ n → Kept w a b 8 p q → Kept n a b 8 p q
     half {p} {q} {a} {b} f k = subst (λ (i : ℕ). Kept i a b 8 p q) f k
@@ -79,10 +70,10 @@ module _ {P : Picture} {S₀ : State} (z : Sound P S₀) (k : ℕ) (h : k < P .w
   keeps-sample a c r l o = λ S x i e. plane-kept z S k x i h e a .off c r l o
 
   pub keeps-mode : (i : ℕ) → Off (k * 20) 20 i → Keeps P (modeByte i) k
-  keeps-mode i o = λ S x l e. mode-set-off (S .mem .modes) k (kindsOf (x .modes)) (x .modes .modes) i o
+  keeps-mode i o = λ S x l e. record-set-off modeWidth (S .mem .modes) k (modeRecord (kindsOf (x .modes)) (x .modes .modes)) i o
 
   pub keeps-strength : (i : ℕ) → Off (k * 4) 4 i → Keeps P (strengthByte i) k
-  keeps-strength i o = λ S x l e. strength-set-off (S .mem .strengths) k (x .strength) i o
+  keeps-strength i o = λ S x l e. record-set-off strengthWidth (S .mem .strengths) k (strengthRecord (x .strength)) i o
 
 -- ---- all of a run
 module _ {P : Picture} {S₀ : State} (z : Sound P S₀) where

@@ -3,7 +3,7 @@ use Prim.Native.Nat.{ℕ, _+_, _*_, _/_}
 use mathlib.Core.List.{List}
 use lib.ListN.{getD}
 use Rattle.planes.specs.Paint.{sampleAt}
-use Rattle.picture.specs.Memory.{Memory}
+use Rattle.lent.specs.Memory.{Memory}
 
 -- the three planes: Y, U and V
 pub data Plane : Type 0 where

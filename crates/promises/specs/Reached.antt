@@ -5,37 +5,27 @@ use lib.ListN.{getD}
 use Rattle.reader.specs.declared.boolean.Reader.{Reader}
 use Rattle.reader.specs.Boolean.{Given, given, missing, noReader}
 use Rattle.reader.specs.Reading.{run}
-use Rattle.coefficients.specs.Tokens.{headerTable}
-use Rattle.modes.specs.declared.columns.Context.{Context}
 use Rattle.modes.specs.Modes.{Macroblock, modesOf}
-use Rattle.modes.specs.Records.{columnAt}
 use Rattle.residual.specs.Residual.{Model, residualOf}
-use Rattle.segments.specs.Frame.{frameOf}
-use Rattle.segments.specs.Frame.{factorsAt}
+use Rattle.header.specs.Frame.{factorsAt}
 use Rattle.macroblock.specs.Macroblock.{Finished, finished}
 use Rattle.picture.specs.declared.rows.Decoded.the-variants as D
-use Rattle.picture.specs.Picture.{Picture, State, Ended, columnOf, partitionOf, besideOf, stepAt, nextOf}
+use Rattle.picture.specs.Picture.{Picture, State, Ended, columnOf, partitionOf, aroundAt, stepAt, nextOf}
 
 -- from the state S₀, k macroblocks are finished one after the other, and the next one finds the state S
 pub data Reached (P : Picture) (S₀ : State) : ℕ → State → Type 0 where
   start : Reached P S₀ 0 S₀
   after : {k : ℕ} {S : State} {x : Finished} → Reached P S₀ k S → stepAt P k S ≡ finished x → Reached P S₀ (suc k) (nextOf P k S x)
 
--- what lies above macroblock k and left of it
-abbrev pub aboveOf : Picture → ℕ → State → Context
-aboveOf P k S = columnAt (S .mem .columns) (columnOf P k)
-
-abbrev pub leftOf : Picture → ℕ → State → Context
-leftOf P k S = besideOf (columnOf P k) (S .left)
-
 -- what macroblock k asks of the first partition: its modes (RFC 6386 section 19.3); `missing` where it asks for a byte that is not there
 abbrev pub modesAsked : Picture → ℕ → State → Given Macroblock
-modesAsked P k S = run (modesOf (P .header) (aboveOf P k S .modes) (leftOf P k S .modes)) (P .first) (S .reader)
+modesAsked P k S = let a = aroundAt S (columnOf P k) in run (modesOf (P .frame .announced) (a .top .modes) (a .left .modes)) (P .first) (S .reader)
 
 -- what macroblock k, its modes being m, asks of its row's token partition: its coefficients (section 13)
 abbrev pub tokensAsked : Picture → ℕ → State → Macroblock → Given Model
 tokensAsked P k S m =
-    run (residualOf (headerTable (P .header)) (factorsAt (frameOf (P .header)) (m .segment)) (m .small) (m .skip) (aboveOf P k S .flags) (leftOf P k S .flags))
+    let a = aroundAt S (columnOf P k) in
+    run (residualOf (P .table) (factorsAt (P .frame) (m .segment)) (m .small) (m .skip) (a .top .flags) (a .left .flags))
     (P .token (partitionOf P k)) (getD (S .readers) (partitionOf P k) noReader)
 
 -- how a picture of M macroblocks ends: all are finished; or every one before k is, and k asks for a byte that its partition lacks,

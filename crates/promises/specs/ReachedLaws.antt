@@ -6,30 +6,25 @@ use native.Mathlib.Numerals.{add-one}
 use mathlib.Core.Logic.{_⊎_, inl, inr}
 use Rattle.numbers.specs.Tests.{lt-or}
 use Rattle.reader.specs.declared.boolean.Reader.{Reader}
-use Rattle.reader.specs.Boolean.{given, missing, noReader}
-use Rattle.coefficients.specs.Tokens.{headerTable}
+use Rattle.reader.specs.Boolean.{given, missing}
 use Rattle.modes.specs.Modes.{Macroblock}
-use Rattle.segments.specs.Frame.{frameOf}
 use Rattle.macroblock.specs.Macroblock.{Finished, Step, finished, no-modes, no-tokens}
 use Rattle.macroblock.specs.StepLaws.{NoTokens, step-no-modes, step-no-tokens, step-refused-modes, step-refused-tokens}
 use Rattle.picture.specs.declared.rows.Decoded.the-variants as D
-use Rattle.picture.specs.Picture.{Picture, State, Ended, columnOf, rowOf, partitionOf, planesOf, stepAt, nextOf, runOf, valuesOf}
+use Rattle.picture.specs.Picture.{Picture, State, Ended, columnOf, partitionOf, planesIn, placeOf, readersAt, aroundAt, stepAt, nextOf, runOf, valuesOf}
 use Rattle.picture.specs.PictureLaws.{step-at, run-none, run-finished, run-no-modes, run-no-tokens}
-use Rattle.promises.specs.Reached.{Reached, start, after, aboveOf, leftOf, modesAsked, tokensAsked, Ending, whole, modes-out, tokens-out}
-use lib.ListN.{getD}
+use Rattle.promises.specs.Reached.{Reached, start, after, modesAsked, tokensAsked, Ending, whole, modes-out, tokens-out}
 
 -- ---- a macroblock's answer, in words of the two grammars
 module _ (P : Picture) (k : ℕ) (S : State) where
   pub modes-missing : stepAt P k S ≡ no-modes → modesAsked P k S ≡ missing
   modes-missing e =
-      step-refused-modes (P .first) (S .reader) (P .token (partitionOf P k)) (getD (S .readers) (partitionOf P k) noReader) (P .header) (headerTable (P .header)) (frameOf (P .header))
-      (aboveOf P k S) (leftOf P k S) (P .wide * 16) (columnOf P k) (rowOf P k) (planesOf (S .mem)) (sym (step-at P k S) ∙ e)
+      step-refused-modes (P .first) (P .token (partitionOf P k)) (readersAt S (partitionOf P k)) (P .frame) (P .table) (aroundAt S (columnOf P k)) (placeOf P k) (planesIn (S .mem)) (sym (step-at P k S) ∙ e)
 
   pub missing-modes : modesAsked P k S ≡ missing → stepAt P k S ≡ no-modes
   missing-modes e =
       step-at P k S
-      ∙ step-no-modes (P .first) (S .reader) (P .token (partitionOf P k)) (getD (S .readers) (partitionOf P k) noReader) (P .header) (headerTable (P .header)) (frameOf (P .header))
-      (aboveOf P k S) (leftOf P k S) (P .wide * 16) (columnOf P k) (rowOf P k) (planesOf (S .mem)) e
+      ∙ step-no-modes (P .first) (P .token (partitionOf P k)) (readersAt S (partitionOf P k)) (P .frame) (P .table) (aroundAt S (columnOf P k)) (placeOf P k) (planesIn (S .mem)) e
 
   -- its modes are given, and its tokens run out
   pub record Short : Type 0 where
@@ -40,15 +35,13 @@ module _ (P : Picture) (k : ℕ) (S : State) where
 
   pub tokens-missing : stepAt P k S ≡ no-tokens → Short
   tokens-missing e =
-      let n = step-refused-tokens (P .first) (S .reader) (P .token (partitionOf P k)) (getD (S .readers) (partitionOf P k) noReader) (P .header) (headerTable (P .header)) (frameOf (P .header))
-      (aboveOf P k S) (leftOf P k S) (P .wide * 16) (columnOf P k) (rowOf P k) (planesOf (S .mem)) (sym (step-at P k S) ∙ e) in
+      let n = step-refused-tokens (P .first) (P .token (partitionOf P k)) (readersAt S (partitionOf P k)) (P .frame) (P .table) (aroundAt S (columnOf P k)) (placeOf P k) (planesIn (S .mem)) (sym (step-at P k S) ∙ e) in
       record { modes = n .modes; reader = n .first; gave = n .gave; out = n .out }
 
   pub missing-tokens : (m : Macroblock) (r : Reader) → modesAsked P k S ≡ given m r → tokensAsked P k S m ≡ missing → stepAt P k S ≡ no-tokens
   missing-tokens m r e f =
       step-at P k S
-      ∙ step-no-tokens (P .first) (S .reader) (P .token (partitionOf P k)) (getD (S .readers) (partitionOf P k) noReader) (P .header) (headerTable (P .header)) (frameOf (P .header))
-      (aboveOf P k S) (leftOf P k S) (P .wide * 16) (columnOf P k) (rowOf P k) (planesOf (S .mem)) m r e f
+      ∙ step-no-tokens (P .first) (P .token (partitionOf P k)) (readersAt S (partitionOf P k)) (P .frame) (P .table) (aroundAt S (columnOf P k)) (placeOf P k) (planesIn (S .mem)) m r e f
 
 -- ---- the run passes through every state that is reached
 pub run-from : {P : Picture} {S₀ S : State} {k : ℕ} → Reached P S₀ k S → (n : ℕ) → runOf (k + n) P 0 S₀ ≡ runOf n P k S

@@ -4,43 +4,45 @@ use mathlib.Core.Path.{_≡_, refl, sym, _∙_, ap}
 use native.Mathlib.Omega.{arith}
 use lib.ListN.{length, replicate}
 use Rattle.picture.specs.declared.rows.Decoded.the-variants as D
-use Rattle.picture.specs.Memory.{Memory, sizesOf, blankOf}
-use Rattle.picture.specs.Checks.{Tile, blocksOf, refusalOf}
-use Rattle.picture.specs.ChecksLaws.{Sides, Counted, Bounded, Sized, Cut, refusal-most, refusal-none, refused-side, refused-count, refused-entries, refused-lengths, refused-partitions, fine-lengths}
+use Rattle.lent.specs.Memory.{Memory, sizesOf, blankOf}
+use Rattle.tile.specs.Checks.{blocksOf}
+use Rattle.picture.specs.Checks.{Call, refusalOf}
+use Rattle.tile.specs.Checks.{Sides, Counted, Cut}
+use Rattle.picture.specs.ChecksLaws.{Bounded, Lengths, refusal-most, refusal-none, refused-side, refused-count, refused-entries, refused-lengths, refused-partitions, fine-lengths}
 use Rattle.picture.specs.CallLaws.{picture-bad, picture-good}
-use Rattle.picture.specs.Picture.{Ended, cutOut, startOf, runOf, pictureOf, numberOf, valuesOf}
+use Rattle.picture.specs.Picture.{Ended, picturedOf, startOf, begunOf, runOf, pictureOf, numberOf, valuesOf}
 
 -- an argument is refused where one of the five checks fails, and none is where all pass
-abbrev pub Bad : Tile → Memory → Type 0
+abbrev pub Bad : Call → Memory → Type 0
 Bad t m = refusalOf t (sizesOf m) ≡ 0 → ⊥
 
-abbrev pub Fine : Tile → Memory → Type 0
+abbrev pub Fine : Call → Memory → Type 0
 Fine t m = refusalOf t (sizesOf m) ≡ 0
 
 -- the number that the picture call answers
-abbrev pub number : Tile → Memory → ℕ
+abbrev pub number : Call → Memory → ℕ
 number t m = numberOf (pictureOf t m .answer)
 
 -- ---- the call's answer where an argument is refused: a number in 1..5, no macroblock finished, and the memory as it was lent
-pub record Refused (t : Tile) (m : Memory) : Type 0 where
+pub record Refused (t : Call) (m : Memory) : Type 0 where
   pub is : pictureOf t m ≡ record { answer = D.Refused (refusalOf t (sizesOf m)); mem = m }
   pub least : 1 ≤ number t m
   pub most : number t m ≤ 5
   pub none : valuesOf (pictureOf t m .answer) ≡ 0
   pub unchanged : pictureOf t m .mem ≡ m
   -- 1: a bad width or height
-  pub one : number t m ≡ 1 → Sides (t .width) (t .height) → ⊥
+  pub one : number t m ≡ 1 → Sides (t .tile .width) (t .tile .height) → ⊥
   -- 2: those are good; the count is not 1..8
-  pub two : number t m ≡ 2 → Sides (t .width) (t .height) × (Counted (t .count) → ⊥)
+  pub two : number t m ≡ 2 → Sides (t .tile .width) (t .tile .height) × (Counted (t .tile .count) → ⊥)
   -- 3: that is good too; a header entry is outside -255..255
-  pub three : number t m ≡ 3 → Sides (t .width) (t .height) × Counted (t .count) × (Bounded (t .header) → ⊥)
+  pub three : number t m ≡ 3 → Sides (t .tile .width) (t .tile .height) × Counted (t .tile .count) × (Bounded (t .header) → ⊥)
   -- 4: and that; a lent length or the header's is wrong
-  pub four : number t m ≡ 4 → Sides (t .width) (t .height) × Counted (t .count) × Bounded (t .header) × (Sized t (sizesOf m) → ⊥)
+  pub four : number t m ≡ 4 → Sides (t .tile .width) (t .tile .height) × Counted (t .tile .count) × Bounded (t .header) × (Lengths t (sizesOf m) → ⊥)
   -- 5: and that; a partition is outside the bytes, or the starting reader is out of range
-  pub five : number t m ≡ 5 → Sides (t .width) (t .height) × Counted (t .count) × Bounded (t .header) × Sized t (sizesOf m) × (Cut t → ⊥)
+  pub five : number t m ≡ 5 → Sides (t .tile .width) (t .tile .height) × Counted (t .tile .count) × Bounded (t .header) × Lengths t (sizesOf m) × (Cut (t .bytes) (t .tile) → ⊥)
 
 -- THE PROMISE: a refused argument changes nothing
-pub refused-changes-nothing : (t : Tile) (m : Memory) → Bad t m → Refused t m
+pub refused-changes-nothing : (t : Call) (m : Memory) → Bad t m → Refused t m
 refused-changes-nothing t m b =
     let z = sizesOf m in
     let r = picture-bad t m refl b in
@@ -59,11 +61,11 @@ refused-changes-nothing t m b =
     }
 
 -- and good arguments are not refused
-pub good-arguments : (t : Tile) (m : Memory) → Sides (t .width) (t .height) → Counted (t .count) → Bounded (t .header) → Sized t (sizesOf m) → Cut t → Fine t m
+pub good-arguments : (t : Call) (m : Memory) → Sides (t .tile .width) (t .tile .height) → Counted (t .tile .count) → Bounded (t .header) → Lengths t (sizesOf m) → Cut (t .bytes) (t .tile) → Fine t m
 good-arguments t m a b c d e = sym (refusal-none t (sizesOf m) a b c d e)
 
 -- ---- good arguments: the macroblocks from blank memory
-pub fine-is : (t : Tile) (m : Memory) → Fine t m → pictureOf t m ≡ runOf (blocksOf (t .width) (t .height)) (cutOut t) 0 (startOf t m)
+pub fine-is : (t : Call) (m : Memory) → Fine t m → pictureOf t m ≡ runOf (blocksOf (t .tile .width) (t .tile .height)) (picturedOf t) 0 (begunOf t m)
 fine-is t m e = picture-good t m (sym e) refl
 
 -- memories of the same lengths are the same once they are blank
@@ -79,10 +81,10 @@ blank-same m n e =
     }
 
 -- a tile that is not refused with one memory and with another finds the same lengths
-pub sizes-same : (t u : Tile) (m n : Memory) → t .width ≡ u .width → t .height ≡ u .height → Fine t m → Fine u n → sizesOf m ≡ sizesOf n
+pub sizes-same : (t u : Call) (m n : Memory) → t .tile .width ≡ u .tile .width → t .tile .height ≡ u .tile .height → Fine t m → Fine u n → sizesOf m ≡ sizesOf n
 sizes-same t u m n w h e f =
-    let a = fine-lengths t (sizesOf m) e in
-    let b = fine-lengths u (sizesOf n) f in
+    let a = fine-lengths t (sizesOf m) e .sizes in
+    let b = fine-lengths u (sizesOf n) f .sizes in
     let y : length (m .y) ≡ length (n .y) = rw (w, h) at (a .y) ∙ sym (b .y) in
     let c : length (m .columns) ≡ length (n .columns) = rw w at (a .columns) ∙ sym (b .columns) in
     let u2 : length (m .u) ≡ length (n .u) = rw (w, h) at (a .u) ∙ sym (b .u) in
@@ -92,8 +94,8 @@ sizes-same t u m n w h e f =
     λ i. record { y = y i; u = u2 i; v = v i; columns = c i; modes = d i; strengths = s i }
 
 -- THE PROMISE: what lent memory held before the call does not matter
-pub old-memory-does-not-matter : (t : Tile) (m n : Memory) → Fine t m → Fine t n → pictureOf t m ≡ pictureOf t n
+pub old-memory-does-not-matter : (t : Call) (m n : Memory) → Fine t m → Fine t n → pictureOf t m ≡ pictureOf t n
 old-memory-does-not-matter t m n e f =
     fine-is t m e
-    ∙ ap (λ (b : Memory). runOf (blocksOf (t .width) (t .height)) (cutOut t) 0 (record { reader = startOf t m .reader; readers = startOf t m .readers; left = startOf t m .left; mem = b })) (blank-same m n (sizes-same t t m n refl refl e f))
+    ∙ ap (λ (b : Memory). runOf (blocksOf (t .tile .width) (t .tile .height)) (picturedOf t) 0 (startOf (t .bytes) (t .tile) b)) (blank-same m n (sizes-same t t m n refl refl e f))
     ∙ sym (fine-is t n f)

@@ -3,18 +3,14 @@ use Prim.Native.Nat.{ℕ, _*_, _%_, _≤_, _<_}
 use mathlib.Core.Path.{_≡_, sym, _∙_, ap, subst}
 use mathlib.Core.Logic.{_⊎_, inl, inr, ⊎-elim}
 use native.Mathlib.Omega.{arith}
-use lib.ListN.{getD}
 use Rattle.numbers.specs.Tests.{eq-or}
-use Rattle.reader.specs.Boolean.{noReader}
-use Rattle.coefficients.specs.Tokens.{headerTable}
-use Rattle.modes.specs.declared.columns.Context.{Context}
+use Rattle.modes.specs.declared.contexts.Context.{Context}
 use Rattle.modes.specs.Answers.{kindsOf}
-use Rattle.modes.specs.Records.{columnAt, columnSet, modeSet}
-use Rattle.modes.specs.RecordsLaws.{column-back, column-other}
-use Rattle.segments.specs.Frame.{frameOf}
+use Rattle.lent.specs.Records.{columnAt, columnSet, modeSet}
+use Rattle.lent.specs.ColumnsLaws.{column-back, column-other}
 use Rattle.macroblock.specs.Macroblock.{Finished, finished, stepOf}
 use Rattle.macroblock.specs.StepLaws.{SameModes, step-modes-only-first}
-use Rattle.picture.specs.Picture.{Picture, State, columnOf, rowOf, partitionOf, besideOf, planesOf, stepAt, nextOf}
+use Rattle.picture.specs.Picture.{Picture, State, columnOf, partitionOf, besideOf, planesIn, placeOf, readersAt, aroundAt, stepAt, nextOf}
 use Rattle.picture.specs.TurnLaws.{beside-none, beside-left}
 use Rattle.picture.specs.PictureLaws.{Live, step-at, column-below, partition-below, room-at, ends-at}
 use Rattle.promises.specs.Reached.{Reached, start, after}
@@ -42,23 +38,21 @@ module _ {P : Picture} {S₀ : State} (z : Sound P S₀) (S : State) (l : Live P
       (ends-at P S k (z .shared) l h (z .first) (z .tokens (partitionOf P k) (partition-below P k h (z .shared .least))) x e .top-sized)
 
   above-other : (c : ℕ) → c < P .wide → (c ≡ columnOf P k → ⊥) → columnAt (columnSet (S .mem .columns) (columnOf P k) (x .top)) c ≡ columnAt (S .mem .columns) c
-  above-other c i n = column-other (S .mem .columns) (columnOf P k) (x .top) c n (rw (l .columns) (omega arith))
+  above-other c i n = column-other (S .mem .columns) (columnOf P k) (x .top) c n
 
-module _ {P Q : Picture} {S₀ T₀ : State} (z : Sound P S₀) (y : Sound Q T₀) (first : P .first ≡ Q .first) (header : P .header ≡ Q .header) (wide : P .wide ≡ Q .wide) (high : P .high ≡ Q .high) where
+module _ {P Q : Picture} {S₀ T₀ : State} (z : Sound P S₀) (y : Sound Q T₀) (first : P .first ≡ Q .first) (announced : P .frame .announced ≡ Q .frame .announced) (wide : P .wide ≡ Q .wide) (high : P .high ≡ Q .high) where
   column-same : (k : ℕ) → columnOf P k ≡ columnOf Q k
   column-same k = λ i. k % wide i
 
   step-modes : (k : ℕ) (S T : State) → k < P .wide * P .high → Moded (P .wide) S T → (x w : Finished) → stepAt P k S ≡ finished x → stepAt Q k T ≡ finished w → SameModes x w
   step-modes k S T h d x w e f =
-      let g : stepOf (P .first) (S .reader) (Q .token (partitionOf Q k)) (getD (T .readers) (partitionOf Q k) noReader) (P .header) (headerTable (Q .header)) (frameOf (Q .header))
-      (columnAt (T .mem .columns) (columnOf Q k)) (besideOf (columnOf Q k) (T .left)) (Q .wide * 16) (columnOf Q k) (rowOf Q k) (planesOf (T .mem))
-      ≡ stepAt Q k T = (λ i. stepOf (first i) (d .reader i) (Q .token (partitionOf Q k)) (getD (T .readers) (partitionOf Q k) noReader) (header i) (headerTable (Q .header)) (frameOf (Q .header))
-      (columnAt (T .mem .columns) (columnOf Q k)) (besideOf (columnOf Q k) (T .left)) (Q .wide * 16) (columnOf Q k) (rowOf Q k) (planesOf (T .mem))) ∙ sym (step-at Q k T) in
-      step-modes-only-first (P .first) (S .reader) (P .header)
-      (P .token (partitionOf P k)) (getD (S .readers) (partitionOf P k) noReader) (headerTable (P .header)) (frameOf (P .header))
-      (columnAt (S .mem .columns) (columnOf P k)) (besideOf (columnOf P k) (S .left)) (P .wide * 16) (columnOf P k) (rowOf P k) (planesOf (S .mem))
-      (Q .token (partitionOf Q k)) (getD (T .readers) (partitionOf Q k) noReader) (headerTable (Q .header)) (frameOf (Q .header))
-      (columnAt (T .mem .columns) (columnOf Q k)) (besideOf (columnOf Q k) (T .left)) (Q .wide * 16) (columnOf Q k) (rowOf Q k) (planesOf (T .mem))
+      let q = partitionOf Q k in
+      let g : stepOf (P .first) (Q .token q) (readersAt T q) (Q .frame) (Q .table) (aroundAt T (columnOf Q k)) (placeOf Q k) (planesIn (T .mem)) ≡ stepAt Q k T =
+      (λ i. stepOf (first i) (Q .token q) (readersAt T q) (Q .frame) (Q .table) (aroundAt T (columnOf Q k)) (placeOf Q k) (planesIn (T .mem))) ∙ sym (step-at Q k T) in
+      step-modes-only-first (P .first)
+      (P .token (partitionOf P k)) (readersAt S (partitionOf P k)) (P .frame) (P .table) (aroundAt S (columnOf P k)) (placeOf P k) (planesIn (S .mem))
+      (Q .token q) (readersAt T q) (Q .frame) (Q .table) (aroundAt T (columnOf Q k)) (placeOf Q k) (planesIn (T .mem))
+      (d .reader) announced
       (d .above (columnOf P k) (column-below P k h) ∙ ap (λ (c : ℕ). columnAt (T .mem .columns) c .modes) (column-same k))
       (beside-modes (columnOf P k) (S .left) (T .left) (d .left) ∙ ap (λ (c : ℕ). besideOf c (T .left) .modes) (column-same k))
       (sym (step-at P k S) ∙ e) (g ∙ f)

@@ -7,15 +7,14 @@ use lib.ListN.{length, getD, set, length-set}
 use lib.Seq.{getD-set-same, getD-set-other}
 use Rattle.numbers.specs.Tests.{lt-or, eq-or}
 use Rattle.reader.specs.Boolean.{noReader}
-use Rattle.coefficients.specs.Tokens.{headerTable}
-use Rattle.modes.specs.Records.{columnAt}
-use Rattle.segments.specs.Frame.{frameOf}
+use Rattle.tile.specs.Partitions.{pickOf}
+use Rattle.lent.specs.Records.{columnAt}
 use Rattle.macroblock.specs.Macroblock.{Finished, Step, no-modes, no-tokens, stepOf}
 use Rattle.picture.specs.declared.rows.Decoded.{Decoded}
 use Rattle.picture.specs.declared.rows.Decoded.the-variants as D
-use Rattle.picture.specs.Memory.{Memory}
+use Rattle.lent.specs.Memory.{Memory}
 use Rattle.picture.specs.PictureLaws.{step-at}
-use Rattle.picture.specs.Picture.{Picture, State, Ended, partitionOf, besideOf, planesOf, stepAt, written, nextOf, runOf}
+use Rattle.picture.specs.Picture.{Picture, State, Ended, partitionOf, besideOf, planesIn, stepAt, written, nextOf, runOf}
 use Rattle.promises.specs.Reached.{Reached, start, after, Ending, whole, modes-out, tokens-out}
 use Rattle.promises.specs.ReachedLaws.{missing-modes, missing-tokens, ending, ends-whole, stops-modes, stops-tokens, reached-before}
 
@@ -24,7 +23,8 @@ pub record Twins (U : ℕ → Type 0) (P Q : Picture) : Type 0 where
   pub first : P .first ≡ Q .first
   pub count : P .count ≡ Q .count
   pub few : P .count ≤ 8
-  pub header : P .header ≡ Q .header
+  pub frame : P .frame ≡ Q .frame
+  pub table : P .table ≡ Q .table
   pub wide : P .wide ≡ Q .wide
   pub token : (q : ℕ) → U q → P .token q ≡ Q .token q
 
@@ -39,7 +39,7 @@ pub record Same (U : ℕ → Type 0) (S T : State) : Type 0 where
 
 module _ {U : ℕ → Type 0} {P Q : Picture} (t : Twins U P Q) where
   part-same : (k : ℕ) → partitionOf P k ≡ partitionOf Q k
-  part-same k = λ i. k / t .wide i % t .count i
+  part-same k = λ i. pickOf (k / t .wide i) (t .count i)
 
   module _ {S T : State} (s : Same U S T) (k : ℕ) (u : U (partitionOf P k)) where
     -- one macroblock of both
@@ -48,29 +48,30 @@ module _ {U : ℕ → Type 0} {P Q : Picture} (t : Twins U P Q) where
         let a : P .token (partitionOf P k) ≡ Q .token (partitionOf Q k) = t .token (partitionOf P k) u ∙ ap (Q .token) (part-same k) in
         let b : getD (S .readers) (partitionOf P k) noReader ≡ getD (T .readers) (partitionOf Q k) noReader = s .readers (partitionOf P k) u ∙ ap (λ (q : ℕ). getD (T .readers) q noReader) (part-same k) in
         step-at P k S
-        ∙ (λ i. stepOf (t .first i) (s .reader i) (a i) (b i) (t .header i) (headerTable (t .header i)) (frameOf (t .header i))
-        (columnAt (s .mem i .columns) (k % t .wide i)) (besideOf (k % t .wide i) (s .left i)) (t .wide i * 16) (k % t .wide i) (k / t .wide i) (planesOf (s .mem i)))
+        ∙ (λ i. stepOf (t .first i) (a i) (record { first = s .reader i; token = b i }) (t .frame i) (t .table i)
+        (record { top = columnAt (s .mem i .columns) (k % t .wide i); left = besideOf (k % t .wide i) (s .left i) })
+        (record { column = k % t .wide i; row = k / t .wide i; width = t .wide i * 16 }) (planesIn (s .mem i)))
         ∙ sym (step-at Q k T)
 
     pub next-same : partitionOf P k < P .count → (x : Finished) → Same U (nextOf P k S x) (nextOf Q k T x)
     next-same h x =
         record {
           reader = refl;
-          eight = length-set (S .readers) (partitionOf P k) (x .tokens) ∙ s .eight;
-          eight′ = length-set (T .readers) (partitionOf Q k) (x .tokens) ∙ s .eight′;
+          eight = length-set (S .readers) (partitionOf P k) (x .readers .token) ∙ s .eight;
+          eight′ = length-set (T .readers) (partitionOf Q k) (x .readers .token) ∙ s .eight′;
           readers = λ q v. with q v (eq-or q (partitionOf P k));
           left = refl;
           mem = λ i. written k (k % t .wide i) (s .mem i) x;
         }
       where
-        with : (q : ℕ) → U q → (q ≡ partitionOf P k) ⊎ (q ≡ partitionOf P k → ⊥) → getD (set (S .readers) (partitionOf P k) (x .tokens)) q noReader ≡ getD (set (T .readers) (partitionOf Q k) (x .tokens)) q noReader
+        with : (q : ℕ) → U q → (q ≡ partitionOf P k) ⊎ (q ≡ partitionOf P k → ⊥) → getD (set (S .readers) (partitionOf P k) (x .readers .token)) q noReader ≡ getD (set (T .readers) (partitionOf Q k) (x .readers .token)) q noReader
         with q v (inl e) =
             rw (e, ← part-same k)
-            (getD-set-same (S .readers) (partitionOf P k) (x .tokens) noReader (rw (s .eight) (omega (arith, t .few)))
-            ∙ sym (getD-set-same (T .readers) (partitionOf P k) (x .tokens) noReader (rw (s .eight′) (omega (arith, t .few)))))
+            (getD-set-same (S .readers) (partitionOf P k) (x .readers .token) noReader (rw (s .eight) (omega (arith, t .few)))
+            ∙ sym (getD-set-same (T .readers) (partitionOf P k) (x .readers .token) noReader (rw (s .eight′) (omega (arith, t .few)))))
         with q v (inr n) =
-            getD-set-other (S .readers) (partitionOf P k) q (x .tokens) noReader n ∙ s .readers q v
-            ∙ sym (getD-set-other (T .readers) (partitionOf Q k) q (x .tokens) noReader (λ e. n (e ∙ sym (part-same k))))
+            getD-set-other (S .readers) (partitionOf P k) q (x .readers .token) noReader n ∙ s .readers q v
+            ∙ sym (getD-set-other (T .readers) (partitionOf Q k) q (x .readers .token) noReader (λ e. n (e ∙ sym (part-same k))))
 
 -- ---- macroblocks below b read only partitions in which both agree
 module _ {U : ℕ → Type 0} {P Q : Picture} (t : Twins U P Q) (b : ℕ) (used : (k : ℕ) → k < b → U (partitionOf P k)) (inside : (k : ℕ) → k < b → partitionOf P k < P .count) {S₀ T₀ : State} (s₀ : Same U S₀ T₀) where

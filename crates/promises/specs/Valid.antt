@@ -1,18 +1,17 @@
 -- Demand 2, what replaces the source's clauses on contexts and limits. After 1 to 5 nothing changed, so there is nothing to say.
 use Prim.Native.Nat.{ℕ, _≤_}
 use Rattle.reader.specs.BooleanLaws.{Bytes}
-use Rattle.modes.specs.RecordsLaws.{Columns}
-use Rattle.macroblock.specs.StrengthRecords.{strengthAt}
-use Rattle.picture.specs.Memory.{Memory}
-use Rattle.picture.specs.Checks.{Tile}
+use Rattle.lent.specs.Records.{Columns, strengthAt}
+use Rattle.lent.specs.Memory.{Memory}
+use Rattle.picture.specs.Checks.{Call}
 use Rattle.picture.specs.Picture.{pictureOf}
 use Rattle.picture.specs.FinalLaws.{picture-final}
 use Rattle.promises.specs.Refusals.{Fine}
 
 -- THE PROMISES, after 0, 6 and 7: every context in column memory is in range, four modes below 10 and nine flags below 2
-pub final-contexts-valid : (t : Tile) (m : Memory) → Bytes (t .bytes) → Fine t m → Columns (pictureOf t m .mem .columns)
+pub final-contexts-valid : (t : Call) (m : Memory) → Bytes (t .bytes) → Fine t m → Columns (pictureOf t m .mem .columns)
 final-contexts-valid t m b e = picture-final t m e b .contexts
 
 -- and every macroblock's limit is at most 189
-pub limits-at-most-189 : (t : Tile) (m : Memory) → Bytes (t .bytes) → Fine t m → (k : ℕ) → strengthAt (pictureOf t m .mem .strengths) k .limit ≤ 189
+pub limits-at-most-189 : (t : Call) (m : Memory) → Bytes (t .bytes) → Fine t m → (k : ℕ) → strengthAt (pictureOf t m .mem .strengths) k .limit ≤ 189
 limits-at-most-189 t m b e = picture-final t m e b .limits

@@ -13,11 +13,13 @@ use Rattle.numbers.specs.Parts.{of-le}
 use Rattle.numbers.specs.Lists.{getD-constant}
 use Rattle.reader.specs.Boolean.{firstReader}
 use Rattle.reader.specs.BooleanLaws.{Bytes}
-use Rattle.picture.specs.Memory.{Memory, sizesOf}
-use Rattle.picture.specs.Partitions.{Inside}
-use Rattle.picture.specs.PartitionsLaws.{part-length}
-use Rattle.picture.specs.Checks.{Tile}
-use Rattle.picture.specs.ChecksLaws.{Sides, Counted, Bounded, Sized, Cut}
+use Rattle.lent.specs.Memory.{Memory, memoryOf, sizesOf}
+use Rattle.tile.specs.declared.Span.{Span}
+use Rattle.tile.specs.Partitions.{spanAt}
+use Rattle.tile.specs.PartitionsLaws.{part-length}
+use Rattle.tile.specs.Checks.{Sides, Counted, Inside, Cut}
+use Rattle.picture.specs.Checks.{Call, callOf}
+use Rattle.picture.specs.ChecksLaws.{Bounded, Lengths}
 use Rattle.promises.specs.Refusals.{Fine, good-arguments}
 use Rattle.promises.specs.Isolation.{SameTokens, Alike, Isolated}
 use Rattle.promises.specs.IsolationLaws.{isolated}
@@ -33,23 +35,17 @@ bytesOf x = shared ++ replicate 32 x
 abbrev pub header : List ℤ
 header = replicate 1096 (pos 0)
 
-abbrev pub tileOf : ℕ → Tile
-tileOf x = record {
-  bytes = bytesOf x;
-  firstStart = 0;
-  firstLength = 32;
-  reader = firstReader (replicate 32 0);
-  starts = 32 ∷ 64 ∷ [];
-  lengths = 32 ∷ 32 ∷ [];
-  count = 2;
-  header = header;
-  width = 16;
-  height = 32;
-}
+abbrev pub spans : List Span
+spans = record { start = 32; len = 32 } ∷ record { start = 64; len = 32 } ∷ []
+
+abbrev pub tileOf : ℕ → Call
+tileOf x = callOf (bytesOf x)
+    (record { first = record { start = 0; len = 32 }; tokens = spans; reader = firstReader (replicate 32 0); count = 2; width = 16; height = 32 })
+    header
 
 -- memory of the right lengths that holds x everywhere
-abbrev pub memoryOf : ℕ → Memory
-memoryOf x = record { y = replicate 512 x; u = replicate 128 x; v = replicate 128 x; columns = replicate 13 x; modes = replicate 40 x; strengths = replicate 8 x }
+abbrev pub heldOf : ℕ → Memory
+heldOf x = memoryOf (replicate 512 x) (replicate 128 x) (replicate 128 x) (replicate 13 x) (replicate 40 x) (replicate 8 x)
 
 -- what all of them share
 front : (x i : ℕ) → i < 64 → getD (bytesOf x) i 0 ≡ 0
@@ -73,8 +69,9 @@ bytes-fine x h i = ⊎-elim
 bounded : Bounded header
 bounded = record { at = λ i. rw (getD-constant 1096 i (pos 0)) (record { low = of-le (omega arith); high = of-le (omega arith) }) }
 
-fine : (x y : ℕ) → Fine (tileOf x) (memoryOf y)
-fine x y = good-arguments (tileOf x) (memoryOf y) sides counted bounded sized cut
+fine : (x y : ℕ) → Fine (tileOf x) (heldOf y)
+unfolding spanAt
+fine x y = good-arguments (tileOf x) (heldOf y) sides counted bounded sized cut
   where
     sides : Sides 16 32
     sides = record { width = record { least = omega arith; most = omega arith; whole = refl }; height = record { least = omega arith; most = omega arith; whole = refl } }
@@ -82,29 +79,31 @@ fine x y = good-arguments (tileOf x) (memoryOf y) sides counted bounded sized cu
     counted : Counted 2
     counted = record { least = omega arith; most = omega arith }
 
-    sized : Sized (tileOf x) (sizesOf (memoryOf y))
+    sized : Lengths (tileOf x) (sizesOf (heldOf y))
     sized = record {
+      sizes = record {
       y = length-replicate 512 y;
       u = length-replicate 128 y;
       v = length-replicate 128 y;
       columns = length-replicate 13 y;
       modes = length-replicate 40 y;
       strengths = length-replicate 8 y;
+      };
       header = length-replicate 1096 (pos 0);
     }
 
-    inside : (i : ℕ) → i < 2 → Inside (length (bytesOf x)) (getD (32 ∷ 64 ∷ []) i 0) (getD (32 ∷ 32 ∷ []) i 0)
+    inside : (i : ℕ) → i < 2 → Inside (length (bytesOf x)) (spanAt (tileOf x .tile) i)
     inside zero h = record { fits = rw (long x) (omega arith) }
     inside (suc zero) h = record { fits = rw (long x) (omega arith) }
     inside (suc (suc i)) h = absurd (omega arith)
 
-    cut : Cut (tileOf x)
+    cut : Cut (tileOf x .bytes) (tileOf x .tile)
     cut = record {
       first = record { fits = rw (long x) (omega arith) };
       tokens = inside;
       reader = record {
         placed = omega arith;
-        inside = rw (part-length (bytesOf x) 0 32 (rw (long x) (omega arith))) (omega arith);
+        inside = rw (part-length (bytesOf x) (record { start = 0; len = 32 }) (record { fits = rw (long x) (omega arith) })) (omega arith);
         least = omega arith;
         most = omega arith;
         few = omega arith;
@@ -114,6 +113,7 @@ fine x y = good-arguments (tileOf x) (memoryOf y) sides counted bounded sized cu
     }
 
 two-tiles : (x y : ℕ) → Alike 1 (tileOf x) (tileOf y)
+unfolding spanAt
 two-tiles x y = record {
   width = refl;
   height = refl;
@@ -132,5 +132,5 @@ two-tiles x y = record {
     tokens (suc (suc q)) h n = absurd (omega arith)
 
 -- THE PROMISE at work: partition 1 all zeros in the one and all 255 in the other, memory that held 7 and memory that held 9
-pub first-row : Isolated 1 (tileOf 0) (tileOf 255) (memoryOf 7) (memoryOf 9)
-first-row = isolated 1 (tileOf 0) (tileOf 255) (memoryOf 7) (memoryOf 9) (two-tiles 0 255) (fine 0 7) (fine 255 9) (bytes-fine 0 (omega arith)) (bytes-fine 255 (omega arith))
+pub first-row : Isolated 1 (tileOf 0) (tileOf 255) (heldOf 7) (heldOf 9)
+first-row = isolated 1 (tileOf 0) (tileOf 255) (heldOf 7) (heldOf 9) (two-tiles 0 255) (fine 0 7) (fine 255 9) (bytes-fine 0 (omega arith)) (bytes-fine 255 (omega arith))

@@ -9,7 +9,7 @@ use Rattle.numbers.specs.Clamp.{clampZ, upTo}
 use Rattle.numbers.specs.Lists.{build}
 use Rattle.numbers.specs.Wrap.{wrapZ, turns}
 use Rattle.coefficients.specs.Tokens.{signOf}
-use Rattle.coefficients.specs.Transform.{gridOf, transposeOf, columnOf, scaledOf, passOf, rowsOf, verticalOf, horizontalOf, resultsOf, samplesOf}
+use Rattle.transform.specs.Transform.{gridOf, transposeOf, columnOf, scaledOf, passOf, rowsOf, verticalOf, horizontalOf, resultsOf, samplesOf}
 use Rattle.filter.specs.Kernel.{filterOf, movedOf, stepsOf, noSteps, commonSteps, macroblockSteps, innerSteps, sides, part, half, eighth, tapped, across, ruleOf, highVariance, roughAt, smooth, firstFalse, withinLimit}
 
 -- a row: what is computed, and what it must be

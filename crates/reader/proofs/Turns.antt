@@ -4,7 +4,6 @@ use mathlib.Core.Path.{_≡_, refl, sym, _∙_, ap}
 use mathlib.Core.Bool.{Bool}
 use mathlib.Core.List.{List}
 use lib.ListN.{length, getD, drop}
-use lib.Pow.{pow-mono}
 use native.Mathlib.Omega.{arith}
 use native.Mathlib.Nat.{pow-succ'}
 use native.Mathlib.Numerals.{add-one}
@@ -23,10 +22,6 @@ pub record Going (s ps : List ℕ) (r₀ next : Reader) (v i : ℕ) : Type 0 whe
   pub same : run (extraFrom v (drop i ps)) s next ≡ run (extra ps) s r₀
   pub valid : Valid s next
   pub small : v < 2 ^ i
-
--- a number of few bits is small
-pub bits-small : {v i n : ℕ} → v < 2 ^ i → i ≤ n → n ≤ 16 → v < 65536
-bits-small {v} {i} {n} h l k = omega (arith, pow-mono {i = i} {j = 16} (omega arith))
 
 pub going-start : {s ps : List ℕ} {r : Reader} → Valid s r → Going s ps r r 0 0
 going-start v = record { same = refl; valid = v; small = omega arith }

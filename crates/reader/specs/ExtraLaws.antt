@@ -8,6 +8,7 @@ use mathlib.Core.List.{List, [], _∷_}
 use mathlib.Core.Bool.{Bool, true, false, _&&_}
 use lib.ListN.{length, getD, drop, drop-of-length-le}
 use lib.Seq.{drop-cons}
+use lib.Pow.{pow-mono}
 use lib.Dec.{leb}
 use borrow.Author.Tests.{le-leb, lt-leb}
 use Rattle.numbers.specs.Tests.{both-true, both-false}
@@ -79,3 +80,7 @@ module _ (s ps : List ℕ) (r : Reader) where
   pub numbered : Valid s r → length ps ≤ 16 → {x : Number} → x ≡ extraAnswer s ps r → run (extra ps) s r ≡ fromNumber x
   unfolding extraOf
   numbered v h f = from-number (run (extra ps) s r) ∙ ap fromNumber (sym (f ∙ extra-good v h))
+
+-- a number of few bits is small
+pub bits-small : {v i n : ℕ} → v < 2 ^ i → i ≤ n → n ≤ 16 → v < 65536
+bits-small {v} {i} {n} h l k = omega (arith, pow-mono {i = i} {j = 16} (omega arith))

@@ -5,11 +5,10 @@ pub mod Reading
 pub mod ReadingLaws
 pub mod Reads
 pub mod ReadsLaws
-pub mod Header
-pub mod HeaderLaws
 pub mod Trees
 pub mod TreesLaws
 pub mod Extra
 pub mod ExtraLaws
 pub mod Token
 pub mod TokenLaws
+pub mod AnswersLaws

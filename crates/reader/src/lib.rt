@@ -3,6 +3,5 @@
 // grammars: what a part of a frame asks, apart from how a reader answers.
 pub mod boolean;
 pub mod extra;
-pub mod header;
 pub mod token;
 pub mod trees;

@@ -1,22 +1,15 @@
--- For a caller's `let .. else`: every answer but Done says that a byte is missing.
+-- The tags of the answers that this crate's code takes apart.
 use Prim.Native.Nat.{ℕ}
-use native.Mathlib.Omega.{arith}
 use mathlib.Core.List.{List}
-use mathlib.Core.Logic.{_⊎_, ⊎-elim}
+use mathlib.Core.Logic.{_⊎_}
 use mathlib.Core.Path.{_≡_, refl}
 use lib.IntN.{ℤ}
 use denote.Enum.Declared.{tagOf}
 use Rattle.reader.specs.Boolean.{missing}
-use Rattle.residual.specs.ResidualLaws.{fromEnded}
-use Rattle.residual.specs.declared.Ended.{Ended}
-use Rattle.residual.specs.declared.Ended.the-variants as E
-use Rattle.residual.proofs.Ended as ended
+use Rattle.coefficients.specs.declared.tokens.Block.{Block}
+use Rattle.coefficients.specs.TokenLaws as laws
+use Rattle.coefficients.specs.TokenLaws.{fromBlock}
+use Rattle.coefficients.proofs.tokens.Block as block
 
--- a tag that is 1 or 2 is not 0
-other : {n : ℕ} → (n ≡ 1) ⊎ (n ≡ 2) → n ≡ 0 → ⊥
-other e z = ⊎-elim (λ h. omega arith) (λ h. omega arith) e
-
-pub not-done : (top left : List ℕ) (l : List ℤ) (a : Ended) → (tagOf ended.the-type a ≡ 1) ⊎ (tagOf ended.the-type a ≡ 2) → fromEnded top left l a ≡ missing
-not-done top left l (E.Done r empty) e = absurd (other e refl)
-not-done top left l E.Missing e = refl
-not-done top left l E.Refused e = refl
+pub not-ended : (l : List ℤ) (x : Block) → (tagOf block.the-type x ≡ 1) ⊎ (tagOf block.the-type x ≡ 2) → fromBlock l x ≡ missing
+not-ended = laws.not-ended (tagOf block.the-type) (λ n r. refl)

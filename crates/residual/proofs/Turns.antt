@@ -7,21 +7,22 @@ use mathlib.Core.Path.{_≡_, refl, sym, _∙_, ap}
 use lib.Dec.{ltb, leb}
 use lib.IntN.{ℤ, pos, negsuc}
 use lib.ListN.{length, getD, set, replicate}
+use Rattle.numbers.specs.Flags.{bitOf}
 use Rattle.reader.specs.Boolean.{Given, given, missing}
 use Rattle.reader.specs.BooleanLaws.{Bytes, Valid}
 use Rattle.numbers.specs.In.{Each}
 use Rattle.reader.specs.Reading.{run, Within, ends}
 use Rattle.reader.specs.ReadingLaws.{Ended, run-valid}
 use Rattle.reader.specs.declared.boolean.Reader.{Reader}
-use Rattle.segments.specs.declared.quantizers.Factors.{Factors}
+use Rattle.header.specs.declared.quantizers.Factors.{Factors}
 use Rattle.coefficients.specs.TokenLaws.{Sixteen, fromBlock, block-within}
 use Rattle.coefficients.specs.Tokens.{block}
-use Rattle.coefficients.specs.Transform.{samplesOf, transformOf}
-use Rattle.coefficients.specs.TransformLaws.{transform-good}
+use Rattle.transform.specs.Transform.{samplesOf, transformOf}
+use Rattle.transform.specs.TransformLaws.{transform-good}
 use Rattle.coefficients.specs.declared.tokens.Block.{Block}
 use Rattle.coefficients.specs.declared.tokens.Block.the-variants as B
-use Rattle.coefficients.specs.declared.transform.Transformed.{Transformed}
-use Rattle.residual.specs.Residual.{Model, Flags, Whole, initial, coordinates, secondKind, kindOf, flagOf, zeroOf, coded, spread, secondPlace, second, sixteenAt, stored, advance, blocksFrom, dcStage, cleared, residualOf, nothing, toCalled, callOf}
+use Rattle.transform.specs.declared.Transformed.{Transformed}
+use Rattle.residual.specs.Residual.{Model, Flags, ModelInRange, initial, coordinates, secondKind, kindOf, zeroOf, coded, spread, secondPlace, second, sixteenAt, stored, advance, blocksFrom, dcStage, cleared, residualOf, nothing, toCalled, callOf}
 use Rattle.residual.specs.ResidualLaws.{kind-in, initial-whole, zeros-sixteen, sixteen-in, sixteen-fit, second-within, advance-within}
 use Rattle.residual.specs.ResidualSteps.{modelOf, turnOf, Held, coded-at, second-missing, second-ended, advance-missing, advance-ended, blocks-none, blocks-missing, blocks-next, residual-skip, residual-missing, residual-next, call-missing, call-handed}
 use Rattle.residual.specs.declared.Ended.the-variants as E
@@ -29,11 +30,11 @@ use Rattle.residual.specs.declared.Residual.{Residual}
 use Rattle.residual.specs.declared.blocks.Kind.{Kind}
 use Rattle.residual.specs.declared.blocks.State.{State}
 use Rattle.residual.specs.declared.blocks.Turn.{Turn}
-use Rattle.residual.specs.declared.contexts.Place.{Place}
+use Rattle.residual.specs.declared.contexts.FlagsAt.{FlagsAt}
 
 -- the state that the code makes after a block
-abbrev pub after : State → Reader → Kind → Place → ℕ → Bool → State
-after m q k p end e = record { reader = q; top = set (m .top) (p .x) (flagOf (ltb (k .first) end)); left = set (m .left) (p .y) (flagOf (ltb (k .first) end)); empty = e }
+abbrev pub after : State → Reader → Kind → FlagsAt → ℕ → Bool → State
+after m q k p end e = record { reader = q; top = set (m .top) (p .x) (bitOf (ltb (k .first) end)); left = set (m .left) (p .y) (bitOf (ltb (k .first) end)); empty = e }
 
 module _ (s table : List ℕ) (f : Factors) (m : State) (flat : List ℤ) where
   -- ---- the second-order block
@@ -53,7 +54,7 @@ module _ (s table : List ℕ) (f : Factors) (m : State) (flat : List ℤ) where
         rw (o, e, j, d) (second-ended table f s (modelOf m flat) (m .reader) z)
 
   -- ---- block i
-  module _ (small : Bool) (i : ℕ) {k : Kind} (e : k ≡ kindOf f small i) {p : Place} (a : p ≡ coordinates i) {old : List ℤ} (u : old ≡ sixteenAt flat (16 * i)) {ctx : ℕ} (n : ctx ≡ getD (m .top) (p .x) 0 + getD (m .left) (p .y) 0) (x : Block) (l : List ℤ) (g : run (block table (k .kind) (k .q0) (k .q1) ctx (k .first) old) s (m .reader) ≡ fromBlock l x) where
+  module _ (small : Bool) (i : ℕ) {k : Kind} (e : k ≡ kindOf f small i) {p : FlagsAt} (a : p ≡ coordinates i) {old : List ℤ} (u : old ≡ sixteenAt flat (16 * i)) {ctx : ℕ} (n : ctx ≡ getD (m .top) (p .x) 0 + getD (m .left) (p .y) 0) (x : Block) (l : List ℤ) (g : run (block table (k .kind) (k .q0) (k .q1) ctx (k .first) old) s (m .reader) ≡ fromBlock l x) where
     wanted : run (coded table (kindOf f small i) (coordinates i) (m .top) (m .left) (sixteenAt flat (16 * i))) s (m .reader) ≡ fromBlock l x
     wanted = rw (e, a, u) at (coded-at s (m .reader) table k p (m .top) (m .left) old n g)
 
@@ -83,7 +84,7 @@ pub turn-got : (t : Turn) (to : List ℤ) {x : Given Model} → t .ended ≡ tru
 turn-got t to h e = rw h at e
 
 -- what it then holds
-pub turn-held : {s table : List ℕ} {m n : State} {flat to : List ℤ} → Held s table m flat → Ended Whole s (m .reader) (modelOf n to) (n .reader) → Held s table n to
+pub turn-held : {s table : List ℕ} {m n : State} {flat to : List ℤ} → Held s table m flat → Ended ModelInRange s (m .reader) (modelOf n to) (n .reader) → Held s table n to
 turn-held h e = record { reader = e .valid; size = h .size; whole = e .value }
 
 module _ {s table : List ℕ} {f : Factors} {small : Bool} {E : Given Model} {i : ℕ} {m : State} {flat : List ℤ} (g : Going s table f small E i m flat) where
@@ -117,10 +118,10 @@ abbrev pub first : Reader → List ℕ → List ℕ → State
 first r top left = record { reader = r; top = top; left = left; empty = true }
 
 module _ (table : List ℕ) (f : Factors) (small : Bool) where
-  dc-within : {m : Model} → Bytes table → Whole m → Within Whole 304 (dcStage table f small m)
+  dc-within : {m : Model} → Bytes table → ModelInRange m → Within ModelInRange 304 (dcStage table f small m)
   dc-within {m} b w = go small
     where
-      go : (small : Bool) → Within Whole 304 (dcStage table f small m)
+      go : (small : Bool) → Within ModelInRange 304 (dcStage table f small m)
       go true = ends w
       go false = second-within table f b w
 

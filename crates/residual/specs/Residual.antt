@@ -7,23 +7,24 @@ use mathlib.Core.Path.{_≡_}
 use lib.Dec.{ltb, leb, eqb}
 use lib.IntN.{ℤ, pos, negsuc}
 use lib.ListN.{length, getD, set, replicate}
+use Rattle.numbers.specs.Flags.{bitOf}
 use Rattle.numbers.specs.In.{Each}
 use Rattle.numbers.specs.Lists.{build}
 use Rattle.numbers.specs.Runs.{placed}
 use Rattle.numbers.specs.Tables.{allBelow}
 use Rattle.reader.specs.Boolean.{Given, given, missing, validOf, noReader}
-use Rattle.reader.specs.Header.{headerOf}
+use Rattle.header.specs.Header.{headerOf}
 use Rattle.reader.specs.Reading.{Reading, done, run, _>>=_}
 use Rattle.reader.specs.declared.boolean.Reader.{Reader}
-use Rattle.segments.specs.Quantizers.{factorsOf}
-use Rattle.segments.specs.declared.quantizers.Factors.{Factors}
+use Rattle.header.specs.Quantizers.{factorsOf}
+use Rattle.header.specs.declared.quantizers.Factors.{Factors}
 use Rattle.coefficients.specs.Tokens.{Coefficients, block, headerTable}
-use Rattle.coefficients.specs.Transform.{samplesOf}
+use Rattle.transform.specs.Transform.{samplesOf}
 use Rattle.residual.specs.declared.Ended.{Ended}
 use Rattle.residual.specs.declared.Ended.the-variants as E
 use Rattle.residual.specs.declared.Residual.{Residual}
 use Rattle.residual.specs.declared.blocks.Kind.{Kind}
-use Rattle.residual.specs.declared.contexts.Place.{Place}
+use Rattle.residual.specs.declared.contexts.FlagsAt.{FlagsAt}
 
 -- What goes from block to block. Nine flags above and nine to the left say which neighbouring blocks had coefficients: 0..3 luma, 4..5 U,
 -- 6..7 V, 8 the second-order block. The 384 coefficients stand block after block: 16 of luma, 4 of U, 4 of V, sixteen numbers each.
@@ -38,7 +39,7 @@ pub record Flags (l : List ℕ) : Type 0 where
   pub long : length l ≡ 9
   pub each : (i : ℕ) → getD l i 0 ≤ 1
 
-pub record Whole (m : Model) : Type 0 where
+pub record ModelInRange (m : Model) : Type 0 where
   pub top : Flags (m .top)
   pub left : Flags (m .left)
   pub long : length (m .coefficients) ≡ 384
@@ -49,7 +50,7 @@ abbrev pub initial : (top left : List ℕ) → Model
 initial top left = record { top = top; left = left; coefficients = replicate 384 (pos 0); empty = true }
 
 -- ---- where a block's flags are (section 13.3): its column's above, its row's to the left
-unfoldable pub coordinates : (i : ℕ) → Place
+unfoldable pub coordinates : (i : ℕ) → FlagsAt
 coordinates i =
     elim (ltb i 16) [
       | true ↦ record { x = i % 4; y = i / 4 }
@@ -74,18 +75,14 @@ kindOf f small i =
     ]
 
 -- ---- one block
-abbrev pub flagOf : Bool → ℕ
-flagOf true = 1
-flagOf false = 0
-
 -- its tokens, in the context of its two flags, on the sixteen numbers that stand there
-abbrev pub coded : (table : List ℕ) → Kind → Place → (top left : List ℕ) → (old : List ℤ) → Reading Coefficients
+abbrev pub coded : (table : List ℕ) → Kind → FlagsAt → (top left : List ℕ) → (old : List ℤ) → Reading Coefficients
 coded table k p top left old = block table (k .kind) (k .q0) (k .q1) (getD top (p .x) 0 + getD left (p .y) 0) (k .first) old
 
 -- after it both flags are 1 where it ended past its first position
-abbrev pub flagged : Kind → Place → (end : ℕ) → (coefficients : List ℤ) → (empty : Bool) → Model → Model
+abbrev pub flagged : Kind → FlagsAt → (end : ℕ) → (coefficients : List ℤ) → (empty : Bool) → Model → Model
 flagged k p end coefficients empty m =
-    let flag = flagOf (ltb (k .first) end) in
+    let flag = bitOf (ltb (k .first) end) in
     record { top = set (m .top) (p .x) flag; left = set (m .left) (p .y) flag; coefficients = coefficients; empty = empty }
 
 -- ---- the second-order block, from sixteen zeros: its inverse Walsh transform gives the first coefficient of each luma block
@@ -94,7 +91,7 @@ unfoldable pub spread : (l dc : List ℤ) → (n : ℕ) → List ℤ
 spread l dc zero = l
 spread l dc (suc k) = set (spread l dc k) (16 * k) (getD dc k (pos 0))
 
-abbrev pub secondPlace : Place
+abbrev pub secondPlace : FlagsAt
 secondPlace = record { x = 8; y = 8 }
 
 unfoldable pub second : (table : List ℕ) → Factors → Model → Reading Model
@@ -125,12 +122,12 @@ module _ (table : List ℕ) (f : Factors) (small : Bool) where
     c ← coded table (kindOf f small i) (coordinates i) (m .top) (m .left) (sixteenAt (m .coefficients) (16 * i))
     done (flagged (kindOf f small i) (coordinates i) (c .end) (stored (m .coefficients) (16 * i) (c .values)) (m .empty && emptyOf c) m)
 
-  -- `left` more blocks, from block i on
-  unfoldable pub blocksFrom : (left i : ℕ) → Model → Reading Model
+  -- n more blocks, from block i on
+  unfoldable pub blocksFrom : (n i : ℕ) → Model → Reading Model
   blocksFrom zero i m = done m
-  blocksFrom (suc left) i m = do
+  blocksFrom (suc n) i m = do
     next ← advance i m
-    blocksFrom left (i + 1) next
+    blocksFrom n (i + 1) next
 
 -- ---- the macroblock
 -- small modes have no second-order block

@@ -3,39 +3,40 @@ use Prim.Native.Nat.{ℕ, zero, suc, _+_, _-_, _*_, _≤_, _<_}
 use native.Mathlib.Omega.{arith}
 use mathlib.Core.Bool.{Bool, true, false, _&&_}
 use mathlib.Core.List.{List}
-use mathlib.Core.Logic.{inl, inr, ⊎-elim}
+use mathlib.Core.Logic.{_⊎_, inl, inr, ⊎-elim}
 use mathlib.Core.Path.{_≡_, refl, sym, _∙_, ap}
 use lib.Dec.{ltb}
 use lib.IntN.{ℤ, pos, negsuc}
 use lib.ListN.{length, getD, set, replicate, length-set, length-replicate}
 use borrow.Author.Tests.{lt-ltb, le-ltb}
+use Rattle.numbers.specs.Flags.{bitOf}
 use Rattle.numbers.specs.Bounds.{each-set}
 use Rattle.numbers.specs.In.{Each}
 use Rattle.numbers.specs.Know.{num, inside}
 use Rattle.numbers.specs.Lists.{set-keeps, length-build, getD-build, getD-build-past, getD-constant}
 use Rattle.numbers.specs.Order.{In-wider}
 use Rattle.numbers.specs.Runs.{placed, length-placed, placed-keeps}
-use Rattle.numbers.specs.Tests.{lt-or, both-true}
+use Rattle.numbers.specs.Tests.{lt-or, both-true, not-first}
 use Rattle.reader.specs.Boolean.{Given, given, missing, validOf}
 use Rattle.reader.specs.BooleanLaws.{Bytes, Valid, valid-test}
-use Rattle.reader.specs.Header.{headerOf}
+use Rattle.header.specs.Header.{headerOf}
 use Rattle.reader.specs.Reading.{run, Within, ends}
 use Rattle.reader.specs.ReadingLaws as ReadingLaws
 use Rattle.reader.specs.ReadingLaws.{never-both, run-valid, within-bind, within-more}
 use Rattle.reader.specs.declared.boolean.Reader.{Reader}
-use Rattle.segments.specs.Quantizers.{factorsOf}
-use Rattle.segments.specs.declared.quantizers.Factors.{Factors}
+use Rattle.header.specs.Quantizers.{factorsOf}
+use Rattle.header.specs.declared.quantizers.Factors.{Factors}
 use Rattle.coefficients.specs.TokenLaws.{Small, Sixteen, block-within}
 use Rattle.coefficients.specs.Tokens.{headerTable}
-use Rattle.coefficients.specs.Transform.{samplesOf}
-use Rattle.coefficients.specs.TransformLaws.{Coefficients, transform-good, transform-walsh-in}
-use Rattle.residual.specs.Residual.{Model, Flags, Whole, initial, coordinates, secondKind, lumaKind, kindOf, flagOf, flagged, spread, secondPlace, second, sixteenAt, emptyOf, advance, blocksFrom, cleared, residualOf, Called, toCalled, argumentsOf, callOf, decodeOf, decodeHeaderOf}
+use Rattle.transform.specs.Transform.{samplesOf}
+use Rattle.transform.specs.TransformLaws.{Coefficients, transform-good, transform-walsh-in}
+use Rattle.residual.specs.Residual.{Model, Flags, ModelInRange, initial, coordinates, secondKind, lumaKind, kindOf, flagged, spread, secondPlace, second, sixteenAt, emptyOf, advance, blocksFrom, cleared, residualOf, Called, toCalled, argumentsOf, callOf, decodeOf, decodeHeaderOf}
 use Rattle.residual.specs.ResidualSteps.{arguments-good, decode-passed, decode-refused, header-passed}
 use Rattle.residual.specs.declared.Ended.{Ended}
 use Rattle.residual.specs.declared.Ended.the-variants as E
 use Rattle.residual.specs.declared.Residual.{Residual}
 use Rattle.residual.specs.declared.blocks.Kind.{Kind}
-use Rattle.residual.specs.declared.contexts.Place.{Place}
+use Rattle.residual.specs.declared.contexts.FlagsAt.{FlagsAt}
 
 -- ---- what a block goes by: coordinates below 8, a kind below 4, a first position of 0 or 1
 pub coordinates-in : (i : ℕ) → i < 24 → (coordinates i .x < 8) × (coordinates i .y < 8)
@@ -63,7 +64,7 @@ kind-in f small i = ⊎-elim (λ k. rw (kind-luma f small i k) (luma small)) (λ
     luma false = (omega arith, omega arith)
 
 -- ---- what goes from block to block
-flag-in : (b : Bool) → flagOf b ≤ 1
+flag-in : (b : Bool) → bitOf b ≤ 1
 flag-in true = omega arith
 flag-in false = omega arith
 
@@ -83,10 +84,10 @@ no-number = In-wider (inside (num (pos 0))) tt
 zeros-each : (n : ℕ) → Each (negsuc 32767) (pos 32767) (replicate n (pos 0))
 zeros-each n = record { at = λ i. rw (getD-constant n i (pos 0)) no-number }
 
-pub initial-whole : {top left : List ℕ} → Flags top → Flags left → Whole (initial top left)
+pub initial-whole : {top left : List ℕ} → Flags top → Flags left → ModelInRange (initial top left)
 initial-whole t l = record { top = t; left = l; long = length-replicate 384 (pos 0); each = zeros-each 384 }
 
-flagged-whole : {m : Model} → Whole m → (k : Kind) (p : Place) (end : ℕ) {l : List ℤ} (e : Bool) → length l ≡ 384 → Each (negsuc 32767) (pos 32767) l → Whole (flagged k p end l e m)
+flagged-whole : {m : Model} → ModelInRange m → (k : Kind) (p : FlagsAt) (end : ℕ) {l : List ℤ} (e : Bool) → length l ≡ 384 → Each (negsuc 32767) (pos 32767) l → ModelInRange (flagged k p end l e m)
 flagged-whole w k p end e n h = record { top = flags-set (w .top) (p .x) (flag-in (ltb (k .first) end)); left = flags-set (w .left) (p .y) (flag-in (ltb (k .first) end)); long = n; each = h }
 
 -- ---- the flat list
@@ -127,7 +128,7 @@ at-most : {a b : ℕ} → a ≡ b → a ≤ b
 at-most e = omega arith
 
 module _ (table : List ℕ) (f : Factors) (y : Bytes table) where
-  pub second-within : {m : Model} → Whole m → Within Whole 304 (second table f m)
+  pub second-within : {m : Model} → ModelInRange m → Within ModelInRange 304 (second table f m)
   unfolding second
   second-within {m} w =
       within-bind {k = 0} (block-within table 1 (f .y2dc) (f .y2ac) y 0 (getD (m .top) 8 0 + getD (m .left) 8 0) (replicate 16 (pos 0)) (omega arith) zeros-sixteen) (λ c h.
@@ -136,7 +137,7 @@ module _ (table : List ℕ) (f : Factors) (y : Bytes table) where
 
   module _ (small : Bool) where
     -- at most 19 symbols a position
-    pub advance-within : (i : ℕ) {m : Model} → Whole m → Within Whole (19 * (16 - kindOf f small i .first)) (advance table f small i m)
+    pub advance-within : (i : ℕ) {m : Model} → ModelInRange m → Within ModelInRange (19 * (16 - kindOf f small i .first)) (advance table f small i m)
     unfolding advance
     advance-within i {m} w =
         let k = kindOf f small i in
@@ -145,15 +146,15 @@ module _ (table : List ℕ) (f : Factors) (y : Bytes table) where
         ends (flagged-whole w k p (c .end) (m .empty && emptyOf c) (length-placed (m .coefficients) (16 * i) (λ j. getD (c .values) j (pos 0)) 16 ∙ w .long)
         (placed-each (16 * i) (λ j. getD (c .values) j (pos 0)) 16 (w .each) (λ j. h .values .each .at j)))))
 
-    -- the symbols of `left` blocks from block i on
-    abbrev pub costFrom : (left i : ℕ) → ℕ
+    -- the symbols of `more` blocks from block i on
+    abbrev pub costFrom : (more i : ℕ) → ℕ
     costFrom zero i = 0
-    costFrom (suc left) i = 19 * (16 - kindOf f small i .first) + costFrom left (i + 1)
+    costFrom (suc more) i = 19 * (16 - kindOf f small i .first) + costFrom more (i + 1)
 
-    pub blocks-within : (left i : ℕ) {m : Model} → Whole m → Within Whole (costFrom left i) (blocksFrom table f small left i m)
+    pub blocks-within : (more i : ℕ) {m : Model} → ModelInRange m → Within ModelInRange (costFrom more i) (blocksFrom table f small more i m)
     unfolding blocksFrom
     blocks-within zero i w = ends w
-    blocks-within (suc left) i w = within-bind (advance-within i w) (λ n h. blocks-within left (i + 1) h)
+    blocks-within (suc more) i w = within-bind (advance-within i w) (λ n h. blocks-within more (i + 1) h)
 
   -- 24 blocks of sixteen positions where the modes are small; else the second-order block, sixteen of fifteen and eight of sixteen
   small-cost : costFrom true 24 0 ≡ 7296
@@ -165,7 +166,7 @@ module _ (table : List ℕ) (f : Factors) (y : Bytes table) where
   large-cost = refl
 
   -- THE LAW of the grammar: what is given is whole, and at most 7296 symbols are asked
-  pub residual-within : (small skip : Bool) {top left : List ℕ} → Flags top → Flags left → Within Whole 7296 (residualOf table f small skip top left)
+  pub residual-within : (small skip : Bool) {top left : List ℕ} → Flags top → Flags left → Within ModelInRange 7296 (residualOf table f small skip top left)
   unfolding residualOf
   residual-within small true t l = ends (initial-whole (flags-cleared small t) (flags-cleared small l))
   residual-within true false t l = within-more (at-most small-cost) (blocks-within true 24 0 (initial-whole t l))
@@ -175,8 +176,8 @@ module _ (table : List ℕ) (f : Factors) (y : Bytes table) where
 -- what it asks of its arguments besides the reader
 pub record Good (table top left : List ℕ) (old : List ℤ) : Type 0 where
   pub size : length table ≡ 1056
-  pub above : Flags top
-  pub beside : Flags left
+  pub top-flags : Flags top
+  pub left-flags : Flags left
   pub long : length old ≡ 384
 
 -- what an answer, with the numbers behind it, says of the grammar
@@ -184,6 +185,12 @@ abbrev pub fromEnded : (top left : List ℕ) → List ℤ → Ended → Given Mo
 fromEnded top left l (E.Done r empty) = given (record { top = top; left = left; coefficients = l; empty = empty }) r
 fromEnded top left l E.Missing = missing
 fromEnded top left l E.Refused = missing
+
+-- for `let .. else`: every answer but Done says that a byte is missing; `tag` numbers the enum's cases from 0
+pub not-done : (tag : Ended → ℕ) → ((r : Reader) (empty : Bool) → tag (E.Done r empty) ≡ 0) → (top left : List ℕ) (l : List ℤ) (a : Ended) → (tag a ≡ 1) ⊎ (tag a ≡ 2) → fromEnded top left l a ≡ missing
+not-done tag z top left l (E.Done r empty) e = absurd (not-first e (z r empty))
+not-done tag z top left l E.Missing e = refl
+not-done tag z top left l E.Refused e = refl
 
 abbrev pub fromResidual : List ℤ → Residual → Given Model
 fromResidual l x = fromEnded (x .top) (x .left) l (x .answer)
@@ -204,7 +211,7 @@ pub record Kept (x : Residual) (l old : List ℤ) : Type 0 where
 module _ (s : List ℕ) (r : Reader) (table : List ℕ) (f : Factors) (small skip : Bool) (top left : List ℕ) (old : List ℤ) where
   -- with good arguments it is the inner definition
   pub decode-good : Valid s r → Good table top left old → callOf s r table f small skip top left old ≡ decodeOf s r table f small skip top left old
-  decode-good v g = decode-passed s r table f small skip top left old (valid-test s r v) (arguments-good table top left (length old) (g .size) (g .above) (g .beside) (g .long))
+  decode-good v g = decode-passed s r table f small skip top left old (valid-test s r v) (arguments-good table top left (length old) (g .size) (g .top-flags) (g .left-flags) (g .long))
 
   -- THE LAW for callers of `decode`
   pub decoded : Valid s r → Good table top left old → {x : Residual} {l : List ℤ} → record { answer = x; out = l } ≡ decodeOf s r table f small skip top left old → run (residualOf table f small skip top left) s r ≡ fromResidual l x
@@ -212,8 +219,8 @@ module _ (s : List ℕ) (r : Reader) (table : List ℕ) (f : Factors) (small ski
   decoded v g e = from-called old (run (residualOf table f small skip top left) s r) ∙ ap fromCalled (decode-good v g ∙ sym e)
 
   -- what was read from good arguments: whole, the reader in range and no earlier
-  pub decode-ends : Valid s r → Good table top left old → Bytes s → Bytes table → {m : Model} {q : Reader} → run (residualOf table f small skip top left) s r ≡ given m q → ReadingLaws.Ended Whole s r m q
-  decode-ends v g y b e = run-valid (residual-within table f b small skip (g .above) (g .beside)) y v e
+  pub decode-ends : Valid s r → Good table top left old → Bytes s → Bytes table → {m : Model} {q : Reader} → run (residualOf table f small skip top left) s r ≡ given m q → ReadingLaws.Ended ModelInRange s r m q
+  decode-ends v g y b e = run-valid (residual-within table f b small skip (g .top-flags) (g .left-flags)) y v e
 
   pub decode-kept : {x : Residual} {l : List ℤ} → record { answer = x; out = l } ≡ decodeOf s r table f small skip top left old → fromResidual l x ≡ missing → Kept x l old
   unfolding decodeOf callOf

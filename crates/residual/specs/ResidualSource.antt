@@ -11,6 +11,7 @@ use lib.IntN.{ℤ, pos}
 use lib.ListN.{length, getD, set, replicate, length-set, length-replicate}
 use lib.Seq.{getD-set-same, getD-set-other}
 use borrow.Author.Tests.{lt-ltb, le-ltb, ne-eqb}
+use Rattle.numbers.specs.Flags.{bitOf}
 use Rattle.numbers.specs.Lists.{build, build-listed, length-build, getD-build, build-same, built, getD-constant}
 use Rattle.numbers.specs.Runs.{Off, length-placed, placed-in, placed-off}
 use Rattle.numbers.specs.Tests.{lt-or, eq-or}
@@ -18,14 +19,14 @@ use Rattle.reader.specs.Boolean.{Given, given, missing}
 use Rattle.reader.specs.Reading.{Reading, done, run, _>>=_}
 use Rattle.reader.specs.ReadingLaws.{run-done, run-then, run-stops}
 use Rattle.reader.specs.declared.boolean.Reader.{Reader}
-use Rattle.segments.specs.declared.quantizers.Factors.{Factors}
+use Rattle.header.specs.declared.quantizers.Factors.{Factors}
 use Rattle.coefficients.specs.Tokens.{Coefficients}
-use Rattle.coefficients.specs.Transform.{samplesOf}
-use Rattle.residual.specs.Residual.{Model, initial, coordinates, secondKind, kindOf, flagOf, coded, flagged, spread, secondPlace, second, sixteenAt, stored, emptyOf, blocksFrom, cleared, residualOf}
+use Rattle.transform.specs.Transform.{samplesOf}
+use Rattle.residual.specs.Residual.{Model, initial, coordinates, secondKind, kindOf, coded, flagged, spread, secondPlace, second, sixteenAt, stored, emptyOf, blocksFrom, cleared, residualOf}
 use Rattle.residual.specs.ResidualLaws.{length-spread}
 use Rattle.residual.specs.ResidualSteps.{second-missing, second-ended, advance-missing, advance-ended, blocks-none, blocks-missing, blocks-next}
 use Rattle.residual.specs.declared.blocks.Kind.{Kind}
-use Rattle.residual.specs.declared.contexts.Place.{Place}
+use Rattle.residual.specs.declared.contexts.FlagsAt.{FlagsAt}
 
 -- ---- the source's definitions
 pub record Source : Type 0 where
@@ -42,9 +43,9 @@ sourceInitial top left = record { top = top; left = left; dc = replicate 16 (pos
 unfoldable pub startOf : List ℤ → ℕ → List ℤ
 startOf dc i = build 16 (λ k. elim (eqb k 0 && ltb i 16) [ true ↦ getD dc i (pos 0) | false ↦ pos 0 ])
 
-abbrev pub passedSource : Kind → Place → ℕ → (dc : List ℤ) → (blocks : List (List ℤ)) → Bool → Source → Source
+abbrev pub passedSource : Kind → FlagsAt → ℕ → (dc : List ℤ) → (blocks : List (List ℤ)) → Bool → Source → Source
 passedSource k p end dc blocks empty m =
-    let flag = flagOf (ltb (k .first) end) in
+    let flag = bitOf (ltb (k .first) end) in
     record { top = set (m .top) (p .x) flag; left = set (m .left) (p .y) flag; dc = dc; blocks = blocks; empty = empty }
 
 -- dc_stage
@@ -67,11 +68,11 @@ module _ (table : List ℕ) (f : Factors) (small : Bool) where
     c ← coded table (kindOf f small i) (coordinates i) (m .top) (m .left) (startOf (m .dc) i)
     done (nextSource i c m)
 
-  unfoldable pub sourceFrom : (left i : ℕ) → Source → Reading Source
+  unfoldable pub sourceFrom : (more i : ℕ) → Source → Reading Source
   sourceFrom zero i m = done m
-  sourceFrom (suc left) i m = do
+  sourceFrom (suc more) i m = do
     next ← sourceAdvance i m
-    sourceFrom left (i + 1) next
+    sourceFrom more (i + 1) next
 
 -- decoded
 unfoldable pub sourceOf : List ℕ → Factors → (small skip : Bool) → (top left : List ℕ) → Reading Source
@@ -221,13 +222,13 @@ all-read dc blocks = build-same 384 _ _ (λ j h. flat-read dc blocks 24 j (omega
 
 -- ---- the grammars
 module _ (table : List ℕ) (f : Factors) (small : Bool) (s : List ℕ) where
-  from-source : (left i : ℕ) (m : Source) (r : Reader) → i + left ≡ 24 → length (m .blocks) ≡ 24 → run (blocksFrom table f small left i (laid i m)) s r ≡ laidGiven (run (sourceFrom table f small left i m) s r)
+  from-source : (more i : ℕ) (m : Source) (r : Reader) → i + more ≡ 24 → length (m .blocks) ≡ 24 → run (blocksFrom table f small more i (laid i m)) s r ≡ laidGiven (run (sourceFrom table f small more i m) s r)
   unfolding sourceFrom sourceAdvance
   from-source zero i m r e n =
       let q : i ≡ 24 = omega arith in
       let z : flatTo i (m .dc) (m .blocks) ≡ laidOut m .coefficients = rw q (all-read (m .dc) (m .blocks)) in
       blocks-none table f s (laid i m) r small i ∙ ap (λ (l : List ℤ). given (record { top = m .top; left = m .left; coefficients = l; empty = m .empty }) r) z ∙ sym (ap laidGiven (run-done m s r))
-  from-source (suc left) i m r e n = go (λ m r. from-source left (i + 1) m r (omega arith)) (run own s r) refl
+  from-source (suc more) i m r e n = go (λ m r. from-source more (i + 1) m r (omega arith)) (run own s r) refl
     where
       own : Reading Coefficients
       own = coded table (kindOf f small i) (coordinates i) (m .top) (m .left) (startOf (m .dc) i)
@@ -241,14 +242,14 @@ module _ (table : List ℕ) (f : Factors) (small : Bool) (s : List ℕ) where
       got : {c : Coefficients} {q : Reader} → run own s r ≡ given c q → run (sourceAdvance table f small i m) s r ≡ given (nextSource table f small i c m) q
       got {c} {q} w = run-then _ s own r w ∙ run-done (nextSource table f small i c m) s q
 
-      go : ((m : Source) (r : Reader) → length (m .blocks) ≡ 24 → run (blocksFrom table f small left (i + 1) (laid (i + 1) m)) s r ≡ laidGiven (run (sourceFrom table f small left (i + 1) m) s r))
-          → (x : Given Coefficients) → run own s r ≡ x → run (blocksFrom table f small (suc left) i (laid i m)) s r ≡ laidGiven (run (sourceFrom table f small (suc left) i m) s r)
+      go : ((m : Source) (r : Reader) → length (m .blocks) ≡ 24 → run (blocksFrom table f small more (i + 1) (laid (i + 1) m)) s r ≡ laidGiven (run (sourceFrom table f small more (i + 1) m) s r))
+          → (x : Given Coefficients) → run own s r ≡ x → run (blocksFrom table f small (suc more) i (laid i m)) s r ≡ laidGiven (run (sourceFrom table f small (suc more) i m) s r)
       go ih missing w =
-          blocks-missing table f s (laid i m) r small i left (advance-missing table f s (laid i m) r small i (starts w))
+          blocks-missing table f s (laid i m) r small i more (advance-missing table f s (laid i m) r small i (starts w))
           ∙ sym (ap laidGiven (run-stops _ s (sourceAdvance table f small i m) r (lost w)))
       go ih (given c q) w =
-          blocks-next table f s (laid i m) r small i left (advance-ended table f s (laid i m) r small i (starts w))
-          ∙ ap (λ (l : List ℤ). run (blocksFrom table f small left (i + 1) (flagged (kindOf f small i) (coordinates i) (c .end) l (m .empty && emptyOf c) (laid i m))) s q) (stored-read (m .dc) (m .blocks) i (omega arith) n (c .values))
+          blocks-next table f s (laid i m) r small i more (advance-ended table f s (laid i m) r small i (starts w))
+          ∙ ap (λ (l : List ℤ). run (blocksFrom table f small more (i + 1) (flagged (kindOf f small i) (coordinates i) (c .end) l (m .empty && emptyOf c) (laid i m))) s q) (stored-read (m .dc) (m .blocks) i (omega arith) n (c .values))
           ∙ ih (nextSource table f small i c m) q (length-set (m .blocks) i (c .values) ∙ n)
           ∙ sym (ap laidGiven (run-then _ s (sourceAdvance table f small i m) r (got w)))
 

@@ -15,29 +15,29 @@ use Rattle.numbers.specs.Tables.{allBelow, all-below}
 use Rattle.numbers.specs.Tests.{lt-or, both-left, both-right, both-true, both-false}
 use Rattle.reader.specs.Boolean.{Given, given, missing, validOf}
 use Rattle.reader.specs.BooleanLaws.{Valid}
-use Rattle.reader.specs.Header.{headerOf}
-use Rattle.reader.specs.HeaderLaws.{header-length}
+use Rattle.header.specs.Header.{headerOf}
+use Rattle.header.specs.HeaderLaws.{header-length}
 use Rattle.reader.specs.Reading.{run}
 use Rattle.reader.specs.ReadingLaws.{run-done, run-then, run-stops}
 use Rattle.reader.specs.declared.boolean.Reader.{Reader}
-use Rattle.segments.specs.Quantizers.{factorsOf, quantizersOf}
-use Rattle.segments.specs.QuantizersLaws.{segment-ready, segment-refused}
-use Rattle.segments.specs.declared.quantizers.Factors.{Factors}
-use Rattle.segments.specs.declared.quantizers.Quantizers.{Quantizers}
-use Rattle.segments.specs.declared.quantizers.Quantizers.the-variants as Q
+use Rattle.header.specs.Quantizers.{factorsOf, quantizersOf}
+use Rattle.header.specs.QuantizersLaws.{segment-ready, segment-refused}
+use Rattle.header.specs.declared.quantizers.Factors.{Factors}
+use Rattle.header.specs.declared.quantizers.Quantizers.{Quantizers}
+use Rattle.header.specs.declared.quantizers.Quantizers.the-variants as Q
 use Rattle.coefficients.specs.TokenLaws.{Sixteen, fromBlock, decoded}
 use Rattle.coefficients.specs.TokenSteps.{table-done}
 use Rattle.coefficients.specs.Tokens.{Coefficients, block, headerTable, tableOf}
 use Rattle.coefficients.specs.Tokens as tokens
 use Rattle.coefficients.specs.declared.tokens.Block.{Block}
 use Rattle.coefficients.specs.declared.tokens.Table.{Table}
-use Rattle.coefficients.specs.Transform.{samplesOf}
-use Rattle.residual.specs.Residual.{Model, Flags, Whole, initial, coordinates, secondKind, kindOf, coded, flagged, spread, secondPlace, second, sixteenAt, stored, emptyOf, advance, blocksFrom, dcStage, cleared, residualOf, nothing, toCalled, flagsOf, argumentsOf, callOf, decodeOf, decodeHeaderOf}
+use Rattle.transform.specs.Transform.{samplesOf}
+use Rattle.residual.specs.Residual.{Model, Flags, ModelInRange, initial, coordinates, secondKind, kindOf, coded, flagged, spread, secondPlace, second, sixteenAt, stored, emptyOf, advance, blocksFrom, dcStage, cleared, residualOf, nothing, toCalled, flagsOf, argumentsOf, callOf, decodeOf, decodeHeaderOf}
 use Rattle.residual.specs.declared.Ended.the-variants as E
 use Rattle.residual.specs.declared.Residual.{Residual}
 use Rattle.residual.specs.declared.blocks.Kind.{Kind}
 use Rattle.residual.specs.declared.blocks.State.{State}
-use Rattle.residual.specs.declared.contexts.Place.{Place}
+use Rattle.residual.specs.declared.contexts.FlagsAt.{FlagsAt}
 
 -- the code's state with the coefficients beside it
 abbrev pub modelOf : State → List ℤ → Model
@@ -52,7 +52,7 @@ turnOf false m l = missing
 pub record Held (s table : List ℕ) (m : State) (flat : List ℤ) : Type 0 where
   pub reader : Valid s (m .reader)
   pub size : length table ≡ 1056
-  pub whole : Whole (modelOf m flat)
+  pub whole : ModelInRange (modelOf m flat)
 
 -- ---- the flat list, one store at a time
 pub stored-next : (p : List ℤ) (at : ℕ) (f : ℕ → ℤ) (n : ℕ) {l : List ℤ} {v : ℤ} → l ≡ placed p at f n → v ≡ f n → set l (at + n) v ≡ placed p at f (n + 1)
@@ -73,7 +73,7 @@ pub coded-read : (s : List ℕ) (r : Reader) (table : List ℕ) (k : Kind) (ctx 
 coded-read s r table k ctx old v n g h o e =
     decoded s r table (k .kind) ctx (k .first) (k .q0) (k .q1) old v (record { size = n; kinds = g .0; near = h; start = g .1; each = o .each }) e
 
-pub coded-at : (s : List ℕ) (r : Reader) (table : List ℕ) (k : Kind) (p : Place) (top left : List ℕ) (old : List ℤ) {ctx : ℕ} → ctx ≡ getD top (p .x) 0 + getD left (p .y) 0
+pub coded-at : (s : List ℕ) (r : Reader) (table : List ℕ) (k : Kind) (p : FlagsAt) (top left : List ℕ) (old : List ℤ) {ctx : ℕ} → ctx ≡ getD top (p .x) 0 + getD left (p .y) 0
     → {g : Given Coefficients} → run (block table (k .kind) (k .q0) (k .q1) ctx (k .first) old) s r ≡ g → run (coded table k p top left old) s r ≡ g
 coded-at s r table k p top left old h e = rw (← h) e
 
@@ -104,13 +104,13 @@ module _ (table : List ℕ) (f : Factors) (s : List ℕ) (m : Model) (r : Reader
     unfolding blocksFrom
     blocks-none = run-done _ s r
 
-    pub blocks-missing : (left : ℕ) → run (advance table f small i m) s r ≡ missing → run (blocksFrom table f small (suc left) i m) s r ≡ missing
+    pub blocks-missing : (more : ℕ) → run (advance table f small i m) s r ≡ missing → run (blocksFrom table f small (suc more) i m) s r ≡ missing
     unfolding blocksFrom
-    blocks-missing left e = run-stops _ s (advance table f small i m) r e
+    blocks-missing more e = run-stops _ s (advance table f small i m) r e
 
-    pub blocks-next : (left : ℕ) {n : Model} {q : Reader} → run (advance table f small i m) s r ≡ given n q → run (blocksFrom table f small (suc left) i m) s r ≡ run (blocksFrom table f small left (i + 1) n) s q
+    pub blocks-next : (more : ℕ) {n : Model} {q : Reader} → run (advance table f small i m) s r ≡ given n q → run (blocksFrom table f small (suc more) i m) s r ≡ run (blocksFrom table f small more (i + 1) n) s q
     unfolding blocksFrom
-    blocks-next left e = run-then _ s (advance table f small i m) r e
+    blocks-next more e = run-then _ s (advance table f small i m) r e
 
 -- ---- the macroblock
 module _ (table : List ℕ) (f : Factors) (small : Bool) (s : List ℕ) where

@@ -1,6 +1,6 @@
 // The blocks of a macroblock, one after the other: the second-order luma block unless the modes are small, sixteen of luma, four of U, four
 // of V (RFC 6386, section 13).
-use crate::contexts::Place;
+use crate::contexts::FlagsAt;
 use crate::contexts::cleared;
 use crate::contexts::flagged;
 use crate::contexts::location;
@@ -10,19 +10,21 @@ use crate::flat::spread;
 use crate::flat::store;
 use coefficients::tokens::Block;
 use coefficients::tokens::decode;
-use coefficients::transform::transform;
+use header::quantizers::Factors;
 use reader::boolean::Reader;
-use segments::quantizers::Factors;
+use transform::transform;
 ghost use mathlib.Core.Path.{_≡_};
 ghost use mathlib.Core.Bool.{true};
 ghost use Prim.Native.Nat.{_+_, _<_, _≤_};
 ghost use lib.IntN.{pos};
 ghost use lib.ListN.{length, getD, set, replicate};
+ghost use Rattle.numbers.specs.Flags.{bitOf};
 ghost use Rattle.reader.specs.BooleanLaws.{Valid};
 ghost use Rattle.reader.specs.Reading.{run};
 ghost use Rattle.coefficients.specs.TokenLaws.{Sixteen, fromBlock};
 ghost use Rattle.coefficients.specs.Tokens.{block};
-ghost use Rattle.residual.specs.Residual.{Flags, cleared, secondKind, kindOf, flagOf, zeroOf, second, advance, blocksFrom, dcStage, residualOf};
+ghost use Rattle.residual.specs.Residual.{Flags, cleared, secondKind, kindOf, zeroOf};
+ghost use Rattle.residual.specs.Residual.{second, advance, blocksFrom, dcStage, residualOf};
 ghost use Rattle.residual.specs.ResidualSteps.{Held, modelOf, turnOf};
 
 // What a block's tokens go by: the kind of its probabilities, its first position, and what its numbers are multiplied by.
@@ -86,7 +88,7 @@ fn kind_of(f: Factors, small: bool, i: usize) -> Kind
 }
 
 // The context of a block: how many of its two flags are 1.
-fn context_at(m: State, p: Place) -> usize
+fn context_at(m: State, p: FlagsAt) -> usize
     requires { ⌜ (Flags (m .top) × Flags (m .left)) × ((p .x < 9) × (p .y < 9)) ⌝ }
     ensures { λ r. ⌜ (r ≡ getD (m .top) (p .x) 0 + getD (m .left) (p .y) 0) × (r < 3) ⌝ }
 {
@@ -100,24 +102,26 @@ fn read_coded(s: &[u8], table: &[u8], r: Reader, k: Kind, ctx: usize, c: &mut [i
     requires { ⌜ Valid (now s) r × (length (now table) ≡ 1056) ⌝ }
     requires { ⌜ ((k .kind < 4) × (k .first ≤ 1)) × (ctx < 3) ⌝ }
     requires { ⌜ Sixteen (now c) ⌝ }
-    ensures { λ a. ⌜ run (block (now (table .entry)) (k .kind) (k .q0) (k .q1) ctx (k .first) (now (c .entry))) (now (s .entry)) r ≡ fromBlock (now (c .exit)) a ⌝ }
+    ensures { λ a. ⌜ run (block (now (table .entry)) (k .kind) (k .q0) (k .q1) ctx (k .first) (now (c .entry))) (now (s .entry)) r
+        ≡ fromBlock (now (c .exit)) a ⌝ }
 {
     decode(s, r, table, k.kind, ctx, k.first, k.q0, k.q1, c)
 }
 
 // The state after a block.
-fn passed(m: State, r: Reader, p: Place, on: bool, empty: bool) -> State
+fn passed(m: State, r: Reader, p: FlagsAt, on: bool, empty: bool) -> State
     requires { ⌜ (p .x < 9) × (p .y < 9) ⌝ }
-    ensures { λ n. ⌜ n ≡ record { reader = r; top = set (m .top) (p .x) (flagOf on); left = set (m .left) (p .y) (flagOf on); empty = empty } ⌝ }
+    ensures { λ n. ⌜ n
+        ≡ record { reader = r; top = set (m .top) (p .x) (bitOf on); left = set (m .left) (p .y) (bitOf on); empty = empty } ⌝ }
 {
     let top = m.top;
     let left = m.left;
-    let above = flagged(top, p.x, on);
-    let beside = flagged(left, p.y, on);
+    let top_after = flagged(top, p.x, on);
+    let left_after = flagged(left, p.y, on);
     State {
         reader: r,
-        top: above,
-        left: beside,
+        top: top_after,
+        left: left_after,
         empty: empty,
     }
 }
@@ -125,10 +129,11 @@ fn passed(m: State, r: Reader, p: Place, on: bool, empty: bool) -> State
 // The second-order block: its transform gives the first coefficient of each luma block.
 fn read_second(s: &[u8], table: &[u8], f: Factors, m: State, flat: &mut [i32]) -> Turn
     requires { ⌜ Held (now s) (now table) m (now flat) ⌝ }
-    ensures { λ t. ⌜ run (second (now (table .entry)) f (modelOf m (now (flat .entry)))) (now (s .entry)) (m .reader) ≡ turnOf (t .ended) (t .state) (now (flat .exit)) ⌝ }
+    ensures { λ t. ⌜ run (second (now (table .entry)) f (modelOf m (now (flat .entry)))) (now (s .entry)) (m .reader)
+        ≡ turnOf (t .ended) (t .state) (now (flat .exit)) ⌝ }
 {
     let k = second_kind(f);
-    let p = Place { x: 8, y: 8 };
+    let p = FlagsAt { x: 8, y: 8 };
     let ctx = context_at(m, p);
     let mut c = [0; 16];
     let Block::Ended(end, r) = read_coded(s, table, m.reader, k, ctx, &mut c) else {
@@ -164,7 +169,8 @@ fn block(
     flat: &mut [i32],
 ) -> Turn
     requires { ⌜ Held (now s) (now table) m (now flat) × (i < 24) ⌝ }
-    ensures { λ t. ⌜ run (advance (now (table .entry)) f small i (modelOf m (now (flat .entry)))) (now (s .entry)) (m .reader) ≡ turnOf (t .ended) (t .state) (now (flat .exit)) ⌝ }
+    ensures { λ t. ⌜ run (advance (now (table .entry)) f small i (modelOf m (now (flat .entry)))) (now (s .entry)) (m .reader)
+        ≡ turnOf (t .ended) (t .state) (now (flat .exit)) ⌝ }
 {
     let k = kind_of(f, small, i);
     let p = location(i);
@@ -187,7 +193,8 @@ fn block(
 
 fn blocks(s: &[u8], table: &[u8], f: Factors, small: bool, start: State, flat: &mut [i32]) -> Turn
     requires { ⌜ Held (now s) (now table) start (now flat) ⌝ }
-    ensures { λ t. ⌜ run (blocksFrom (now (table .entry)) f small 24 0 (modelOf start (now (flat .entry)))) (now (s .entry)) (start .reader) ≡ turnOf (t .ended) (t .state) (now (flat .exit)) ⌝ }
+    ensures { λ t. ⌜ run (blocksFrom (now (table .entry)) f small 24 0 (modelOf start (now (flat .entry)))) (now (s .entry)) (start .reader)
+        ≡ turnOf (t .ended) (t .state) (now (flat .exit)) ⌝ }
 {
     let mut m = start;
     let mut i = 0;
@@ -208,7 +215,8 @@ fn blocks(s: &[u8], table: &[u8], f: Factors, small: bool, start: State, flat: &
 // Small modes have no second-order block.
 fn dc_stage(s: &[u8], table: &[u8], f: Factors, small: bool, m: State, flat: &mut [i32]) -> Turn
     requires { ⌜ Held (now s) (now table) m (now flat) ⌝ }
-    ensures { λ t. ⌜ run (dcStage (now (table .entry)) f small (modelOf m (now (flat .entry)))) (now (s .entry)) (m .reader) ≡ turnOf (t .ended) (t .state) (now (flat .exit)) ⌝ }
+    ensures { λ t. ⌜ run (dcStage (now (table .entry)) f small (modelOf m (now (flat .entry)))) (now (s .entry)) (m .reader)
+        ≡ turnOf (t .ended) (t .state) (now (flat .exit)) ⌝ }
 {
     if small {
         return Turn {
@@ -223,12 +231,12 @@ fn dc_stage(s: &[u8], table: &[u8], f: Factors, small: bool, m: State, flat: &mu
 fn skipped(r: Reader, small: bool, top: [u8; 9], left: [u8; 9]) -> State
     ensures { λ n. ⌜ n ≡ record { reader = r; top = cleared small top; left = cleared small left; empty = true } ⌝ }
 {
-    let above = cleared(top, small);
-    let beside = cleared(left, small);
+    let top_after = cleared(top, small);
+    let left_after = cleared(left, small);
     State {
         reader: r,
-        top: above,
-        left: beside,
+        top: top_after,
+        left: left_after,
         empty: true,
     }
 }
@@ -247,7 +255,8 @@ pub(crate) fn read(
 ) -> Turn
     requires { ⌜ Valid (now s) r × (length (now table) ≡ 1056) ⌝ }
     requires { ⌜ (Flags top × Flags left) × (now flat ≡ replicate 384 (pos 0)) ⌝ }
-    ensures { λ t. ⌜ run (residualOf (now (table .entry)) f small skip top left) (now (s .entry)) r ≡ turnOf (t .ended) (t .state) (now (flat .exit)) ⌝ }
+    ensures { λ t. ⌜ run (residualOf (now (table .entry)) f small skip top left) (now (s .entry)) r
+        ≡ turnOf (t .ended) (t .state) (now (flat .exit)) ⌝ }
 {
     if skip {
         let next = skipped(r, small, top, left);

@@ -3,23 +3,24 @@
 ghost use mathlib.Core.Path.{_≡_};
 ghost use Prim.Native.Nat.{_+_, _<_};
 ghost use lib.ListN.{getD, set};
-ghost use Rattle.residual.specs.Residual.{Flags, coordinates, flagOf, cleared, flagsOf};
+ghost use Rattle.numbers.specs.Flags.{bitOf};
+ghost use Rattle.residual.specs.Residual.{Flags, coordinates, cleared, flagsOf};
 
 // The flags of a block: its column's above, its row's to the left.
-pub(crate) struct Place {
+pub(crate) struct FlagsAt {
     pub x: usize,
     pub y: usize,
 }
 
-pub(crate) fn location(i: usize) -> Place
+pub(crate) fn location(i: usize) -> FlagsAt
     requires { ⌜ i < 24 ⌝ }
     ensures { λ r. ⌜ (r ≡ coordinates i) × ((r .x < 8) × (r .y < 8)) ⌝ }
 {
     if i < 16 {
-        return Place { x: i % 4, y: i / 4 };
+        return FlagsAt { x: i % 4, y: i / 4 };
     }
     let base = 4 + (i - 16) / 4 * 2;
-    Place {
+    FlagsAt {
         x: base + i % 2,
         y: base + i % 4 / 2,
     }
@@ -36,7 +37,7 @@ pub(crate) fn near(top: [u8; 9], left: [u8; 9], x: usize, y: usize) -> usize
 // The flags with one of them set or cleared.
 pub(crate) fn flagged(flags: [u8; 9], x: usize, on: bool) -> [u8; 9]
     requires { ⌜ x < 9 ⌝ }
-    ensures { λ r. ⌜ r ≡ set flags x (flagOf on) ⌝ }
+    ensures { λ r. ⌜ r ≡ set flags x (bitOf on) ⌝ }
 {
     let mut next = flags;
     next[x] = on as u8;

@@ -3,11 +3,11 @@ use crate::blocks::read;
 use crate::contexts::flags_fine;
 use crate::flat::hand_over;
 use coefficients::tokens::probabilities;
+use header::quantizers::Factors;
+use header::quantizers::Quantizers;
+use header::quantizers::for_segment;
 use reader::boolean::Reader;
 use reader::boolean::valid;
-use segments::quantizers::Factors;
-use segments::quantizers::Quantizers;
-use segments::quantizers::for_segment;
 ghost use mathlib.Core.Path.{_≡_};
 ghost use lib.ListN.{length};
 ghost use Rattle.reader.specs.BooleanLaws.{Valid};
@@ -55,7 +55,8 @@ fn read_residual(
 ) -> Residual
     requires { ⌜ Valid (now s) r × (length (now table) ≡ 1056) ⌝ }
     requires { ⌜ (Flags top × Flags left) × (length (now out) ≡ 384) ⌝ }
-    ensures { λ q. ⌜ record { answer = q; out = now (out .exit) } ≡ callOf (now (s .entry)) r (now (table .entry)) f small skip top left (now (out .entry)) ⌝ }
+    ensures { λ q. ⌜ record { answer = q; out = now (out .exit) }
+        ≡ callOf (now (s .entry)) r (now (table .entry)) f small skip top left (now (out .entry)) ⌝ }
 {
     let mut flat = [0; 384];
     let t = read(s, r, table, f, small, skip, top, left, &mut flat[..]);
@@ -65,12 +66,12 @@ fn read_residual(
     hand_over(out, &flat);
     let m = t.state;
     let next = m.reader;
-    let above = m.top;
-    let beside = m.left;
+    let top = m.top;
+    let left = m.left;
     Residual {
         answer: Ended::Done(next, m.empty),
-        top: above,
-        left: beside,
+        top: top,
+        left: left,
     }
 }
 
@@ -92,7 +93,8 @@ pub fn decode(
     left: [u8; 9],
     out: &mut [i32],
 ) -> Residual
-    ensures { λ q. ⌜ record { answer = q; out = now (out .exit) } ≡ decodeOf (now (s .entry)) r (now (table .entry)) f small skip top left (now (out .entry)) ⌝ }
+    ensures { λ q. ⌜ record { answer = q; out = now (out .exit) }
+        ≡ decodeOf (now (s .entry)) r (now (table .entry)) f small skip top left (now (out .entry)) ⌝ }
 {
     if !valid(s, r) {
         return no_residual(Ended::Refused);
@@ -115,7 +117,8 @@ pub fn decode_header(
     left: [u8; 9],
     out: &mut [i32],
 ) -> Residual
-    ensures { λ q. ⌜ record { answer = q; out = now (out .exit) } ≡ decodeHeaderOf (now (s .entry)) r (now (h .entry)) segment small skip top left (now (out .entry)) ⌝ }
+    ensures { λ q. ⌜ record { answer = q; out = now (out .exit) }
+        ≡ decodeHeaderOf (now (s .entry)) r (now (h .entry)) segment small skip top left (now (out .entry)) ⌝ }
 {
     let Quantizers::Ready(f) = for_segment(h, segment) else {
         return no_residual(Ended::Refused);

@@ -4,7 +4,7 @@ use frame::into::take_into;
 use frame::take::Answer;
 use frame::tile::Span;
 use frame::tile::Tile;
-use reader::header::probability;
+use header::entries::probability;
 ghost use mathlib.Core.Path.{_≡_};
 ghost use lib.ListN.{length};
 

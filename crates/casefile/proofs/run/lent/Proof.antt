@@ -3,7 +3,8 @@ use native.Mathlib.Omega.{arith}
 use mathlib.Core.Path.{_≡_, refl, sym, ap}
 use mathlib.Core.List.{List}
 use lib.ListN.{length, take, replicate}
-use Rattle.casefile.specs.RunLaws.{report-is, part-long, part-is, lent-is}
+use Rattle.lent.specs.Records.{columnWidth, modeWidth, strengthWidth}
+use Rattle.casefile.specs.RunLaws.{report-is, part-long, part-is, memory-is}
 use borrow.Author.Needs.{needs}
 use Rattle.casefile.proofs.run.lent.Statement.{statement}
 use Rattle.casefile.proofs.run.lent.Tie as tie
@@ -30,14 +31,14 @@ area-requires-2 c κs = search needs
 area-requires-3 : tie.Need-area-requires-3
 area-requires-3 c κs = search needs
 
-mul-across : tie.Need-mul-across
-mul-across c = search needs
+mul-column-bytes : tie.Need-mul-column-bytes
+mul-column-bytes c = search needs
 
-mul-twenty : tie.Need-mul-twenty
-mul-twenty c = search needs
+mul-mode-bytes : tie.Need-mul-mode-bytes
+mul-mode-bytes c = search needs
 
-mul-four : tie.Need-mul-four
-mul-four c = search needs
+mul-strength-bytes : tie.Need-mul-strength-bytes
+mul-strength-bytes c = search needs
 
 luma-requires : tie.Need-luma-requires
 luma-requires c κs = search needs
@@ -111,13 +112,13 @@ returns c =
     let z = sized a in
     let s = z .before .before .before .before in
     report-is _ (c .before .before .before .before .before .before .told .ensures)
-    (lent-is (s .args .w) (s .args .h)
+    (memory-is
     (part-is 4096 165 (z .before .before .area .result) (a .before .before .before .before .before .luma .ensures) (omega (arith, z .before .before .area .ensures .1)) (z .before .before .area .ensures .0))
     (part-is 1024 165 (z .before .area2 .result) (a .before .before .before .before .chroma .ensures) (omega (arith, z .before .area2 .ensures .1)) (z .before .area2 .ensures .0))
     (part-is 1024 165 (z .before .area2 .result) (a .before .before .before .chroma2 .ensures) (omega (arith, z .before .area2 .ensures .1)) (z .before .area2 .ensures .0))
-    (part-is 320 165 (13 * (s .args .w / 16)) (a .before .before .records .ensures) (omega (arith, s .pre .0 .width, s .pre .1 .0)) refl)
-    (part-is 320 165 (20 * z .area3 .result) (a .before .records2 .ensures) (omega (arith, z .area3 .ensures .1)) (ap (λ (n : ℕ). 20 * n) (z .area3 .ensures .0)))
-    (part-is 320 165 (4 * z .area3 .result) (a .records3 .ensures) (omega (arith, z .area3 .ensures .1)) (ap (λ (n : ℕ). 4 * n) (z .area3 .ensures .0))))
+    (part-is 320 165 (columnWidth * (s .args .w / 16)) (a .before .before .records .ensures) (omega (arith, s .pre .0 .width, s .pre .1 .0)) refl)
+    (part-is 320 165 (modeWidth * z .area3 .result) (a .before .records2 .ensures) (omega (arith, z .area3 .ensures .1)) (ap (λ (n : ℕ). modeWidth * n) (z .area3 .ensures .0)))
+    (part-is 320 165 (strengthWidth * z .area3 .result) (a .records3 .ensures) (omega (arith, z .area3 .ensures .1)) (ap (λ (n : ℕ). strengthWidth * n) (z .area3 .ensures .0))))
 
 pub lent-spec : {M : Type 1} → statement M
 lent-spec =
@@ -126,9 +127,9 @@ lent-spec =
     area-requires
     area-requires-2
     area-requires-3
-    mul-across
-    mul-twenty
-    mul-four
+    mul-column-bytes
+    mul-mode-bytes
+    mul-strength-bytes
     luma-requires
     chroma-requires
     chroma-requires-2

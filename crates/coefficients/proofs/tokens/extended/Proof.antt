@@ -4,8 +4,8 @@ use mathlib.Core.Path.{_≡_, _∙_, ap}
 use lib.Dec.{lit≤}
 use lib.ListN.{length}
 use borrow.Author.Needs.{needs}
-use Rattle.reader.proofs.Answers.{not-value}
-use Rattle.reader.proofs.Turns.{bits-small}
+use Rattle.reader.specs.ExtraLaws.{bits-small}
+use Rattle.coefficients.proofs.TokenAnswers.{not-value}
 use Rattle.reader.specs.Extra.{extra}
 use Rattle.reader.specs.ExtraLaws.{fromNumber, numbered, extra-within}
 use Rattle.reader.specs.Reading.{run}

@@ -5,14 +5,15 @@ use mathlib.Core.Path.{ap, refl, _∙_}
 use mir.Syntax.{w32}
 use Rattle.numbers.specs.Hand.{back}
 use Rattle.numbers.specs.Lists.{Filled, filled-none, filled-next, filled-all}
-use Rattle.reader.specs.Header.{entry, probabilityOf}
+use Rattle.header.specs.Entries.{coefficientProbability}
+use Rattle.header.specs.Header.{entry, probabilityOf}
 use Rattle.coefficients.specs.TokenSteps.{table-refused, table-done}
 use Rattle.coefficients.specs.Tokens.{headerTable}
 use Rattle.coefficients.proofs.tokens.probabilities.Statement.{statement}
 use Rattle.coefficients.proofs.tokens.probabilities.Tie as tie
 
 abbrev Inv-loop : tie.InvT-loop
-Inv-loop h bytes₀ i₀ bytes i = Filled bytes 1056 (λ k. probabilityOf (entry h (38 + k))) i
+Inv-loop h bytes₀ i₀ bytes i = Filled bytes 1056 (λ k. probabilityOf (entry h (coefficientProbability + k))) i
 
 abbrev μ-loop : tie.MeasureT-loop
 μ-loop h bytes₀ i₀ bytes i = 1056 - i
@@ -45,7 +46,7 @@ loop-less : tie.Need-loop-less Inv-loop μ-loop
 loop-less c = omega arith
 
 loop-again : tie.Need-loop-again Inv-loop μ-loop
-loop-again c = filled-next (c .probability .result) (omega arith) (c .probability .ensures ∙ ap probabilityOf (back w32 {z = entry (c .before .before .before .before .before .args .h .now) (38 + c .before .before .before .loop .i)} (c .before .probability-arg .given))) (c .before .before .before .loop .inv)
+loop-again c = filled-next (c .probability .result) (omega arith) (c .probability .ensures ∙ ap probabilityOf (back w32 {z = entry (c .before .before .before .before .before .args .h .now) (coefficientProbability + c .before .before .before .loop .i)} (c .before .probability-arg .given))) (c .before .before .before .loop .inv)
 
 returns-2 : tie.Need-returns-2 Inv-loop μ-loop
 unfolding headerTable

@@ -6,8 +6,7 @@ use borrow.Author.Needs.{needs}
 use Rattle.reader.specs.Reading.{run}
 use Rattle.coefficients.specs.Tokens.{bands, zigzag, blockOf, block}
 use Rattle.coefficients.specs.TokenSteps.{zigzag-below}
-use Rattle.reader.proofs.Answers.{not-token}
-use Rattle.coefficients.proofs.TokenAnswers.{not-signed}
+use Rattle.coefficients.proofs.TokenAnswers.{not-token, not-signed}
 use Rattle.coefficients.proofs.TokenTurns.{Going, going-start, going-end, Turn, turn, turn-missing, token-read, turn-ended, turn-zero, turn-lost, turn-number, called-missing, called-ended}
 use Rattle.coefficients.proofs.tokens.read_block.Statement.{statement}
 use Rattle.coefficients.proofs.tokens.read_block.Tie as tie

@@ -4,7 +4,7 @@ use mir.Syntax.{w32}
 use borrow.Author.Needs.{needs}
 use Rattle.numbers.specs.Hand.{answered}
 use Rattle.numbers.specs.WrapLaws.{wrap-in}
-use Rattle.reader.proofs.Answers.{not-got, not-value}
+use Rattle.coefficients.proofs.TokenAnswers.{not-got, not-value}
 use Rattle.reader.specs.Boolean.{given}
 use Rattle.reader.specs.ExtraLaws.{fromNumber}
 use Rattle.reader.specs.Reading.{run, symbol}

@@ -1,4 +1,4 @@
--- `lengths_fine` meets its contract: the products are the definition's.
+-- `lengths_fine` meets its contract: each memory's own test.
 use borrow.Author.Needs.{needs}
 use Rattle.deblock.specs.Deblock.{lengthsOf}
 use Rattle.deblock.proofs.checks.lengths_fine.Statement.{statement}
@@ -6,9 +6,8 @@ use Rattle.deblock.proofs.checks.lengths_fine.Tie as tie
 
 returns : tie.Need-returns
 unfolding lengthsOf
-returns c = rw (c .before .before .area .ensures .0, c .before .area2 .ensures .0, c .area3 .ensures .0)
+returns c = rw (c .before .before .before .luma-fine .ensures, c .before .before .chroma-fine .ensures, c .before .chroma-fine2 .ensures, c .strengths-fine .ensures)
 
 pub lengths-fine-spec : {M : Type 1} → statement M
 lengths-fine-spec =
-    tie.close
-    (tie.spec (λ c κs. search needs) (λ c κs. search needs) (λ c κs. search needs) (λ c. search needs) returns)
+    tie.close (tie.spec (λ c κs. search needs) (λ c κs. search needs) (λ c κs. search needs) (λ c κs. search needs) returns)

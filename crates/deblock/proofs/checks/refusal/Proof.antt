@@ -1,22 +1,19 @@
 -- `refusal` meets its contract: each way out has the checks that passed before it, and its own.
 use mathlib.Core.Path.{_≡_, sym, _∙_}
-use mathlib.Core.Bool.{true, _&&_}
+use mathlib.Core.Bool.{true}
 use borrow.Author.Tests.{not-true, not-false}
 use borrow.Author.Needs.{needs}
-use Rattle.deblock.specs.Deblock.{sideOf}
-use Rattle.deblock.specs.ChecksLaws.{sides, stop-side, stop-lengths, stop-limits, stop-none}
+use Rattle.tile.specs.Checks.{sidesOf}
+use Rattle.deblock.specs.ChecksLaws.{stop-side, stop-lengths, stop-limits, stop-none}
 use Rattle.deblock.proofs.checks.refusal.Statement.{statement}
 use Rattle.deblock.proofs.checks.refusal.Tie as tie
 
 -- the sides are fine
-fine : (c : tie.Else1) → let a = c .before .before .before .before .args in sideOf (a .w) && sideOf (a .h) ≡ true
-fine c = rw (← c .before .before .side-fine .ensures, ← c .before .side-fine2 .ensures) (not-false _ (c .if1 .left))
+fine : (c : tie.Else1) → let a = c .before .before .before .args in sidesOf (a .w) (a .h) ≡ true
+fine c = sym (c .before .sides-fine .ensures) ∙ not-false _ (c .if1 .left)
 
 returns : tie.Need-returns
-returns c = stop-side _ _ _ _ _ _ (rw (← c .before .before .side-fine .ensures, ← c .before .side-fine2 .ensures) (not-true _ (c .if1 .taken)))
-
-lengths-fine-requires : tie.Need-lengths-fine-requires
-lengths-fine-requires c κs = let s = sides _ _ (fine c) in (s .0 .most, s .1 .most)
+returns c = stop-side _ _ _ _ _ _ (sym (c .before .sides-fine .ensures) ∙ not-true _ (c .if1 .taken))
 
 returns-2 : tie.Need-returns-2
 returns-2 c = stop-lengths _ _ _ _ _ _ (fine (c .before .before)) (sym (c .before .lengths-fine .ensures) ∙ not-true _ (c .if2 .taken))
@@ -30,4 +27,4 @@ returns-4 c = stop-none _ _ _ _ _ _ (fine (c .before .before .before .before)) (
 pub refusal-spec : {M : Type 1} → statement M
 refusal-spec =
     tie.close
-    (tie.spec (λ c κs. search needs) (λ c κs. search needs) returns lengths-fine-requires returns-2 (λ c κs. search needs) returns-3 returns-4)
+    (tie.spec (λ c κs. search needs) returns (λ c κs. search needs) returns-2 (λ c κs. search needs) returns-3 returns-4)

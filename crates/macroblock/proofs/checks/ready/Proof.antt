@@ -1,7 +1,12 @@
-use borrow.Author.Needs.{needs}
 use Rattle.macroblock.specs.Macroblock.{readyOf}
+use borrow.Author.Needs.{needs}
 use Rattle.macroblock.proofs.checks.ready.Statement.{statement}
 use Rattle.macroblock.proofs.checks.ready.Tie as tie
+use Rattle.macroblock.proofs.checks.ready.Reads as reads
+use Rattle.macroblock.proofs.checks.ready.Lts as lts
+use Rattle.macroblock.proofs.checks.around_fine.Reads as around-fine-reads
+use Rattle.macroblock.proofs.checks.frame_fine.Reads as frame-fine-reads
+use Rattle.reader.proofs.boolean.valid.Reads as valid-reads
 
 valid-requires : tie.Need-valid-requires
 valid-requires c κs = search needs
@@ -9,30 +14,21 @@ valid-requires c κs = search needs
 valid-requires-2 : tie.Need-valid-requires-2
 valid-requires-2 c κs = search needs
 
-context-fine-requires : tie.Need-context-fine-requires
-context-fine-requires c κs = search needs
+around-fine-requires : tie.Need-around-fine-requires
+around-fine-requires c κs = search needs
 
-context-fine-requires-2 : tie.Need-context-fine-requires-2
-context-fine-requires-2 c κs = search needs
-
-levels-fine-requires : tie.Need-levels-fine-requires
-levels-fine-requires c κs = search needs
-
-levels-fine-requires-2 : tie.Need-levels-fine-requires-2
-levels-fine-requires-2 c κs = search needs
+frame-fine-requires : tie.Need-frame-fine-requires
+frame-fine-requires c κs = search needs
 
 returns : tie.Need-returns
 unfolding readyOf
-returns c = rw (c .before .before .before .before .before .valid .ensures, c .before .before .before .before .valid2 .ensures, c .before .before .before .context-fine .ensures, c .before .before .context-fine2 .ensures, c .before .levels-fine .ensures, c .levels-fine2 .ensures)
+returns c =
+    let a = c .before in (
+      rw (a .before .before .valid .ensures, a .before .valid2 .ensures, a .around-fine .ensures .0, c .frame-fine .ensures .0),
+      (c .frame-fine .ensures .1, a .around-fine .ensures .1),
+    )
 
 pub ready-spec : {M : Type 1} → statement M
 ready-spec =
     tie.close
-    (tie.spec
-    valid-requires
-    valid-requires-2
-    context-fine-requires
-    context-fine-requires-2
-    levels-fine-requires
-    levels-fine-requires-2
-    returns)
+    (tie.spec valid-requires valid-requires-2 around-fine-requires frame-fine-requires returns)

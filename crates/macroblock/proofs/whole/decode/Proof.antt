@@ -4,7 +4,7 @@ use mathlib.Core.Path.{_≡_, sym, _∙_}
 use borrow.Author.Tests.{not-true, not-false}
 use borrow.Author.Needs.{needs}
 use Rattle.macroblock.specs.Macroblock.{readyOf, laidOf}
-use Rattle.macroblock.specs.DecodeLaws.{Sizes, ready-out, laid-out, decode-passed, decode-unready, decode-unlaid}
+use Rattle.macroblock.specs.DecodeLaws.{ready-out, laid-out, decode-passed, decode-unready, decode-unlaid}
 use Rattle.macroblock.proofs.whole.decode.Statement.{statement}
 use Rattle.macroblock.proofs.whole.decode.Tie as tie
 
@@ -15,7 +15,7 @@ stopped-requires : tie.Need-stopped-requires
 stopped-requires c κs = search needs
 
 returns : tie.Need-returns
-returns c = decode-unready _ _ _ _ _ _ _ _ _ _ _ _ _ (sym (c .before .before .ready .ensures) ∙ not-true _ (c .before .if1 .taken)) (c .stopped .ensures)
+returns c = decode-unready _ _ _ _ _ _ _ _ (sym (c .before .before .ready .ensures .0) ∙ not-true _ (c .before .if1 .taken)) (c .stopped .ensures)
 
 laid-requires : tie.Need-laid-requires
 laid-requires c κs = search needs
@@ -24,24 +24,21 @@ stopped-requires-2 : tie.Need-stopped-requires-2
 stopped-requires-2 c κs = search needs
 
 returns-2 : tie.Need-returns-2
-returns-2 c = decode-unlaid _ _ _ _ _ _ _ _ _ _ _ _ _ (sym (c .before .before .laid .ensures) ∙ not-true _ (c .before .if2 .taken)) (c .stopped2 .ensures)
+returns-2 c = decode-unlaid _ _ _ _ _ _ _ _ (sym (c .before .before .laid .ensures) ∙ not-true _ (c .before .if2 .taken)) (c .stopped2 .ensures)
 
 abbrev start : tie.Else2 → tie.Start
 start e = e .before .before .before .before .before .before .before .before .before .before
 
-sizes : (b : tie.Start) → Sizes (b .args .frame) (b .args .top) (b .args .left)
-sizes b = record { large = search needs; small = search needs; above = search needs; beside = search needs }
-
 -- what both checks say where they have passed
-able : (e : tie.Else2) → (let a = start e .args in readyOf (a .s .now) (a .r) (a .tokens .now) (a .t) (length (a .h .now)) (length (a .table .now)) (a .frame) (a .top) (a .left) ≡ true)
-able e = sym (e .before .before .before .ready .ensures) ∙ not-false _ (e .before .before .if1 .left)
+able : (e : tie.Else2) → (let a = start e .args in readyOf (a .first .now) (a .tokens .now) (a .readers) (a .frame) (length (a .table .now)) (a .around) ≡ true)
+able e = sym (e .before .before .before .ready .ensures .0) ∙ not-false _ (e .before .before .if1 .left)
 
-fine : (e : tie.Else2) → (let a = start e .args in laidOf (length (a .y .now)) (length (a .u .now)) (length (a .v .now)) (a .width) (a .column) (a .row) ≡ true)
+fine : (e : tie.Else2) → (let a = start e .args in laidOf (length (a .y .now)) (length (a .u .now)) (length (a .v .now)) (a .place) ≡ true)
 fine e = sym (e .before .laid .ensures) ∙ not-false _ (e .if2 .left)
 
 step-requires : tie.Need-step-requires
 step-requires c κs = let e = c .before .before .before in
-    (ready-out _ _ _ _ _ _ _ _ _ (sizes (start e)) (able e), laid-out _ _ _ _ (fine e))
+    (ready-out _ _ _ _ _ _ (e .before .before .before .ready .ensures .1 .0) (e .before .before .before .ready .ensures .1 .1) (able e), laid-out _ _ (fine e))
 
 same-length : tie.Need-same-length
 same-length c = search needs
@@ -55,7 +52,7 @@ same-length-3 c = search needs
 returns-3 : tie.Need-returns-3
 returns-3 c = let d = c .before .before .before .before .before .before in
     let e = d .before .before .before .before in
-    d .step .ensures ∙ decode-passed _ _ _ _ _ _ _ _ _ _ _ _ _ (able e) (fine e)
+    d .step .ensures ∙ decode-passed _ _ _ _ _ _ _ _ (able e) (fine e)
 
 pub decode-spec : {M : Type 1} → statement M
 decode-spec =

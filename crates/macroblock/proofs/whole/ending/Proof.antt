@@ -6,8 +6,6 @@ use Rattle.macroblock.proofs.whole.ending.Tie as tie
 use Rattle.macroblock.proofs.whole.ending.Reads as reads
 use Rattle.macroblock.proofs.whole.ending.Lts as lts
 use Rattle.macroblock.proofs.whole.strength_of.Reads as strength-of-reads
-use Rattle.modes.proofs.columns.bottom.Reads as bottom-reads
-use Rattle.modes.proofs.columns.right.Reads as right-reads
 
 strength-of-requires : tie.Need-strength-of-requires
 strength-of-requires c κs = search needs
@@ -19,7 +17,10 @@ right-requires : tie.Need-right-requires
 right-requires c κs = search needs
 
 returns : tie.Need-returns
-returns c = ended-is _ (macroblockOf (c .before .before .before .before .args .kinds) (c .before .before .before .before .args .modes .now)) (c .before .before .before .before .args .empty) (c .before .before .strength-of .ensures) (c .before .bottom .ensures) (c .right .ensures)
+returns c =
+    let s = c .before .before .before .before in
+    let a = s .before .before .before .before .args in
+    ended-is _ (macroblockOf (a .m .kinds) (a .m .modes)) (a .empty) (s .strength-of .ensures) (c .before .before .bottom .ensures) (c .right .ensures)
 
 pub ending-spec : {M : Type 1} → statement M
 ending-spec = tie.close (tie.spec strength-of-requires bottom-requires right-requires returns)

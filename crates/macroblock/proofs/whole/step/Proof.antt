@@ -1,11 +1,13 @@
-use mathlib.Core.Path.{_≡_, sym, _∙_, ap}
+use mathlib.Core.Path.{_≡_, refl, sym, _∙_, ap}
 use Rattle.reader.specs.Boolean.{given}
 use Rattle.reader.specs.Reading.{run}
 use Rattle.modes.specs.declared.answers.Stage.{Stage}
 use Rattle.modes.specs.Modes.{modesOf}
 use Rattle.modes.specs.Answers.{macroblockOf}
 use Rattle.modes.specs.AnswersLaws.{stageGiven, read, read-ended}
-use Rattle.modes.proofs.Others.{not-stage}
+use denote.Enum.Declared.{tagOf}
+use Rattle.modes.specs.AnswersLaws.{not-stage}
+use Rattle.modes.proofs.answers.Stage as stage-answer
 use Rattle.macroblock.specs.MacroblockLaws.{whole-missing, whole-tokens}
 use borrow.Author.Needs.{needs}
 use Rattle.macroblock.proofs.whole.step.Statement.{statement}
@@ -26,24 +28,24 @@ stopped-requires : tie.Need-stopped-requires
 stopped-requires c κs = search needs
 
 abbrev start : tie.After-read-modes → tie.Start
-start c = c .before .before .before .before .before .before .before .before .before .before
+start c = c .before .before .before .before .before .before .before .before .before .before .before .before .before .before .before
 
 -- what the modes' answer says of the grammar
-is : (c : tie.After-read-modes) → (let a = start c .args in run (modesOf (a .h .now) (a .top .modes) (a .left .modes)) (a .s .now) (a .r) ≡ stageGiven (c .read-modes .result) (c .read-modes .last .1 .1 .1 .1 .1 .0))
-is c = let p = start c .pre .0 in read _ _ _ _ _ _ (p .entries) (p .reader) (p .contexts) (c .read-modes .ensures)
+is : (c : tie.After-read-modes) → (let a = start c .args in run (modesOf (a .frame .announced) (a .around .top .modes) (a .around .left .modes)) (a .first .now) (a .readers .first) ≡ stageGiven (c .read-modes .result) (c .read-modes .last .1 .1 .1 .1 .1 .0))
+is c = let p = start c .pre .0 in read _ _ _ _ _ _ (p .reader) (p .contexts) (c .read-modes .ensures)
 
-gave : (c : tie.After-known-told) → (let d = c .before .before .before in let a = start d .args in run (modesOf (a .h .now) (a .top .modes) (a .left .modes)) (a .s .now) (a .r) ≡ given (macroblockOf (c .before .kinds .given .0 .0) (d .read-modes .last .1 .1 .1 .1 .1 .0)) (c .before .kinds .given .0 .1 .0))
+gave : (c : tie.After-known-told) → (let d = c .before .before .before in let a = start d .args in run (modesOf (a .frame .announced) (a .around .top .modes) (a .around .left .modes)) (a .first .now) (a .readers .first) ≡ given (macroblockOf (c .before .kinds .given .0 .0) (d .read-modes .last .1 .1 .1 .1 .1 .0)) (c .before .kinds .given .0 .1 .0))
 gave c = let d = c .before .before .before in is d ∙ ap (λ (x : Stage). stageGiven x (d .read-modes .last .1 .1 .1 .1 .1 .0)) (c .before .kinds .given .1)
 
 returns : tie.Need-returns
 returns c = let d = c .before .before in
-    whole-missing _ _ _ _ _ _ _ _ _ _ _ _ _ (is d ∙ not-stage (d .read-modes .result) (d .read-modes .last .1 .1 .1 .1 .1 .0) (c .before .match .keys2)) (c .stopped .ensures)
+    whole-missing _ _ _ _ _ _ _ _ (is d ∙ not-stage (tagOf stage-answer.the-type) (λ k r. refl) (d .read-modes .result) (d .read-modes .last .1 .1 .1 .1 .1 .0) (c .before .match .keys2)) (c .stopped .ensures)
 
 with-tokens-requires : tie.Need-with-tokens-requires
-with-tokens-requires c κs = let d = c .before .before .before .before .before .before .before .before .before in
+with-tokens-requires c κs = let d = c .before .before .before .before .before .before in
     let p = start d .pre .0 in
-    let e = read-ended _ _ _ _ _ _ (p .entries) (p .reader) (p .contexts) (λ i. d .before .before .before .before .before .before .before .before .before .shared-slice-known .given i .fits) (d .read-modes .ensures) (c .before .before .before .before .before .before .before .kinds .given .1) in
-    (record { token = p .token; size = p .size; above = p .above; beside = p .beside; levels = p .levels }, (e .value, start d .pre .1))
+    let e = read-ended _ _ _ _ _ _ (p .sound .announced) (p .reader) (p .contexts) (λ i. d .before .before .before .before .before .before .before .before .before .before .before .before .before .before .shared-slice-known .given i .fits) (d .read-modes .ensures) (c .before .before .before .before .kinds .given .1) in
+    (record { token = p .token; size = p .size; top = p .top; left = p .left; sound = p .sound }, (e .value, start d .pre .1))
 
 same-length : tie.Need-same-length
 same-length c = search needs
@@ -55,7 +57,7 @@ same-length-3 : tie.Need-same-length-3
 same-length-3 c = search needs
 
 returns-2 : tie.Need-returns-2
-returns-2 c = c .before .before .before .before .before .before .with-tokens .ensures ∙ whole-tokens _ _ _ _ _ _ _ _ _ _ _ _ _ (gave (c .before .before .before .before .before .before .before .before .before .before .before .before .before))
+returns-2 c = c .before .before .before .before .before .before .with-tokens .ensures ∙ whole-tokens _ _ _ _ _ _ _ _ (gave (c .before .before .before .before .before .before .before .before .before .before))
 
 pub step-spec : {M : Type 1} → statement M
 step-spec =

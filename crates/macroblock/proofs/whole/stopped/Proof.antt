@@ -4,7 +4,6 @@ use Rattle.macroblock.proofs.whole.stopped.Statement.{statement}
 use Rattle.macroblock.proofs.whole.stopped.Tie as tie
 use Rattle.macroblock.proofs.whole.stopped.Reads as reads
 use Rattle.macroblock.proofs.whole.stopped.Lts as lts
-use Rattle.modes.proofs.columns.Context.empty.Reads as empty-reads
 
 empty-requires : tie.Need-empty-requires
 empty-requires c κs = search needs

@@ -2,7 +2,7 @@ use Prim.Native.Nat.{ℕ}
 use mathlib.Core.Path.{_∙_, ap}
 use mathlib.Core.Bool.{not, _||_}
 use Rattle.filter.specs.Strengths.{strengthOf}
-use Rattle.segments.specs.Frame.{levelAt}
+use Rattle.header.specs.Frame.{levelAt}
 use borrow.Author.Needs.{needs}
 use Rattle.macroblock.proofs.whole.strength_of.Statement.{statement}
 use Rattle.macroblock.proofs.whole.strength_of.Tie as tie
@@ -19,7 +19,7 @@ level-of-requires : tie.Need-level-of-requires
 level-of-requires c κs = search needs
 
 strength-at-requires : tie.Need-strength-at-requires
-strength-at-requires c κs = rw (c .before .level-of .ensures) (c .before .before .before .pre .1 (c .before .before .before .args .kinds .small) (c .before .before .index .result))
+strength-at-requires c κs = rw (c .before .level-of .ensures) (c .before .before .before .pre .1 .levels (c .before .before .before .args .kinds .small) (c .before .before .index .result))
 
 returns : tie.Need-returns
 returns c =

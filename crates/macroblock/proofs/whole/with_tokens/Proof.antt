@@ -4,13 +4,15 @@ use Prim.Native.Nat.{ℕ}
 use mathlib.Core.Path.{_≡_, refl, sym, _∙_, ap}
 use Rattle.reader.specs.Boolean.{given}
 use Rattle.reader.specs.Reading.{run}
-use Rattle.segments.specs.declared.quantizers.Factors.{Factors}
+use Rattle.header.specs.declared.quantizers.Factors.{Factors}
 use Rattle.modes.specs.Answers.{macroblockOf}
 use Rattle.residual.specs.Residual.{residualOf}
 use Rattle.residual.specs.ResidualLaws.{fromResidual, fromEnded, decoded, decode-ends}
-use Rattle.segments.specs.Frame.{factorsAt}
+use Rattle.header.specs.Frame.{factorsAt}
 use Rattle.macroblock.specs.MacroblockLaws.{tokens-missing, tokens-done, painting}
-use Rattle.residual.proofs.Answers.{not-done}
+use denote.Enum.Declared.{tagOf}
+use Rattle.residual.specs.ResidualLaws.{not-done}
+use Rattle.residual.proofs.Ended as ended-answer
 use borrow.Author.Needs.{needs}
 use Rattle.macroblock.proofs.whole.with_tokens.Statement.{statement}
 use Rattle.macroblock.proofs.whole.with_tokens.Tie as tie
@@ -42,42 +44,42 @@ stopped-requires : tie.Need-stopped-requires
 stopped-requires c κs = search needs
 
 abbrev start : tie.After-c2 → tie.Start
-start c = c .before .before .before .before .before .before .before .before .before .before
+start c = c .before .before .before .before .before .before .before .before .before .before .before .before .before .before .before .before
 
 -- what the residual's answer says of the grammar
-is : (c : tie.After-c2) → (let a = start c .args in run (residualOf (a .table .now) (factorsAt (a .frame) (a .kinds .segment)) (a .kinds .small) (a .kinds .skip) (a .top) (a .left)) (a .tokens .now) (a .t) ≡ fromResidual (c .before .decode .last .1 .1 .1 .1 .1 .1 .1 .1 .0) (c .before .decode .result))
+is : (c : tie.After-c2) → (let a = start c .args in run (residualOf (a .table .now) (factorsAt (a .frame) (a .m .kinds .segment)) (a .m .kinds .small) (a .m .kinds .skip) (a .around .top .flags) (a .around .left .flags)) (a .tokens .now) (a .t) ≡ fromResidual (c .before .decode .last .1 .1 .1 .1 .1 .1 .1 .1 .0) (c .before .decode .result))
 is c =
     let a = start c .args in
     let p = start c .pre .0 in
-    ap (λ (f : Factors). run (residualOf (a .table .now) f (a .kinds .small) (a .kinds .skip) (a .top) (a .left)) (a .tokens .now) (a .t)) (sym (c .before .before .before .factors-of .ensures ∙ ap (factorsAt (a .frame)) (c .before .before .before .before .index .ensures)))
-    ∙ decoded _ _ _ _ _ _ _ _ _ (p .token) (record { size = p .size; above = p .above; beside = p .beside; long = refl }) (c .before .decode .ensures)
+    ap (λ (f : Factors). run (residualOf (a .table .now) f (a .m .kinds .small) (a .m .kinds .skip) (a .around .top .flags) (a .around .left .flags)) (a .tokens .now) (a .t)) (sym (c .before .before .before .factors-of .ensures ∙ ap (factorsAt (a .frame)) (c .before .before .before .before .index .ensures)))
+    ∙ decoded _ _ _ _ _ _ _ _ _ (p .token) (record { size = p .size; top-flags = p .top; left-flags = p .left; long = refl }) (c .before .decode .ensures)
 
 abbrev at-c2 : tie.After-known-told → tie.After-c2
 at-c2 c = c .before .before .before
 
 -- the coefficients, the flags and the reader that it gave
-gave : (c : tie.After-known-told) → (let d = at-c2 c in let x = d .before .decode .result in let a = start d .args in run (residualOf (a .table .now) (factorsAt (a .frame) (a .kinds .segment)) (a .kinds .small) (a .kinds .skip) (a .top) (a .left)) (a .tokens .now) (a .t) ≡ given (record { top = x .top; left = x .left; coefficients = d .before .decode .last .1 .1 .1 .1 .1 .1 .1 .1 .0; empty = c .before .answer .given .0 .1 .0 }) (c .before .answer .given .0 .0))
+gave : (c : tie.After-known-told) → (let d = at-c2 c in let x = d .before .decode .result in let a = start d .args in run (residualOf (a .table .now) (factorsAt (a .frame) (a .m .kinds .segment)) (a .m .kinds .small) (a .m .kinds .skip) (a .around .top .flags) (a .around .left .flags)) (a .tokens .now) (a .t) ≡ given (record { top = x .top; left = x .left; coefficients = d .before .decode .last .1 .1 .1 .1 .1 .1 .1 .1 .0; empty = c .before .answer .given .0 .1 .0 }) (c .before .answer .given .0 .0))
 gave c =
     let d = at-c2 c in
     is d ∙ ap (fromEnded (d .before .decode .result .top) (d .before .decode .result .left) (d .before .decode .last .1 .1 .1 .1 .1 .1 .1 .1 .0)) (c .before .answer .given .1)
 
 returns : tie.Need-returns
 returns c = let a = start (c .before .before) .args in
-    tokens-missing (a .tokens .now) (a .t) (a .table .now) (a .frame) (a .top) (a .left) (macroblockOf (a .kinds) (a .modes .now)) _ _ _ _ _ (is (c .before .before) ∙ not-done _ _ _ (c .before .before .before .decode .result .answer) (c .before .match .keys2)) (c .stopped .ensures)
+    tokens-missing (a .tokens .now) (a .t) (a .frame) (a .table .now) (a .around) (a .place) (macroblockOf (a .m .kinds) (a .m .modes)) _ _ (is (c .before .before) ∙ not-done (tagOf ended-answer.the-type) (λ r empty. refl) _ _ _ (c .before .before .before .decode .result .answer) (c .before .match .keys2)) (c .stopped .ensures)
 
 slice-aggregate-squares : tie.Need-slice-aggregate-squares
 slice-aggregate-squares c = search needs
 
 squares-requires : tie.Need-squares-requires
 squares-requires c κs =
-    let k = c .before .before .before .before in
+    let k = c .before .before .before .before .before in
     let d = at-c2 k in
     let p = start d .pre in
-    let e = decode-ends _ _ _ _ _ _ _ _ (replicate 384 (pos 0)) (p .0 .token) (record { size = p .0 .size; above = p .0 .above; beside = p .0 .beside; long = refl }) (λ i. d .before .before .before .before .before .before .before .before .before .shared-slice-known .given i .fits) (λ i. d .before .before .before .before .before .before .before .before .shared-slice-known2 .given i .fits) (gave k) in
+    let e = decode-ends _ _ _ _ _ _ _ _ (replicate 384 (pos 0)) (p .0 .token) (record { size = p .0 .size; top-flags = p .0 .top; left-flags = p .0 .left; long = refl }) (λ i. d .before .before .before .before .before .before .before .before .before .before .before .before .before .before .before .shared-slice-known .given i .fits) (λ i. d .before .before .before .before .before .before .before .before .before .before .before .before .before .before .shared-slice-known2 .given i .fits) (gave k) in
     (p .1 .1, painting (p .1 .0) (e .value))
 
 ending-requires : tie.Need-ending-requires
-ending-requires c κs = (start (c .before .before .before .before .before .before .before .before .before .before .before .before .before .before .before .before) .pre .1 .0 .segment, start (c .before .before .before .before .before .before .before .before .before .before .before .before .before .before .before .before) .pre .0 .levels)
+ending-requires c κs = let p = start (c .before .before .before .before .before .before .before .before .before .before .before .before .before .before .before .before .before) .pre in (p .1 .0 .segment, p .0 .sound)
 
 same-length : tie.Need-same-length
 same-length c = search needs
@@ -90,9 +92,9 @@ same-length-3 c = search needs
 
 returns-2 : tie.Need-returns-2
 returns-2 c =
-    let k = c .before .before .before .before .before .before .before .before .before .before .before .before .before .before in
+    let k = c .before .before .before .before .before .before .before .before .before .before .before .before .before .before .before in
     let a = start (at-c2 k) .args in
-    tokens-done (a .tokens .now) (a .t) (a .table .now) (a .frame) (a .top) (a .left) (macroblockOf (a .kinds) (a .modes .now)) _ _ _ _ _ (gave k) (c .ending .ensures) (c .before .before .before .before .before .before .before .before .before .squares .ensures)
+    tokens-done (a .tokens .now) (a .t) (a .frame) (a .table .now) (a .around) (a .place) (macroblockOf (a .m .kinds) (a .m .modes)) _ _ (gave k) (c .ending .ensures) (c .before .before .before .before .before .before .before .before .before .squares .ensures)
 
 pub with-tokens-spec : {M : Type 1} → statement M
 with-tokens-spec =

@@ -4,7 +4,7 @@ use borrow.Author.Needs.{needs}
 use Rattle.reader.specs.Reading.{run}
 use Rattle.reader.specs.ReadingLaws.{run-valid}
 use Rattle.reader.specs.TreesLaws.{fromWalked, walked}
-use Rattle.reader.proofs.Answers.{not-leaf}
+use Rattle.modes.proofs.Others.{not-leaf}
 use Rattle.modes.specs.Modes.{tree}
 use Rattle.modes.specs.ModesLaws.{leaves-within}
 use Rattle.modes.specs.Answers.{toMode}

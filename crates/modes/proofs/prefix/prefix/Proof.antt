@@ -1,7 +1,11 @@
-use mathlib.Core.Path.{sym, _∙_}
+use mathlib.Core.Path.{sym, _∙_, ap}
 use borrow.Author.Tests.{not-true, not-false}
 use borrow.Author.Needs.{needs}
 use Rattle.reader.specs.BooleanLaws.{Valid, valid-fact}
+use Rattle.header.specs.declared.frame.Announced.{Announced}
+use Rattle.reader.specs.Reading.{run}
+use Rattle.modes.specs.Modes.{prefix}
+use Rattle.modes.specs.Answers.{toHeaded}
 use Rattle.modes.specs.AnswersLaws.{prefix-length, prefix-reader, prefix-good}
 use Rattle.modes.proofs.prefix.prefix.Statement.{statement}
 use Rattle.modes.proofs.prefix.prefix.Tie as tie
@@ -19,11 +23,17 @@ returns-2 c = prefix-reader _ _ _ (sym (c .before .valid .ensures) ∙ not-true 
 good : (c : tie.Else2) → (let a = c .before .before .before .before .args in Valid (a .s .now) (a .r))
 good c = valid-fact _ _ (sym (c .before .valid .ensures) ∙ not-false _ (c .if2 .left))
 
+announced-by-requires : tie.Need-announced-by-requires
+announced-by-requires c κs = search needs
+
 head-requires : tie.Need-head-requires
-head-requires c κs = (good c, c .before .before .if1 .left)
+head-requires c κs = good (c .before)
 
 returns-3 : tie.Need-returns-3
-returns-3 c = let b = c .before in c .head .ensures ∙ sym (prefix-good _ _ _ (good b) (b .before .before .if1 .left))
+returns-3 c =
+    let b = c .before .before in
+    let a = b .before .before .before .before .args in
+    c .head .ensures ∙ ap (λ (n : Announced). toHeaded (run (prefix n) (a .s .now) (a .r))) (c .before .announced-by .ensures) ∙ sym (prefix-good _ _ _ (good b) (b .before .before .if1 .left))
 
 pub prefix-spec : {M : Type 1} → statement M
-prefix-spec = tie.close (tie.spec returns valid-requires returns-2 head-requires returns-3)
+prefix-spec = tie.close (tie.spec returns valid-requires returns-2 announced-by-requires head-requires returns-3)

@@ -24,11 +24,11 @@ all-probabilities-requires c κs = search needs
 loop-holds : tie.Need-loop-holds Inv-loop μ-loop
 loop-holds c = going-start _ _ (c .before .before .pre .0)
 
-above-requires : tie.Need-above-requires Inv-loop μ-loop
-above-requires c κs = omega arith
+mode-above-requires : tie.Need-mode-above-requires Inv-loop μ-loop
+mode-above-requires c κs = omega arith
 
-beside-requires : tie.Need-beside-requires Inv-loop μ-loop
-beside-requires c κs = omega arith
+mode-left-requires : tie.Need-mode-left-requires Inv-loop μ-loop
+mode-left-requires c κs = omega arith
 
 slice-aggregate-block : tie.Need-slice-aggregate-block Inv-loop μ-loop
 slice-aggregate-block c = search needs
@@ -38,8 +38,8 @@ block-requires c κs =
     let l = c .before .before .before .before .before .before in
     let a = l .before in
     let p = a .before .before .pre in
-    let u : c .before .before .before .above .result < 10 = rw (c .before .before .before .above .ensures) (above-mode _ _ _ (p .1 .0) (l .loop .inv .each)) in
-    let v : c .before .beside .result < 10 = rw (c .before .beside .ensures) (left-mode _ _ _ (p .1 .1) (l .loop .inv .each)) in
+    let u : c .before .before .before .mode-above .result < 10 = rw (c .before .before .before .mode-above .ensures) (above-mode _ _ _ (p .1 .0) (l .loop .inv .each)) in
+    let v : c .before .mode-left .result < 10 = rw (c .before .mode-left .ensures) (left-mode _ _ _ (p .1 .1) (l .loop .inv .each)) in
     (l .loop .inv .valid, ((omega arith, omega arith), a .all-probabilities .ensures))
 
 enum-known-m : tie.Need-enum-known-m Inv-loop μ-loop
@@ -48,7 +48,7 @@ enum-known-m c = search needs
 returns : tie.Need-returns Inv-loop μ-loop
 returns c = let b = c .before in
     let a = b .before .before .before .before in
-    sym (ap (toSixteen zeros) (going-missing (a .before .before .before .loop .inv) (a .above .ensures) (b .before .before .beside .ensures) (b .block .ensures) (a .before .before .loop-test .taken) (not-mode (b .block .result) (c .match .keys2))))
+    sym (ap (toSixteen zeros) (going-missing (a .before .before .before .loop .inv) (a .mode-above .ensures) (b .before .before .mode-left .ensures) (b .block .ensures) (a .before .before .loop-test .taken) (not-mode (b .block .result) (c .match .keys2))))
 
 array-write-modes : tie.Need-array-write-modes Inv-loop μ-loop
 array-write-modes c = omega arith
@@ -63,7 +63,7 @@ loop-again : tie.Need-loop-again Inv-loop μ-loop
 loop-again c = let b = c .before .before .before in
     let a = b .before .before .before .before in
     let i = a .before .before in
-    going-next (i .before .loop .inv) (a .above .ensures) (b .before .before .beside .ensures) (b .block .ensures) (i .loop-test .taken) (λ k. i .before .before .before .shared-slice-known .given k .fits) (ap fromMode (c .before .m .given .1))
+    going-next (i .before .loop .inv) (a .mode-above .ensures) (b .before .before .mode-left .ensures) (b .block .ensures) (i .loop-test .taken) (λ k. i .before .before .before .shared-slice-known .given k .fits) (ap fromMode (c .before .m .given .1))
 
 returns-2 : tie.Need-returns-2 Inv-loop μ-loop
 returns-2 c = sym (ap (toSixteen zeros) (going-end (c .before .loop .inv) (c .loop-test .left)))
@@ -76,8 +76,8 @@ sixteen-spec =
     μ-loop
     all-probabilities-requires
     loop-holds
-    above-requires
-    beside-requires
+    mode-above-requires
+    mode-left-requires
     slice-aggregate-block
     block-requires
     enum-known-m

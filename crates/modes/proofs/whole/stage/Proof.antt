@@ -1,5 +1,9 @@
 use mathlib.Core.Path.{_≡_, sym, ap, _∙_}
 use borrow.Author.Needs.{needs}
+use lib.ListN.{getD}
+use mir.Syntax.{w8}
+use mir.Val.{Fits}
+use Rattle.header.specs.FrameLaws.{Probabilities}
 use Rattle.reader.specs.Boolean.{given}
 use Rattle.reader.specs.BooleanLaws.{Bytes, Valid}
 use Rattle.reader.specs.Reading.{run}
@@ -26,15 +30,23 @@ prior c = c .before .before .before .before .before
 bytes : (c : tie.After-known-told) → Bytes (start1 c .args .s .now)
 bytes c i = c .before .before .before .before .shared-slice-known .given i .fits
 
+known : (c : tie.After-known-told) → Probabilities (start1 c .args .a)
+known c =
+    let a = start1 c .args .a in
+    record {
+      map = λ i. let f : Fits w8 (getD (a .«map_probabilities») i 0) = search needs in f .fits;
+      skip = let f : Fits w8 (a .«skip_probability») = search needs in f .fits;
+    }
+
 -- what each call says of its grammar, and that the reader after it is in range
-e1 : (c : tie.After-head) → (let a = start c .args in run (prefix (a .h .now)) (a .s .now) (a .r) ≡ fromHeaded (c .head .result))
+e1 : (c : tie.After-head) → (let a = start c .args in run (prefix (a .a)) (a .s .now) (a .r) ≡ fromHeaded (c .head .result))
 e1 c = headed _ (c .head .ensures)
 
-got1 : (c : tie.After-known-told) → (let a = start1 c .args in run (prefix (a .h .now)) (a .s .now) (a .r) ≡ given (c .before .p .given .0 .0) (c .before .p .given .0 .1 .0))
+got1 : (c : tie.After-known-told) → (let a = start1 c .args in run (prefix (a .a)) (a .s .now) (a .r) ≡ given (c .before .p .given .0 .0) (c .before .p .given .0 .1 .0))
 got1 c = e1 (c .before .before .before) ∙ ap fromHeaded (c .before .p .given .1)
 
 valid1 : (c : tie.After-known-told) → Valid (start1 c .args .s .now) (c .before .p .given .0 .1 .0)
-valid1 c = run-valid (prefix-within (start1 c .args .h .now)) (bytes c) (start1 c .pre .0) (got1 c) .valid
+valid1 c = run-valid (prefix-within (start1 c .args .a) (known c)) (bytes c) (start1 c .pre .0) (got1 c) .valid
 
 e2 : (c : tie.After-luma) → (let a = start1 (c .before) .args in run (luma (c .before .before .p .given .0 .0 .small) (a .top .now) (a .left .now)) (a .s .now) (c .before .before .p .given .0 .1 .0) ≡ fromSixteen (c .luma .result))
 e2 c = sixteened zeros _ (c .luma .ensures)
@@ -58,7 +70,7 @@ returns : tie.Need-returns
 returns c = let b = c .before .before in c .none .ensures ∙ sym (ap (toStaged zeros) (modes-1 _ _ _ _ _ (e1 b ∙ not-headed (b .head .result) (c .before .match .keys2))))
 
 luma-requires : tie.Need-luma-requires
-luma-requires c κs = let d = start (c .before .before .before) in (valid1 c, d .pre .1 .1)
+luma-requires c κs = let d = start (c .before .before .before) in (valid1 c, d .pre .1)
 
 enum-known-answer : tie.Need-enum-known-answer
 enum-known-answer c = search needs

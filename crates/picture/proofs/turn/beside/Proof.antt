@@ -5,7 +5,7 @@ use Rattle.picture.proofs.turn.beside.Statement.{statement}
 use Rattle.picture.proofs.turn.beside.Tie as tie
 use Rattle.picture.proofs.turn.beside.Reads as reads
 use Rattle.picture.proofs.turn.beside.Lts as lts
-use Rattle.modes.proofs.columns.Context.empty.Reads as empty-reads
+use Rattle.modes.proofs.contexts.Context.empty.Reads as empty-reads
 
 -- src/turn.rt:31:9
 empty-requires : tie.Need-empty-requires

@@ -1,20 +1,20 @@
-use borrow.Author.Needs.{needs}
 use mathlib.Core.Path.{_≡_}
-use Rattle.modes.specs.Records.{columnAt}
+use Rattle.lent.specs.Memory.{Memory, memoryOf}
+use Rattle.lent.specs.Records.{columnAt}
 use Rattle.macroblock.specs.Macroblock.{Planes, Finished, Step, finished, stepOf, toCalled}
-use Rattle.picture.specs.Memory.{Memory}
-use Rattle.picture.specs.Picture.{besideOf, planesOf}
-use Rattle.picture.proofs.Answers.{not-done}
+use Rattle.picture.specs.Picture.{besideOf, planesIn}
 use Rattle.picture.specs.TurnLaws.{Ends, ends-of, call-is, column-is, turn-stopped, turn-done}
+use Rattle.picture.proofs.Answers.{not-done}
+use borrow.Author.Needs.{needs}
 use Rattle.picture.proofs.turn.turn.Statement.{statement}
 use Rattle.picture.proofs.turn.turn.Tie as tie
 use Rattle.picture.proofs.turn.turn.Reads as reads
 use Rattle.picture.proofs.turn.turn.Lts as lts
-use Rattle.macroblock.proofs.records.write_strength.Reads as write-strength-reads
+use Rattle.lent.proofs.columns.read_column.Reads as read-column-reads
+use Rattle.lent.proofs.columns.write_column.Reads as write-column-reads
+use Rattle.lent.proofs.macroblocks.write_mode_record.Reads as write-mode-record-reads
+use Rattle.lent.proofs.macroblocks.write_strength.Reads as write-strength-reads
 use Rattle.macroblock.proofs.whole.decode.Reads as decode-reads
-use Rattle.modes.proofs.columns.read_column.Reads as read-column-reads
-use Rattle.modes.proofs.columns.write_column.Reads as write-column-reads
-use Rattle.modes.proofs.records.write_mode_record.Reads as write-mode-record-reads
 use Rattle.picture.proofs.turn.beside.Reads as beside-reads
 
 -- places: the call from behind it, and the function's start
@@ -22,117 +22,117 @@ abbrev called : tie.After-slice-known9 → tie.After-decode
 called c = c .before .before .before .before .before .before
 
 abbrev start : tie.After-decode → tie.Start
-start c = c .before .before .before .before .before .before .before .before .before .before .before .before .before .before .before .before .before
+start c = c .before .before .before .before .before .before .before .before .before .before .before .before .before .before .before .before .before .before
 
 abbrev before : tie.After-decode → Memory
-before c = let a = start c .args in record { y = a .y .now; u = a .u .now; v = a .v .now; columns = a .columns .now; modes = a .modes .now; strengths = a .strengths .now }
+before c = let a = start c .args in memoryOf (a .y .now) (a .u .now) (a .v .now) (a .columns .now) (a .modes .now) (a .strengths .now)
 
 abbrev step : tie.After-decode → Step
 step c =
     let a = start c .args in
-    stepOf (a .first .now) (a .r) (a .tokens .now) (a .t) (a .h .now) (a .table .now) (a .frame) (columnAt (a .columns .now) (a .column)) (besideOf (a .column) (a .left)) (a .width) (a .column) (a .row) (planesOf (before c))
+    let t = a .task in
+    stepOf (a .first .now) (a .tokens .now) (t .readers) (t .frame) (a .table .now) (record { top = columnAt (a .columns .now) (t .place .column); left = besideOf (t .place .column) (t .left) }) (t .place) (planesIn (before c))
 
 abbrev painted : tie.After-decode → Planes
-painted c = let l = c .decode .last .1 .1 .1 .1 .1 .1 .1 .1 .1 .1 .1 .1 in record { y = l .0; u = l .1 .0; v = l .1 .1 .0 }
+painted c = let l = c .decode .last .1 .1 .1 .1 .1 .1 .1 in record { y = l .0; u = l .1 .0; v = l .1 .1 .0 }
 
-answer : (c : tie.After-decode) → record { answer = c .decode .result; planes = painted c } ≡ toCalled (planesOf (before c)) (step c)
+answer : (c : tie.After-decode) → record { answer = c .decode .result; planes = painted c } ≡ toCalled (planesIn (before c)) (step c)
 answer c =
-    let a = start c .args in
     let p = start c .pre in
-    call-is _ _ _ _ _ _ _ _ _ _ _ _ _ (c .decode .ensures)
+    call-is _ _ _ _ _ _ _ _ _ (c .decode .ensures)
     (column-is _ _ (c .before .before .before .before .before .before .read-column .ensures) (p .1 .1 .columns))
     (c .before .before .before .before .beside .ensures)
     (p .0) (p .1 .0)
 
-ends : (c : tie.After-decode) → (x : Finished) → step c ≡ finished x → Ends (start c .args .first .now) (start c .args .tokens .now) (planesOf (before c)) x
+ends : (c : tie.After-decode) → (x : Finished) → step c ≡ finished x → Ends (start c .args .first .now) (start c .args .tokens .now) (planesIn (before c)) x
 ends c x e =
     let p = start c .pre in
-    ends-of _ _ _ _ _ _ _ _ _ _ _ _ _ (p .0) (p .1 .0)
-    (λ i. c .before .before .before .before .before .before .before .before .before .before .before .before .before .before .before .before .shared-slice-known .given i .fits)
-    (λ i. c .before .before .before .before .before .before .before .before .before .before .before .before .before .before .before .shared-slice-known2 .given i .fits)
-    (λ i. c .before .before .before .before .before .before .before .before .before .before .before .before .before .before .shared-slice-known3 .given i .fits) x e
+    ends-of _ _ _ _ _ _ _ _ (p .0) (p .1 .0)
+    (λ i. c .before .before .before .before .before .before .before .before .before .before .before .before .before .before .before .before .before .shared-slice-known .given i .fits)
+    (λ i. c .before .before .before .before .before .before .before .before .before .before .before .before .before .before .before .before .shared-slice-known2 .given i .fits)
+    (λ i. c .before .before .before .before .before .before .before .before .before .before .before .before .before .before .before .shared-slice-known3 .given i .fits) x e
 
--- src/turn.rt:63:9
+-- src/turn.rt:72:9
 read-column-requires : tie.Need-read-column-requires
 read-column-requires c κs = search needs
 
--- src/turn.rt:65:9
+-- src/turn.rt:74:9
 beside-requires : tie.Need-beside-requires
 beside-requires c κs = search needs
 
--- src/turn.rt:66:9
+-- src/turn.rt:75:9
 decode-requires : tie.Need-decode-requires
 decode-requires c κs = search needs
 
--- src/turn.rt:84:22
+-- src/turn.rt:91:22
 enum-known-answer : tie.Need-enum-known-answer
 enum-known-answer c = search needs
 
--- src/turn.rt:85:9
+-- src/turn.rt:93:9
 same-length : tie.Need-same-length
 same-length c = search needs
 
--- src/turn.rt:85:9
+-- src/turn.rt:93:9
 same-length-2 : tie.Need-same-length-2
 same-length-2 c = search needs
 
--- src/turn.rt:85:9
+-- src/turn.rt:93:9
 same-length-3 : tie.Need-same-length-3
 same-length-3 c = search needs
 
--- src/turn.rt:85:9
+-- src/turn.rt:93:9
 same-length-4 : tie.Need-same-length-4
 same-length-4 c = search needs
 
--- src/turn.rt:85:9
+-- src/turn.rt:93:9
 returns : tie.Need-returns
-returns c = let d = called (c .before) in turn-stopped _ _ _ (before d) (step d) (answer d) (not-done (d .decode .result .answer) (c .match .keys2))
+returns c = let d = called (c .before .before) in turn-stopped _ _ _ (before d) (step d) (answer d) (not-done (d .decode .result .answer) (c .before .match .keys2))
 
--- src/turn.rt:95:5
+-- src/turn.rt:103:5
 write-column-requires : tie.Need-write-column-requires
 write-column-requires c κs = search needs
 
--- src/turn.rt:96:5
+-- src/turn.rt:104:5
 write-mode-record-requires : tie.Need-write-mode-record-requires
 write-mode-record-requires c κs = search needs
 
--- src/turn.rt:97:5
+-- src/turn.rt:105:5
 write-strength-requires : tie.Need-write-strength-requires
 write-strength-requires c κs = search needs
 
--- src/turn.rt:36:1
+-- src/turn.rt:47:1
 same-length-5 : tie.Need-same-length-5
 same-length-5 c = search needs
 
--- src/turn.rt:36:1
+-- src/turn.rt:47:1
 same-length-6 : tie.Need-same-length-6
 same-length-6 c = search needs
 
--- src/turn.rt:36:1
+-- src/turn.rt:47:1
 same-length-7 : tie.Need-same-length-7
 same-length-7 c = search needs
 
--- src/turn.rt:36:1
+-- src/turn.rt:47:1
 same-length-8 : tie.Need-same-length-8
 same-length-8 c = search needs
 
--- src/turn.rt:36:1
+-- src/turn.rt:47:1
 same-length-9 : tie.Need-same-length-9
 same-length-9 c = search needs
 
--- src/turn.rt:36:1
+-- src/turn.rt:47:1
 same-length-10 : tie.Need-same-length-10
 same-length-10 c = search needs
 
--- src/turn.rt:36:1
+-- src/turn.rt:47:1
 returns-2 : tie.Need-returns-2
 returns-2 c =
     let w = c .before .before in
     let o = w .before .before .before .before in
     let q = o .before .before .before .before .before in
-    let t = q .before .before .before .before .before .before .before in
-    let d = called (t .before .before .before) in
-    turn-done _ _ _ (before d) (t .before .answer .given .1) (start d .pre .1 .1) (q .write-column .ensures) (o .write-mode-record .ensures) (w .write-strength .ensures) (step d) (answer d) (ends d)
+    let t = q .before .before .before .before .before .before .before .before in
+    let d = called (t .before .before) in
+    turn-done _ _ _ (before d) (t .answer .given .1) (start d .pre .1 .1) (q .write-column .ensures) (o .write-mode-record .ensures) (w .write-strength .ensures) (step d) (answer d) (ends d)
 
 pub turn-spec : {M : Type 1} → statement M
 turn-spec =

@@ -1,7 +1,7 @@
 -- `added` meets its contract: the coefficients fit, so the transform gives the residual.
 use mathlib.Core.Bool.{false}
 use mathlib.Core.Path.{_∙_}
-use Rattle.coefficients.specs.TransformLaws.{transform-good, samples-in}
+use Rattle.transform.specs.TransformLaws.{transform-good, samples-in}
 use Rattle.planes.proofs.blocks.added.Statement.{statement}
 use Rattle.planes.proofs.blocks.added.Tie as tie
 

@@ -6,8 +6,8 @@ use Rattle.planes.specs.Places.{size-some, quarter, size-sides, size-blo
 use Rattle.planes.proofs.blocks.square.Statement.{statement}
 use Rattle.planes.proofs.blocks.square.Tie as tie
 
-right-requires : tie.Need-right-requires
-right-requires c κs = let g = c .before .before .before .pre in (luma-square g (c .before .if1 .taken), luma-whole g (c .before .if1 .taken))
+above-right-requires : tie.Need-above-right-requires
+above-right-requires c κs = let g = c .before .before .before .pre in (luma-square g (c .before .if1 .taken), luma-whole g (c .before .if1 .taken))
 
 small-blocks-requires : tie.Need-small-blocks-requires
 small-blocks-requires c κs =
@@ -27,7 +27,7 @@ returns : tie.Need-returns
 returns c =
     let e = c .before .before .before .before .before .before .if1 .taken in
     c .before .before .small-blocks .ensures
-    ∙ square-small _ _ _ _ _ _ _ _ _ e (c .before .before .before .before .before .before .before .before .pre .luma e) (c .before .before .before .before .right .ensures)
+    ∙ square-small _ _ _ _ _ _ _ _ _ e (c .before .before .before .before .before .before .before .before .pre .luma e) (c .before .before .before .before .above-right .ensures)
 
 returns-2 : tie.Need-returns-2
 returns-2 c =
@@ -38,5 +38,5 @@ returns-2 c =
 pub square-spec : {M : Type 1} → statement M
 square-spec =
     tie.close
-    (tie.spec right-requires small-blocks-requires edge-requires (λ c κs. search needs) large-blocks-requires (λ c. search needs)
+    (tie.spec above-right-requires small-blocks-requires edge-requires (λ c κs. search needs) large-blocks-requires (λ c. search needs)
     returns (λ c. search needs) returns-2)

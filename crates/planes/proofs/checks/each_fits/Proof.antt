@@ -7,7 +7,7 @@ use lib.ListN.{length, getD}
 use mir.Syntax.{w32}
 use Rattle.numbers.specs.Hand.{back}
 use Rattle.numbers.specs.Tables.{allBelow}
-use Rattle.coefficients.specs.Transform.{fits16}
+use Rattle.transform.specs.Transform.{fits16}
 use Rattle.planes.proofs.Turns.{all-next}
 use Rattle.planes.proofs.checks.each_fits.Statement.{statement}
 use Rattle.planes.proofs.checks.each_fits.Tie as tie

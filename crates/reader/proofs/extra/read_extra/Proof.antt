@@ -5,7 +5,8 @@ use native.Mathlib.Omega.{arith}
 use borrow.Author.Needs.{needs}
 use Rattle.reader.specs.ReadingLaws.{answered, fromSymbol}
 use Rattle.reader.proofs.Answers.{not-got}
-use Rattle.reader.proofs.Turns.{Going, bits-small, going-start, going-end, going-missing, going-next}
+use Rattle.reader.specs.ExtraLaws.{bits-small}
+use Rattle.reader.proofs.Turns.{Going, going-start, going-end, going-missing, going-next}
 use Rattle.reader.proofs.extra.read_extra.Statement.{statement}
 use Rattle.reader.proofs.extra.read_extra.Tie as tie
 use Rattle.reader.proofs.extra.read_extra.Reads as reads

@@ -1,4 +1,4 @@
-use Rattle.coefficients.proofs.TokenAnswers.{not-ended}
+use Rattle.residual.proofs.Answers.{not-ended}
 use Rattle.residual.proofs.Turns.{second-fine, second-lost, second-read}
 use borrow.Author.Needs.{needs}
 use native.Mathlib.Omega.{arith}

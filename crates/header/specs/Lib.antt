@@ -1,0 +1,10 @@
+pub mod Entries
+pub mod Header
+pub mod HeaderLaws
+pub mod Own
+pub mod Quantizers
+pub mod QuantizersLaws
+pub mod Levels
+pub mod LevelsLaws
+pub mod Frame
+pub mod FrameLaws

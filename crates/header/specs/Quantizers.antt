@@ -1,0 +1,83 @@
+-- Quantizers (RFC 6386, sections 9.6 and 14.1): what each kind of coefficient is multiplied by in a segment.
+use Prim.Native.Nat.{ℕ, _+_, _*_, _/_, _<_, min, max}
+use mathlib.Core.Bool.{Bool, true, false, _&&_}
+use mathlib.Core.List.{List, [], _∷_}
+use lib.Dec.{ltb}
+use lib.ListN.{getD}
+use lib.IntN.{ℤ, pos, _+ℤ_}
+use Rattle.numbers.specs.Clamp.{upTo}
+use Rattle.header.specs.Entries.{segmentIndex, baseIndex, ydcDelta, y2dcDelta, y2acDelta, uvdcDelta, uvacDelta}
+use Rattle.header.specs.Header.{entry, headerOf}
+use Rattle.header.specs.Own.{segmentedOf}
+use Rattle.header.specs.declared.quantizers.Factors.{Factors}
+use Rattle.header.specs.declared.quantizers.Quantizers.{Quantizers}
+use Rattle.header.specs.declared.quantizers.Quantizers.the-variants as Q
+
+-- ---- section 14.1: the steps by index
+unfoldable pub dcSteps : List ℕ
+dcSteps =
+    4 ∷ 5 ∷ 6 ∷ 7 ∷ 8 ∷ 9 ∷ 10 ∷ 10 ∷ 11 ∷ 12 ∷ 13 ∷ 14 ∷ 15 ∷ 16 ∷ 17 ∷ 17
+    ∷ 18 ∷ 19 ∷ 20 ∷ 20 ∷ 21 ∷ 21 ∷ 22 ∷ 22 ∷ 23 ∷ 23 ∷ 24 ∷ 25 ∷ 25 ∷ 26 ∷ 27 ∷ 28
+    ∷ 29 ∷ 30 ∷ 31 ∷ 32 ∷ 33 ∷ 34 ∷ 35 ∷ 36 ∷ 37 ∷ 37 ∷ 38 ∷ 39 ∷ 40 ∷ 41 ∷ 42 ∷ 43
+    ∷ 44 ∷ 45 ∷ 46 ∷ 46 ∷ 47 ∷ 48 ∷ 49 ∷ 50 ∷ 51 ∷ 52 ∷ 53 ∷ 54 ∷ 55 ∷ 56 ∷ 57 ∷ 58
+    ∷ 59 ∷ 60 ∷ 61 ∷ 62 ∷ 63 ∷ 64 ∷ 65 ∷ 66 ∷ 67 ∷ 68 ∷ 69 ∷ 70 ∷ 71 ∷ 72 ∷ 73 ∷ 74
+    ∷ 75 ∷ 76 ∷ 76 ∷ 77 ∷ 78 ∷ 79 ∷ 80 ∷ 81 ∷ 82 ∷ 83 ∷ 84 ∷ 85 ∷ 86 ∷ 87 ∷ 88 ∷ 89
+    ∷ 91 ∷ 93 ∷ 95 ∷ 96 ∷ 98 ∷ 100 ∷ 101 ∷ 102 ∷ 104 ∷ 106 ∷ 108 ∷ 110 ∷ 112 ∷ 114 ∷ 116 ∷ 118
+    ∷ 122 ∷ 124 ∷ 126 ∷ 128 ∷ 130 ∷ 132 ∷ 134 ∷ 136 ∷ 138 ∷ 140 ∷ 143 ∷ 145 ∷ 148 ∷ 151 ∷ 154 ∷ 157 ∷ []
+
+unfoldable pub acSteps : List ℕ
+acSteps =
+    4 ∷ 5 ∷ 6 ∷ 7 ∷ 8 ∷ 9 ∷ 10 ∷ 11 ∷ 12 ∷ 13 ∷ 14 ∷ 15 ∷ 16 ∷ 17 ∷ 18 ∷ 19
+    ∷ 20 ∷ 21 ∷ 22 ∷ 23 ∷ 24 ∷ 25 ∷ 26 ∷ 27 ∷ 28 ∷ 29 ∷ 30 ∷ 31 ∷ 32 ∷ 33 ∷ 34 ∷ 35
+    ∷ 36 ∷ 37 ∷ 38 ∷ 39 ∷ 40 ∷ 41 ∷ 42 ∷ 43 ∷ 44 ∷ 45 ∷ 46 ∷ 47 ∷ 48 ∷ 49 ∷ 50 ∷ 51
+    ∷ 52 ∷ 53 ∷ 54 ∷ 55 ∷ 56 ∷ 57 ∷ 58 ∷ 60 ∷ 62 ∷ 64 ∷ 66 ∷ 68 ∷ 70 ∷ 72 ∷ 74 ∷ 76
+    ∷ 78 ∷ 80 ∷ 82 ∷ 84 ∷ 86 ∷ 88 ∷ 90 ∷ 92 ∷ 94 ∷ 96 ∷ 98 ∷ 100 ∷ 102 ∷ 104 ∷ 106 ∷ 108
+    ∷ 110 ∷ 112 ∷ 114 ∷ 116 ∷ 119 ∷ 122 ∷ 125 ∷ 128 ∷ 131 ∷ 134 ∷ 137 ∷ 140 ∷ 143 ∷ 146 ∷ 149 ∷ 152
+    ∷ 155 ∷ 158 ∷ 161 ∷ 164 ∷ 167 ∷ 170 ∷ 173 ∷ 177 ∷ 181 ∷ 185 ∷ 189 ∷ 193 ∷ 197 ∷ 201 ∷ 205 ∷ 209
+    ∷ 213 ∷ 217 ∷ 221 ∷ 225 ∷ 229 ∷ 234 ∷ 239 ∷ 245 ∷ 249 ∷ 254 ∷ 259 ∷ 264 ∷ 269 ∷ 274 ∷ 279 ∷ 284 ∷ []
+
+abbrev pub dcAt : ℕ → ℕ
+dcAt i = getD dcSteps i 0
+
+abbrev pub acAt : ℕ → ℕ
+acAt i = getD acSteps i 0
+
+-- ---- section 9.6: the frame's index, or the segment's own
+-- clamped to 0..127, and again after a delta
+abbrev pub indexOf : List ℤ → ℕ → ℕ
+indexOf h segment = upTo 127 (segmentedOf h baseIndex (segmentIndex + segment))
+
+abbrev pub indexWith : ℕ → ℤ → ℕ
+indexWith index delta = upTo 127 (pos index +ℤ delta)
+
+-- 155 over 100 of a step, at least 8
+abbrev pub secondAc : ℕ → ℕ
+secondAc step = max (step * 155 / 100) 8
+
+-- the six factors: five are moved by a delta of their own
+unfoldable pub factorsOf : List ℤ → ℕ → Factors
+factorsOf h segment =
+    let i = indexOf h segment in
+    record {
+      ydc = dcAt (indexWith i (entry h ydcDelta));
+      yac = acAt i;
+      y2dc = dcAt (indexWith i (entry h y2dcDelta)) * 2;
+      y2ac = secondAc (acAt (indexWith i (entry h y2acDelta)));
+      uvdc = min (dcAt (indexWith i (entry h uvdcDelta))) 132;
+      uvac = acAt (indexWith i (entry h uvacDelta));
+    }
+
+-- `for_segment`: refused where the header is not fine or there is no such segment
+unfoldable pub quantizersOf : List ℤ → ℕ → Quantizers
+quantizersOf h segment = elim (headerOf h && ltb segment 4) [ true ↦ Q.Ready (factorsOf h segment) | false ↦ Q.Refused ]
+
+abbrev pub quantizersNumberOf : Quantizers → ℕ
+quantizersNumberOf (Q.Ready f) = 0
+quantizersNumberOf Q.Refused = 9
+
+abbrev pub noFactors : Factors
+noFactors = record { ydc = 0; yac = 0; y2dc = 0; y2ac = 0; uvdc = 0; uvac = 0 }
+
+abbrev pub quantizersValuesOf : Quantizers → Factors
+quantizersValuesOf (Q.Ready f) = f
+quantizersValuesOf Q.Refused = noFactors

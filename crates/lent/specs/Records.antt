@@ -1,0 +1,151 @@
+-- Lent memory as records: those of macroblock columns, the modes of macroblocks, their strengths. Nothing else says what stands where.
+use Prim.Native.Nat.{ℕ, _+_, _*_, _/_, _<_}
+use mathlib.Core.Path.{_≡_}
+use mathlib.Core.List.{List, [], _∷_, _++_}
+use mathlib.Core.Bool.{Bool, true, false, not, _&&_}
+use lib.ListN.{length, getD, replicate}
+use lib.Dec.{ltb, eqb}
+use Rattle.numbers.specs.Lists.{build, listed}
+use Rattle.numbers.specs.Runs.{copied}
+use Rattle.numbers.specs.Flags.{bitOf}
+use Rattle.filter.specs.declared.strengths.Strength.{Strength}
+use Rattle.filter.specs.Strengths.{strengthFine}
+use Rattle.modes.specs.declared.answers.Kinds.{Kinds}
+use Rattle.modes.specs.declared.contexts.Context.{Context}
+use Rattle.modes.specs.Answers.{eachBelow}
+use Rattle.modes.specs.Contexts.{contextFine}
+use Rattle.lent.specs.declared.records.Kept.{Kept}
+use Rattle.lent.specs.declared.records.Kept.the-variants as K
+use Rattle.lent.specs.declared.columns.ColumnRecord.{ColumnRecord}
+use Rattle.lent.specs.declared.macroblocks.ModeRecord.{ModeRecord}
+use Rattle.lent.specs.declared.macroblocks.StrengthRecord.{StrengthRecord}
+
+-- ---- records of `width` bytes, side by side
+-- record i, and the memory with record i written
+unfoldable pub recordAt : (width : ℕ) → List ℕ → ℕ → List ℕ
+recordAt width mem i = build width (λ j. getD mem (i * width + j) 0)
+
+unfoldable pub recordSet : (width : ℕ) → List ℕ → ℕ → List ℕ → List ℕ
+recordSet width mem i bytes = copied mem (i * width) bytes 0 width
+
+-- as many as lie wholly inside
+abbrev pub recordsIn : (width : ℕ) → List ℕ → ℕ
+recordsIn width mem = length mem / width
+
+-- n bytes of a record, from its place `from` on
+abbrev pub bytesOf : (from n : ℕ) → List ℕ → List ℕ
+bytesOf from n b = listed n (λ j. getD b (from + j) 0)
+
+-- ---- what the calls answer
+-- writing: refused, and nothing changed, where there is no such record, or what is to be written is not in range
+pub record Written : Type 0 where
+  pub answer : Kept
+  pub mem : List ℕ
+
+unfoldable pub recordWritten : (width : ℕ) → List ℕ → ℕ → (fine : Bool) → List ℕ → Written
+recordWritten width mem i fine bytes =
+    elim (ltb i (recordsIn width mem) && fine) [
+      | true ↦ record { answer = K.Done; mem = recordSet width mem i bytes }
+      | false ↦ record { answer = K.Refused; mem = mem }
+    ]
+
+-- reading: refused, and zeros, where there is no such record
+pub record Taken : Type 0 where
+  pub answer : Kept
+  pub bytes : List ℕ
+
+unfoldable pub recordFound : (width : ℕ) → List ℕ → ℕ → Taken
+recordFound width mem i =
+    elim (ltb i (recordsIn width mem)) [
+      | true ↦ record { answer = K.Done; bytes = recordAt width mem i }
+      | false ↦ record { answer = K.Refused; bytes = replicate width 0 }
+    ]
+
+-- ---- a macroblock column, thirteen bytes: four modes, nine flags
+abbrev pub columnWidth : ℕ
+columnWidth = 13
+
+abbrev pub columnRecord : Context → List ℕ
+columnRecord c = c .modes ++ c .flags
+
+abbrev pub contextIn : List ℕ → Context
+contextIn b = record { modes = bytesOf 0 4 b; flags = bytesOf 4 9 b }
+
+-- the context of column x, and the memory with it written
+abbrev pub columnAt : List ℕ → ℕ → Context
+columnAt mem x = contextIn (recordAt columnWidth mem x)
+
+abbrev pub columnSet : List ℕ → ℕ → Context → List ℕ
+columnSet mem x c = recordSet columnWidth mem x (columnRecord c)
+
+abbrev pub columnWritten : List ℕ → ℕ → Context → Written
+columnWritten mem x c = recordWritten columnWidth mem x (contextFine c) (columnRecord c)
+
+abbrev pub columnFound : List ℕ → ℕ → ColumnRecord
+columnFound mem x = record { answer = recordFound columnWidth mem x .answer; context = contextIn (recordFound columnWidth mem x .bytes) }
+
+-- every context in the memory is in range
+abbrev pub Columns : List ℕ → Type 0
+Columns mem = (x : ℕ) → x < recordsIn columnWidth mem → contextFine (columnAt mem x) ≡ true
+
+-- ---- the modes of a macroblock, twenty bytes: segment, skip, small, the sixteen luma modes, chroma
+abbrev pub modeWidth : ℕ
+modeWidth = 20
+
+abbrev pub modeRecord : Kinds → List ℕ → List ℕ
+modeRecord k modes = k .segment ∷ bitOf (k .skip) ∷ bitOf (k .small) ∷ (modes ++ (k .chroma ∷ []))
+
+-- a flag is true where its byte is not 0
+abbrev pub isOn : ℕ → Bool
+isOn n = not (eqb n 0)
+
+abbrev pub kindsIn : List ℕ → Kinds
+kindsIn b = record { segment = getD b 0 0; skip = isOn (getD b 1 0); small = isOn (getD b 2 0); chroma = getD b 19 0 }
+
+abbrev pub modesIn : List ℕ → List ℕ
+modesIn b = bytesOf 3 16 b
+
+abbrev pub kindsAt : List ℕ → ℕ → Kinds
+kindsAt mem i = kindsIn (recordAt modeWidth mem i)
+
+abbrev pub modesAt : List ℕ → ℕ → List ℕ
+modesAt mem i = modesIn (recordAt modeWidth mem i)
+
+abbrev pub modeSet : List ℕ → ℕ → Kinds → List ℕ → List ℕ
+modeSet mem i k modes = recordSet modeWidth mem i (modeRecord k modes)
+
+abbrev pub kindsFine : Kinds → Bool
+kindsFine k = ltb (k .segment) 4 && ltb (k .chroma) 4
+
+abbrev pub modeWritten : List ℕ → ℕ → Kinds → List ℕ → Written
+modeWritten mem i k modes = recordWritten modeWidth mem i (kindsFine k && eachBelow 10 modes) (modeRecord k modes)
+
+abbrev pub modeFound : List ℕ → ℕ → ModeRecord
+modeFound mem i = record { answer = recordFound modeWidth mem i .answer; kinds = kindsIn (recordFound modeWidth mem i .bytes); modes = modesIn (recordFound modeWidth mem i .bytes) }
+
+-- ---- the strengths of a macroblock, four bytes: limit, inner, threshold, inside
+abbrev pub strengthWidth : ℕ
+strengthWidth = 4
+
+abbrev pub strengthRecord : Strength → List ℕ
+strengthRecord t = t .limit ∷ t .inner ∷ t .threshold ∷ t .inside ∷ []
+
+abbrev pub strengthIn : List ℕ → Strength
+strengthIn b = record { limit = getD b 0 0; inner = getD b 1 0; threshold = getD b 2 0; inside = getD b 3 0 }
+
+abbrev pub strengthAt : List ℕ → ℕ → Strength
+strengthAt mem i = strengthIn (recordAt strengthWidth mem i)
+
+abbrev pub strengthSet : List ℕ → ℕ → Strength → List ℕ
+strengthSet mem i t = recordSet strengthWidth mem i (strengthRecord t)
+
+abbrev pub strengthWritten : List ℕ → ℕ → Strength → Written
+strengthWritten mem i t = recordWritten strengthWidth mem i (strengthFine t) (strengthRecord t)
+
+abbrev pub strengthFound : List ℕ → ℕ → StrengthRecord
+strengthFound mem i = record { answer = recordFound strengthWidth mem i .answer; strength = strengthIn (recordFound strengthWidth mem i .bytes) }
+
+-- ---- the answer as a number
+abbrev pub keptNumberOf : Kept → ℕ
+keptNumberOf K.Done = 0
+keptNumberOf K.Refused = 9

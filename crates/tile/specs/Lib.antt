@@ -1,0 +1,4 @@
+pub mod Partitions
+pub mod Checks
+pub mod PartitionsLaws
+pub mod ChecksLaws

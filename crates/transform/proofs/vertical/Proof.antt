@@ -1,0 +1,39 @@
+-- `vertical` meets its contract, column by column: the columns of coefficients that fit lie within what a line takes.
+use mathlib.Core.List.{[]}
+use mathlib.Core.Path.{refl, ap, _∙_}
+use Prim.Native.Nat.{ℕ}
+use borrow.Author.Needs.{needs}
+use lib.IntN.{pos, negsuc}
+use lib.ListN.{getD}
+use Rattle.numbers.specs.In.{In, Each, Each2}
+use Rattle.numbers.specs.Lists.{_∷≡_}
+use Rattle.transform.specs.Transform.{Grid, transposeOf, rowsOf, verticalOf}
+use Rattle.transform.specs.TransformBounds.{numeral-in, near-zero, each2-wider, transpose-in}
+use Rattle.transform.proofs.vertical.Statement.{statement}
+use Rattle.transform.proofs.vertical.Tie as tie
+
+-- what a line requires at column x
+ask : (s : tie.After-transpose) (x : ℕ) → Each (negsuc 199999) (pos 200000) (getD (s .transpose .result) x []) × In (pos 0) (pos 4) (pos 0)
+ask s x =
+    let e : Each2 (negsuc 199999) (pos 200000) (s .transpose .result) = rw (s .transpose .ensures) (transpose-in (near-zero 200000) (each2-wider (s .before .pre) tt)) in
+    (record { at = e .at x }, numeral-in _ tt)
+
+returns : tie.Need-returns
+unfolding rowsOf verticalOf
+returns c =
+    let c4 = c .before in
+    let c3 = c4 .before .before in
+    let c2 = c3 .before .before in
+    let c1 = c2 .before .before in
+    let s = c1 .before .before in
+    let e = c1 .line .ensures ∷≡ c2 .line2 .ensures ∷≡ c3 .line3 .ensures ∷≡ c4 .line4 .ensures ∷≡ refl in
+    c .transpose2 .ensures ∙ ap transposeOf e ∙ ap (λ (t : Grid). transposeOf (rowsOf (s .before .args .walsh) (pos 0) t)) (s .transpose .ensures)
+
+pub vertical-spec : {M : Type 1} → statement M
+vertical-spec =
+    tie.close
+    (tie.spec (λ c κs. search needs)
+    (λ c. search needs) (λ c κs. ask (c .before) 0) (λ c. search needs) (λ c κs. ask (c .before .before .before) 1)
+    (λ c. search needs) (λ c κs. ask (c .before .before .before .before .before) 2)
+    (λ c. search needs) (λ c κs. ask (c .before .before .before .before .before .before .before) 3)
+    (λ c κs. search needs) returns)

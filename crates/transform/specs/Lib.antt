@@ -1,0 +1,5 @@
+-- the two inverse transforms: definitions, how far their numbers go, laws that callers cite, and the source's own definitions
+pub mod Transform
+pub mod TransformBounds
+pub mod TransformLaws
+pub mod TransformSource

@@ -1,0 +1,175 @@
+-- What callers cite of the inverse transforms.
+use mathlib.Core.Path.{_≡_, refl, sym, ap, ap₂, _∙_}
+use mathlib.Core.Bool.{Bool, true, false, _&&_}
+use mathlib.Core.List.{List, [], _∷_}
+use mathlib.Core.Logic.{inl, inr}
+use Prim.Native.Nat.{ℕ, zero, suc, _+_, _*_, _/_, _%_, _<_}
+use native.Mathlib.Omega.{arith}
+use native.Mathlib.Nat.{div-add-mod, add-mul, mul-assoc}
+use lib.Dec.{T, ltb, lit<}
+use lib.IntN.{ℤ, pos, negsuc, _+ℤ_, _*ℤ_, +ℤ-idr}
+use lib.ListN.{length, replicate}
+use lib.Signed.{_≤ℤ_, leZ, shrZ, quotZ, remZ}
+use Rattle.numbers.specs.In.{In, Each, Each2}
+use Rattle.numbers.specs.Parts.{up, dn, of-le, le-true, true-le, add-parts, up-times, dn-times, shr-parts}
+use Rattle.numbers.specs.Floor.{floor-is}
+use Rattle.numbers.specs.Bounds.{each-[], each-∷, each2-[], each2-∷}
+use Rattle.numbers.specs.Lists.{build, build-listed, length-build, getD-build, getD-build-past, getD-constant, _∷≡_}
+use Rattle.numbers.specs.Tables.{allBelow, all-below}
+use Rattle.numbers.specs.Tests.{lt-or, both-true, both-left, both-right, cond-at, not-so}
+use Rattle.numbers.specs.WrapLaws.{wrap-in}
+use Rattle.transform.specs.declared.Transformed.{Transformed}
+use Rattle.transform.specs.Transform.{Grid, at, cell, four, rowOf, gridOf, transposeOf, scaledOf, passOf, rowsOf, verticalOf, biasOf, horizontalOf, resultOf, resultsOf, samplesOf, fits16, goodOf, transformOf}
+use Rattle.transform.specs.TransformBounds.{numeral-in, vertical-in, horizontal-in, result-in}
+
+-- ---- the scaled product
+-- a multiplier taken apart into fours and a rest: a quarter of the rest's product, rounded down, is all that the quotient needs of it
+pub scaled-apart : (k x : ℤ) → pos 0 ≤ℤ k → shrZ (quotZ k (pos 4) *ℤ x +ℤ shrZ (remZ k (pos 4) *ℤ x) 4) 16384 ≡ scaledOf k x
+unfolding scaledOf
+scaled-apart (negsuc n) x h = absurd (h .le)
+scaled-apart (pos n) x h =
+    let fours = pos (n / 4) *ℤ x in
+    let rest = pos (n % 4) *ℤ x in
+    let low = shrZ rest 4 in
+    let q = shrZ (fours +ℤ low) 16384 in
+    let a = shr-parts 4 rest (lit< tt) in
+    let b = shr-parts 16384 (fours +ℤ low) (lit< tt) in
+    let s = add-parts fours low in
+    let m = add-parts (pos 65536 *ℤ q) (pos 65535) in
+    let i : up (pos n *ℤ x) ≡ 4 * up fours + up rest = up-times n x ∙ whole (up x) ∙ ap₂ (λ (y z : ℕ). 4 * y + z) (sym (up-times (n / 4) x)) (sym (up-times (n % 4) x)) in
+    let j : dn (pos n *ℤ x) ≡ 4 * dn fours + dn rest = dn-times n x ∙ whole (dn x) ∙ ap₂ (λ (y z : ℕ). 4 * y + z) (sym (dn-times (n / 4) x)) (sym (dn-times (n % 4) x)) in
+    let u = up-times 65536 q in
+    let d = dn-times 65536 q in
+    sym (floor-is 65536 {z = pos n *ℤ x} {q = q} (lit< tt) (record { low = of-le (omega arith); high = of-le (omega arith) }))
+  where
+    whole : (y : ℕ) → n * y ≡ 4 * (n / 4 * y) + n % 4 * y
+    whole y = ap (λ (z : ℕ). z * y) (sym (div-add-mod n 4)) ∙ add-mul (4 * (n / 4)) (n % 4) y ∙ ap (λ (z : ℕ). z + n % 4 * y) (mul-assoc 4 (n / 4) y)
+
+-- ---- the grid
+pub below-four : (P : ℕ → Type 0) → P 0 → P 1 → P 2 → P 3 → (k : ℕ) → k < 4 → P k
+below-four P a b c d zero h = a
+below-four P a b c d (suc zero) h = b
+below-four P a b c d (suc (suc zero)) h = c
+below-four P a b c d (suc (suc (suc zero))) h = d
+below-four P a b c d (suc (suc (suc (suc k)))) h = absurd (omega arith)
+
+pub transpose-at : (g : Grid) (x : ℕ) → x < 4 → (y : ℕ) → y < 4 → cell (transposeOf g) x y ≡ cell g y x
+unfolding transposeOf
+transpose-at g =
+    below-four (λ x. (y : ℕ) → y < 4 → cell (transposeOf g) x y ≡ cell g y x) (below-four _ refl refl refl refl) (below-four _ refl refl refl refl)
+    (below-four _ refl refl refl refl) (below-four _ refl refl refl refl)
+
+-- ---- coefficients
+-- sixteen that fit 16 bits
+pub record Coefficients (c : List ℤ) : Type 0 where
+  pub fit : (k : ℕ) → k < 16 → In (negsuc 32767) (pos 32767) (at c k)
+
+fits-in : (z : ℤ) → fits16 z ≡ true → In (negsuc 32767) (pos 32767) z
+fits-in z e =
+    let l = leZ (negsuc 32767) z in
+    let h = leZ z (pos 32767) in
+    record { low = true-le (negsuc 32767) z (both-left l h e); high = true-le z (pos 32767) (both-right l h e) }
+
+below-all : (f : ℕ → Bool) (n : ℕ) → ((i : ℕ) → i < n → f i ≡ true) → allBelow n f ≡ true
+below-all f zero h = refl
+below-all f (suc n) h = both-true (h n (omega arith)) (below-all f n (λ i l. h i (omega arith)))
+
+pub good-fit : {c : List ℤ} → goodOf c ≡ true → Coefficients c
+unfolding goodOf
+good-fit {c} e = record { fit = λ k h. fits-in (at c k) (all-below (λ i. fits16 (at c i)) 16 e k h) }
+
+pub fit-good : {c : List ℤ} → Coefficients c → goodOf c ≡ true
+unfolding goodOf
+fit-good {c} f = below-all (λ i. fits16 (at c i)) 16 (λ i h. both-true (le-true (f .fit i h .low)) (le-true (f .fit i h .high)))
+
+pub grid-in : {c : List ℤ} → Coefficients c → Each2 (negsuc 32767) (pos 32767) (gridOf c)
+unfolding gridOf
+grid-in {c} f = each2-∷ (row 0 (lit< tt)) (each2-∷ (row 1 (lit< tt)) (each2-∷ (row 2 (lit< tt)) (each2-∷ (row 3 (lit< tt)) (each2-[] tt))))
+  where
+    row : (y : ℕ) → y < 4 → Each (negsuc 32767) (pos 32767) (rowOf c (4 * y))
+    row y h =
+        let n : (x : ℕ) → x < 4 → In (negsuc 32767) (pos 32767) (at c (4 * y + x)) = λ x l. f .fit (4 * y + x) (omega arith) in
+        each-∷ (n 0 (lit< tt)) (each-∷ (n 1 (lit< tt)) (each-∷ (n 2 (lit< tt)) (each-∷ (n 3 (lit< tt)) (each-[] tt))))
+
+-- ---- the answer: the results where all fit, else a refusal
+pub transform-good : {c : List ℤ} (walsh : Bool) → Coefficients c → transformOf c walsh ≡ record { number = 0; samples = samplesOf walsh c }
+unfolding transformOf
+transform-good walsh f = rw (fit-good f)
+
+pub transform-refused : {c : List ℤ} (walsh : Bool) → (Coefficients c → ⊥) → transformOf c walsh ≡ record { number = 8; samples = replicate 16 (pos 0) }
+unfolding transformOf
+transform-refused {c} walsh n = rw (sym (not-so (goodOf c) (λ e. n (good-fit e))))
+
+-- ---- the results: sixteen numbers no further out than 150001, refused or not, and those of Walsh in 16 bits
+each-build : {l h : ℤ} (n : ℕ) (f : ℕ → ℤ) → In l h (pos 0) → ((k : ℕ) → In l h (f k)) → Each l h (build n f)
+each-build {l} {h} n f z p = record { at = go }
+  where
+    go : (k : ℕ) → In l h (at (build n f) k)
+    go k = elim (lt-or k n) [
+      | inl e ↦ rw (getD-build n f k (pos 0) e) (p k)
+      | inr e ↦ rw (getD-build-past n f k (pos 0) e) z
+    ]
+
+pub samples-in : {c : List ℤ} (walsh : Bool) → Coefficients c → Each (negsuc 150000) (pos 150001) (samplesOf walsh c)
+unfolding samplesOf resultsOf
+samples-in walsh f =
+    let e = horizontal-in walsh (vertical-in walsh (grid-in f)) in
+    each-build 16 _ (numeral-in (pos 0) tt) (λ k. result-in walsh (e .at (k / 4) (k % 4)))
+
+module _ (c : List ℤ) where
+  answer : (walsh : Bool) (P : List ℤ → Type 0) → (Coefficients c → P (samplesOf walsh c)) → P (replicate 16 (pos 0)) → P (transformOf c walsh .samples)
+  unfolding transformOf
+  answer walsh P f z = cond-at (goodOf c) (λ (t : Transformed). P (t .samples)) (λ e. f (good-fit e)) (λ e. z)
+
+  pub length-transform : (walsh : Bool) → length (transformOf c walsh .samples) ≡ 16
+  unfolding samplesOf resultsOf
+  length-transform walsh = answer walsh (λ l. length l ≡ 16) (λ f. length-build 16 _) refl
+
+  zeros-in : {l h : ℤ} → T (leZ l (pos 0) && leZ (pos 0) h) → Each l h (replicate 16 (pos 0))
+  zeros-in t = record { at = λ k. rw (getD-constant 16 k (pos 0)) (numeral-in (pos 0) t) }
+
+  pub transform-in : (walsh : Bool) → Each (negsuc 150000) (pos 150001) (transformOf c walsh .samples)
+  transform-in walsh = answer walsh (Each (negsuc 150000) (pos 150001)) (samples-in walsh) (zeros-in tt)
+
+  pub transform-walsh-in : Each (negsuc 32767) (pos 32767) (transformOf c true .samples)
+  unfolding samplesOf resultsOf
+  transform-walsh-in =
+      answer true (Each (negsuc 32767) (pos 32767)) (λ f. each-build 16 _ (numeral-in (pos 0) tt) (λ k. wrap-in _)) (zeros-in tt)
+
+-- ---- the shortcut
+-- every coefficient below n but the first is 0
+pub record PlainTo (n : ℕ) (c : List ℤ) : Type 0 where
+  pub zero : (k : ℕ) → 0 < k → k < n → at c k ≡ pos 0
+
+-- a line whose first number alone is not 0, and one of zeros
+pass-plain : (walsh : Bool) (bias d : ℤ) → passOf walsh bias d (pos 0) (pos 0) (pos 0) ≡ four (λ i. d +ℤ bias)
+unfolding passOf scaledOf
+pass-plain true bias d = simp +ℤ-idr
+pass-plain false bias d = simp +ℤ-idr
+
+pass-zero : (walsh : Bool) → passOf walsh (pos 0) (pos 0) (pos 0) (pos 0) (pos 0) ≡ four (λ i. pos 0)
+unfolding passOf scaledOf
+pass-zero true = refl
+pass-zero false = refl
+
+plain-grid : {c : List ℤ} → PlainTo 16 c → gridOf c ≡ gridOf (at c 0 ∷ [])
+unfolding gridOf
+plain-grid {c} p =
+    (refl ∷≡ z 1 tt tt ∷≡ z 2 tt tt ∷≡ z 3 tt tt ∷≡ refl) ∷≡ (z 4 tt tt ∷≡ z 5 tt tt ∷≡ z 6 tt tt ∷≡ z 7 tt tt ∷≡ refl) ∷≡
+    (z 8 tt tt ∷≡ z 9 tt tt ∷≡ z 10 tt tt ∷≡ z 11 tt tt ∷≡ refl) ∷≡ (z 12 tt tt ∷≡ z 13 tt tt ∷≡ z 14 tt tt ∷≡ z 15 tt tt ∷≡ refl) ∷≡ refl
+  where
+    z : (k : ℕ) → T (ltb 0 k) → T (ltb k 16) → at c k ≡ pos 0
+    z k a b = p .zero k (lit< a) (lit< b)
+
+plain-vertical : (walsh : Bool) (d : ℤ) → verticalOf walsh (gridOf (d ∷ [])) ≡ four (λ y. d ∷ pos 0 ∷ pos 0 ∷ pos 0 ∷ [])
+unfolding gridOf transposeOf rowsOf verticalOf
+plain-vertical walsh d = rw (pass-plain walsh (pos 0) d, pass-zero walsh) (simp +ℤ-idr)
+
+plain-horizontal : (walsh : Bool) (d : ℤ) → horizontalOf walsh (four (λ y. d ∷ pos 0 ∷ pos 0 ∷ pos 0 ∷ [])) ≡ four (λ y. four (λ x. d +ℤ biasOf walsh))
+unfolding rowsOf horizontalOf
+plain-horizontal walsh d = rw pass-plain
+
+-- with every coefficient but the first 0, one number stands in all sixteen places
+pub shortcut : {c : List ℤ} (walsh : Bool) → PlainTo 16 c → samplesOf walsh c ≡ replicate 16 (resultOf walsh (at c 0 +ℤ biasOf walsh))
+unfolding samplesOf resultsOf
+shortcut {c} walsh p = rw (plain-grid p, plain-vertical walsh (at c 0), plain-horizontal walsh (at c 0)) (build-listed 16 _)
