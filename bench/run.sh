@@ -28,7 +28,7 @@ if [ ! -f $out/libwebpdec.a ]; then
     cat /etc/apt/sources.list.d/*.sources 2>/dev/null | sed 's/^Types:.*/Types: deb-src/' >"$lists/parts/src.sources" || true
     cat /etc/apt/sources.list 2>/dev/null | sed -n 's/^deb /deb-src /p' >"$lists/parts/src.list" || true
     sources() { apt-get -q -o Dir::Etc::SourceList=/dev/null -o Dir::Etc::SourceParts="$lists/parts" -o Dir::State::Lists="$lists/lists" -o Dir::Cache="$lists/cache" "$@"; }
-    [ -f $out/$tar ] || { sources update && (cd $out && sources source --download-only libwebp); } >$out/apt.log 2>&1
+    [ -f $out/$tar ] || { sources update && (cd $out && sources source --download-only libwebp); } >$out/apt.log 2>&1 || { cat $out/apt.log >&2; exit 1; }
     echo "7bf5a8a28cc69bcfa8cb214f2c3095703c6b73ac5fba4d5480c205331d9494df  $out/$tar" | sha256sum -c --quiet
     tar -xzf $out/$tar -C $out
     : >$out/$webp/src/webp/config.h

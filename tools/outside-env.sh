@@ -2,17 +2,26 @@
 #   X86CC     a C compiler for x86-64
 #   X86RUN    what runs an x86-64 program here: nothing on x86-64, qemu elsewhere
 #   ARCHIVE   libhookbarley.a: $ARCHIVE if given, else target/staticlib/libhookbarley.a, built where it is not there
-# and need COMMAND PACKAGE.., which installs Debian packages where the command is missing.
+# and need COMMAND PACKAGE.., which installs Debian packages where the command is missing and shows what apt says where that fails.
+
+packages() { DEBIAN_FRONTEND=noninteractive apt-get install -y -q --no-install-recommends "$@"; }
 
 need() {
-    local command=$1
+    local command=$1 log
     shift
     command -v "$command" >/dev/null && return
     [ "$(id -u)" -eq 0 ] || { echo "missing: $command; install: $*" >&2; return 1; }
     echo "installing $*" >&2
-    { DEBIAN_FRONTEND=noninteractive apt-get install -y -q --no-install-recommends "$@" ||
-        { apt-get update -q && DEBIAN_FRONTEND=noninteractive apt-get install -y -q --no-install-recommends "$@"; }; } >/dev/null 2>&1
-    command -v "$command" >/dev/null || { echo "missing: $command; apt-get could not install $*" >&2; return 1; }
+    log=$(mktemp) || return 1
+    { packages "$@" || { apt-get update -q && packages "$@"; }; } >"$log" 2>&1
+    if command -v "$command" >/dev/null; then
+        rm -f "$log"
+        return
+    fi
+    cat "$log" >&2
+    rm -f "$log"
+    echo "missing: $command; apt-get could not install $*: see above" >&2
+    return 1
 }
 
 if [ "$(uname -m)" = x86_64 ]; then

@@ -1,7 +1,7 @@
 #!/usr/bin/env bash
 # Makes crates/replay/stdout from the expected lines of crates/replay/data (those since request M-102): for each case its name, the case
 # line and, unless the file is malformed, the six hashes. Run it at the repository's root.
-set -eu
+set -euo pipefail
 cd crates/replay/data
 for folder in named real fuzz; do
     paste -d ' ' "$folder/expected-m102.txt" "$folder/expected-memory-m102.txt" | awk -v folder="$folder" '{
@@ -11,3 +11,4 @@ for folder in named real fuzz; do
         print line
     }'
 done > ../stdout
+[ "$(wc -l <../stdout)" -ge 151 ] || { echo "fewer than 151 cases" >&2; exit 1; }

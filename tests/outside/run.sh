@@ -16,6 +16,12 @@ mkdir -p $out
 failed=0
 say() { printf '%-10s %s\n' "$1" "$2"; }
 bad() { say "$1" "FAILED: $2"; failed=1; }
+least() { # least PART WHAT COUNT LEAST: a part that tried fewer than it should has not passed
+    [ "${3:-0}" -ge "$4" ] || bad "$1" "only ${3:-0} $2, at least $4 are to be tried"
+}
+counted() { # counted LOG PATTERN: the first number in the first line of LOG that matches
+    sed -n "s/$2.*/\\1/p" "$1" | head -n 1
+}
 build() { # build NAME SOURCES..
     local name=$1
     shift
@@ -50,6 +56,7 @@ tile-q50 0 256 7864495 1869616 2222832
 tile-q75 0 256 7862718 1870044 2222860
 tile-q90 0 256 7861994 1870584 2223410
 END
+    least example "case files" $tried 87
     [ $failed -eq 0 ] && say example "$tried case files as expected, the worked tile: 0 1 32960 8192 8192"
     # deblocked, both kinds, every set: sums and hashes; a malformed file is 10 0
     tried=0
@@ -66,7 +73,7 @@ END
             done <$cases/$set/expected-deblocked${kind#*:}-m102.txt
         done
     done
-    [ $tried -ge 294 ] || bad deblocked "only $tried case files"
+    least deblocked "case files" $tried 294
     [ $failed -eq 0 ] && say deblocked "$tried case files as expected, both kinds"
 else
     bad example "does not build"
@@ -87,6 +94,10 @@ $X86CC -std=gnu11 -Wall -Wextra -Werror -Iinclude -c -o $out/readme.o $out/readm
 # 2. Damaged inputs between guard pages.
 if build damaged tests/outside/damaged.c && $X86RUN $out/damaged $cases/real "$N" "$SEED" >$out/damaged.log 2>&1; then
     sed 's/^/           /' $out/damaged.log
+    least damaged "tiles" "$(counted $out/damaged.log '^whole: \([0-9]*\) tiles')" 40
+    least damaged "cuts" "$(counted $out/damaged.log '^cut: \([0-9]*\) cuts')" 23706
+    least damaged "pairs" "$(counted $out/damaged.log '^apart: \([0-9]*\) pairs')" 720
+    least damaged "random inputs" "$(counted $out/damaged.log '^random: \([0-9]*\) inputs')" "$N"
     say damaged "$(tail -n 1 $out/damaged.log)"
 else
     tail -n 5 $out/damaged.log
@@ -116,12 +127,15 @@ for fault in 0 1 2 3 4 5 6 7 8 9 10 11 12 13 14 15 16; do
         bad faults "fault $fault was not found (status $status)"
     fi
 done
+least faults "faults found" $found 16
 say faults "$found of 16 found"
 
 # 4. The WebP calls between guard pages, on files of encoders and damaged ones; the faults that the test must find.
 webps=$(echo tests/outside/webp/*.webp)
 if build webp tests/outside/webp.c && $X86RUN $out/webp "$N" "$SEED" $webps bench/*.webp >$out/webp.log 2>&1; then
     sed 's/^/           /' $out/webp.log
+    least webp "files" "$(grep -c '^file ' $out/webp.log)" 7
+    least webp "random inputs" "$(counted $out/webp.log '^random: \([0-9]*\) inputs')" "$N"
     say webp "$(tail -n 1 $out/webp.log)"
 else
     tail -n 5 $out/webp.log
@@ -148,6 +162,7 @@ for fault in 0 1 2 3 4 5 6 7 8 9 10 11 12 13 14; do
         bad webp "fault $fault was not found (status $status)"
     fi
 done
+least webp "faults found" $found 14
 say webp "$found of 14 faults found"
 
 # 5. Explanations between guard pages; the faults that the test must find.
@@ -181,7 +196,9 @@ fi
 
 # 6. The Rust wrapper.
 if tests/outside/rust.sh "$ARCHIVE" >$out/rust.log 2>&1; then
-    say rust "$(grep '^test result' $out/rust.log | awk '{s += $4} END {print s " tests passed"}')"
+    passed=$(grep '^test result' $out/rust.log | awk '{s += $4} END {print s + 0}')
+    least rust "tests" "$passed" 16
+    say rust "$passed tests passed"
 else
     tail -n 20 $out/rust.log
     bad rust "see $out/rust.log"

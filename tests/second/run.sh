@@ -49,5 +49,7 @@ while read -r name w h; do
     compare $out/$name.ivf
 done <$out/list
 echo "partitions: $(grep -o 'partitions [0-9]' $out/all.log | sort | uniq -c | awk '{printf "%s of %s, ", $1, $3}' | sed 's/, $//'); with segments: $(grep -c 'segments 1' $out/all.log); filtered: $(grep -c 'level [1-9]' $out/all.log), simple $(grep -c 'level [1-9].*simple 1' $out/all.log)"
+# cwebp gives a file of one frame for each picture, vpxenc one of four
+[ "$count" -ge 1 ] && [ $files -ge $((2 * count)) ] && [ $frames -ge $((5 * count)) ] || { echo "only $files files and $frames key frames of $count pictures compared"; failed=1; }
 if [ $failed -eq 0 ]; then echo "second: $files files, $frames key frames, every sample the same before and after the loop filter, seed $seed"; else echo "second: FAILED, seed $seed"; fi
 exit $failed
