@@ -1,11 +1,12 @@
 #!/usr/bin/env python3
-"""Makes pictures to encode: images.py SEED COUNT FOLDER writes NNNN.ppm, each a mixture of slopes, ridges, noise and flat parts, of a
-random size from 1 to 400; and NNNN.i420, the same for vpxenc, four pictures long. Prints NNNN WIDTH HEIGHT a line."""
+"""Makes pictures to encode: images.py SEED COUNT FOLDER [WIDTH HEIGHT] writes NNNN.ppm, each a mixture of slopes, ridges, noise and flat
+parts, of a random size from 1 to 400 or of this one; and NNNN.i420, the same for vpxenc, four pictures long. Prints NNNN WIDTH HEIGHT a line."""
 import math
 import random
 import sys
 
 seed, count, folder = int(sys.argv[1]), int(sys.argv[2]), sys.argv[3]
+size = tuple(map(int, sys.argv[4:6]))
 draw = random.Random(seed)
 
 
@@ -36,7 +37,7 @@ def picture(w, h):
 
 
 for i in range(count):
-    w, h = draw.choice([(draw.randrange(1, 100), draw.randrange(1, 100)), (16 * draw.randrange(1, 9), 16 * draw.randrange(1, 9)), (draw.randrange(100, 400), draw.randrange(16, 120))])
+    w, h = size or draw.choice([(draw.randrange(1, 100), draw.randrange(1, 100)), (16 * draw.randrange(1, 9), 16 * draw.randrange(1, 9)), (draw.randrange(100, 400), draw.randrange(16, 120))])
     rows = picture(w, h)
     with open(f"{folder}/{i:04d}.ppm", "wb") as out:
         out.write(b"P6\n%d %d\n255\n" % (w, h))
