@@ -1,8 +1,9 @@
 # What the outside tests and the bench share; sourced with the repository's root as the working directory. Sets
 #   X86CC     a C compiler for x86-64
 #   X86RUN    what runs an x86-64 program here: nothing on x86-64, qemu elsewhere
-#   ARCHIVE   libhookbarley.a: $ARCHIVE if given, else target/staticlib/libhookbarley.a, built where it is not there
-# and need COMMAND PACKAGE.., which installs Debian packages where the command is missing and shows what apt says where that fails.
+#   ARCHIVE   libhookbarley.a: $ARCHIVE if given, else target/staticlib/libhookbarley.a, built where it is not there or not new
+# and need COMMAND PACKAGE.., which installs Debian packages where the command is missing and
+# shows what apt says where that fails.
 
 packages() { DEBIAN_FRONTEND=noninteractive apt-get install -y -q --no-install-recommends "$@"; }
 
@@ -36,11 +37,8 @@ else
 fi
 
 if [ -z "${ARCHIVE:-}" ]; then
+    tools/archive.sh || exit 1
     ARCHIVE=target/staticlib/libhookbarley.a
-    if [ ! -f $ARCHIVE ]; then
-        echo "building $ARCHIVE" >&2
-        rt staticlib hookbarley >target/staticlib.log 2>&1 || { tail -n 20 target/staticlib.log >&2; exit 1; }
-    fi
 fi
 [ -f "$ARCHIVE" ] || { echo "no archive: $ARCHIVE" >&2; exit 1; }
 ARCHIVE=$(realpath "$ARCHIVE")
