@@ -14,7 +14,7 @@ use Rattle.frame.specs.declared.fields.Filter.{Filter}
 use Rattle.frame.specs.declared.fields.Quantizers.{Quantizers}
 use Rattle.frame.specs.declared.fields.Header.{Header}
 use Rattle.frame.specs.Header.{none}
-use Rattle.frame.specs.Names as Name
+use Rattle.header.specs.Entries as Name
 
 -- a coded number as a number: its magnitude, negative where its sign is not 0
 abbrev pub negative : ℕ → ℕ → ℤ
@@ -44,20 +44,20 @@ threeFrom i t = (i, plain (t .a)) ∷ (i + 1, plain (t .b)) ∷ (i + 2, plain (t
 
 unfoldable pub withSegments : Segments → List Signed → List Signed
 withSegments g l =
-    stored (threeFrom Name.mapProbabilities (g .probs))
-    (stored (fourFrom Name.segmentLevels (g .features .levels))
-    (stored (fourFrom Name.segmentQuantizers (g .features .quantizers))
+    stored (threeFrom Name.mapProbability (g .probs))
+    (stored (fourFrom Name.segmentLevel (g .features .levels))
+    (stored (fourFrom Name.segmentIndex (g .features .quantizers))
     (stored
     ((Name.segmentsOn, plain (g .on))
-    ∷ (Name.mapPresent, plain (g .map))
-    ∷ (Name.absolute, plain (g .features .absolute))
+    ∷ (Name.mapOn, plain (g .map))
+    ∷ (Name.segmentsAbsolute, plain (g .features .absolute))
     ∷ [])
     l)))
 
 unfoldable pub withFilter : Filter → List Signed → List Signed
 withFilter f =
     stored
-    ((Name.level, plain (f .level))
+    ((Name.frameLevel, plain (f .level))
     ∷ (Name.sharpness, plain (f .sharpness))
     ∷ (Name.deltasOn, plain (f .on))
     ∷ (Name.intraDelta, f .deltas .intra)
@@ -67,24 +67,24 @@ withFilter f =
 unfoldable pub withQuantizers : Quantizers → List Signed → List Signed
 withQuantizers q =
     stored
-    ((Name.quantizer, plain (q .base))
-    ∷ (Name.yDc, q .ydc)
-    ∷ (Name.y2Dc, q .y2dc)
-    ∷ (Name.y2Ac, q .y2ac)
-    ∷ (Name.uvDc, q .uvdc)
-    ∷ (Name.uvAc, q .uvac)
+    ((Name.baseIndex, plain (q .base))
+    ∷ (Name.ydcDelta, q .ydc)
+    ∷ (Name.y2dcDelta, q .y2dc)
+    ∷ (Name.y2acDelta, q .y2ac)
+    ∷ (Name.uvdcDelta, q .uvdc)
+    ∷ (Name.uvacDelta, q .uvac)
     ∷ [])
 
 unfoldable pub numbers : Header → List Signed
-numbers h = withQuantizers (h .quantizers) (withFilter (h .filter) (withSegments (h .segments) (replicate Name.coefficients none)))
+numbers h = withQuantizers (h .quantizers) (withFilter (h .filter) (withSegments (h .segments) (replicate Name.coefficientProbability none)))
 
 -- ---- all of them: those, the coefficient probabilities, whether macroblocks may be skipped and the probability of that
 unfoldable pub numberAt : List Signed → List ℕ → ℕ → ℕ → ℕ → Signed
 numberAt first probs skip chance i =
-    elim (ltb i Name.coefficients) [
+    elim (ltb i Name.coefficientProbability) [
       | true ↦ getD first i none
-      | false ↦ elim (ltb i Name.skipPresent) [
-        | true ↦ plain (getD probs (i - Name.coefficients) 0)
+      | false ↦ elim (ltb i Name.skipsOn) [
+        | true ↦ plain (getD probs (i - Name.coefficientProbability) 0)
         | false ↦ elim (ltb i Name.skipProbability) [ true ↦ plain skip | false ↦ plain chance ]
       ]
     ]

@@ -5,7 +5,6 @@ pub mod HeaderLaws
 pub mod Tag
 pub mod Places
 pub mod PlacesLaws
-pub mod Names
 pub mod Entries
 pub mod EntriesLaws
 pub mod Take

@@ -1,43 +1,80 @@
 -- A frame that is taken passes the picture call's checks, 1 the sizes, 2 the count, 3 the entries, 5 the partitions and the reader; any
 -- other is refused.
-use Prim.Native.Nat.{ℕ, zero, suc, _+_, _-_, _*_, _/_, _%_, _≤_, _<_, _^_}
-use mathlib.Core.Path.{_≡_, refl, sym, _∙_, ap}
+use Prim.Native.Nat.{ℕ, zero, suc, _+_, _-_, _*_, _/_, _≤_, _<_}
+use mathlib.Core.Path.{_≡_, refl, _∙_, ap}
 use mathlib.Core.Logic.{_⊎_, inl, inr, ⊎-elim}
 use mathlib.Core.Bool.{Bool, true, false, _&&_}
 use mathlib.Core.List.{List}
 use native.Mathlib.Omega.{arith}
-use lib.Dec.{ltb, leb, eqb, lit<, lit≤}
-use lib.IntN.{ℤ, pos, negsuc}
-use lib.ListN.{length, getD, take, drop, length-take, length-drop, List·getD-eq-default}
-use lib.Seq.{getD-take, getD-drop}
-use borrow.Author.Tests.{lt-ltb, le-ltb, leb-true, le-leb, lt-leb}
+use lib.Dec.{leb, eqb, lit≤}
+use lib.IntN.{ℤ}
+use lib.ListN.{length, getD}
+use borrow.Author.Tests.{leb-true, le-leb, lt-leb, eqb-true, eq-eqb}
 use Rattle.numbers.specs.Tests.{lt-or, never, both-left, both-right}
-use Rattle.numbers.specs.Lists.{getD-build}
-use Rattle.numbers.specs.In.{Each}
+use Rattle.numbers.specs.Lists.{getD-build, length-build}
 use Rattle.numbers.specs.Tables.{all-below}
 use Rattle.reader.specs.declared.boolean.Reader.{Reader}
 use Rattle.reader.specs.Boolean.{Given, given, missing, firstReader}
-use Rattle.reader.specs.BooleanLaws.{Bytes, Valid, first-valid}
-use Rattle.reader.specs.Reading.{run}
+use Rattle.reader.specs.BooleanLaws.{Bytes, first-valid}
 use Rattle.reader.specs.ReadingLaws.{Ended, run-valid}
+use Rattle.tile.specs.Partitions.{noSpan, partOf}
+use Rattle.tile.specs.PartitionsLaws.{part-bytes, span-at}
+use Rattle.tile.specs.Checks.{Side, Counted, Inside}
 use Rattle.frame.specs.declared.fields.Header.{Header}
 use Rattle.frame.specs.declared.take.Taken.{Taken}
-use Rattle.frame.specs.Header.{header}
 use Rattle.frame.specs.Fine.{Fine}
 use Rattle.frame.specs.HeaderLaws.{header-within}
 use Rattle.frame.specs.Tag.{sizeOf, widthOf, heightOf, roundedOf, startCodeOf, versionOf, interOf, goodOf}
-use Rattle.frame.specs.Places.{countOf, noSpan, placeOf, lengthOf, spanOf, tokensOf, insideOf}
+use Rattle.frame.specs.Places.{partitionCount, startOf, lengthOf, spanOf, tokenSpans, tokensInside}
 use Rattle.frame.specs.PlacesLaws.{span-is}
-use Rattle.frame.specs.Entries.{entries}
 use Rattle.frame.specs.EntriesLaws.{entries-length, entries-each}
-use Rattle.frame.specs.Take.{nothing, tableOf, firstOf, wholeOf, placedOf, codedOf, takenOf}
-use Rattle.frame.specs.Passes.{Side, Inside, Passes, Refused}
+use Rattle.frame.specs.Take.{nothing, firstOf, tableOf, tileOf, wholeOf, placedOf, codedOf, givenHeader, takenOf, intoOf}
 use Rattle.frame.specs.TakeLaws.{take-tag, take-first, take-short, take-coded}
+use Rattle.frame.specs.Passes.{Covers, Passes, Refused, Kept}
 
-rounded-side : (n : ℕ) → 1 ≤ n → n < 16384 → Side n (roundedOf n)
-rounded-side n h l = record { least = omega arith; most = omega arith; whole = omega arith; covers = omega arith; tight = omega arith }
+-- ---- every way through the call: a refusal, or the whole with what was tried on the way
+abbrev Number : ℕ → Type 0
+Number n = (n ≡ 12) ⊎ (n ≡ 13) ⊎ (n ≡ 14)
 
--- what the tag's test says of the sizes
+data Way (b : List ℕ) : Taken → Type 0 where
+  refused : (n : ℕ) → Number n → Way b (nothing n)
+  whole : (h : Header) (r : Reader) → goodOf b ≡ true → tableOf b ≤ length b → givenHeader b ≡ given h r → tokensInside b (tableOf b) (partitionCount (h .partitions)) ≡ true → Way b (wholeOf b h r)
+
+module _ (b : List ℕ) where
+  no-way : (n : ℕ) {t : Taken} → Number n → nothing n ≡ t → Way b t
+  no-way n k e = let w : Way b (nothing n) = refused n k in rw e at w
+
+  way : Way b (takenOf b)
+  unfolding placedOf givenHeader
+  way = tag (goodOf b) refl
+    where
+      placed : (h : Header) (r : Reader) → goodOf b ≡ true → tableOf b ≤ length b → givenHeader b ≡ given h r → (v : Bool) → tokensInside b (tableOf b) (partitionCount (h .partitions)) ≡ v → Way b (placedOf b h r)
+      placed h r e l g true i = rw (i, placedOf) (whole h r e l g i)
+      placed h r e l g false i = rw (i, placedOf) (refused 13 (inr (inl refl)))
+
+      coded : goodOf b ≡ true → tableOf b ≤ length b → (x : Given Header) → givenHeader b ≡ x → Way b (codedOf b x)
+      coded e l (given h r) g = placed h r e l g (tokensInside b (tableOf b) (partitionCount (h .partitions))) refl
+      coded e l missing g = refused 14 (inr (inr refl))
+
+      inside : goodOf b ≡ true → tableOf b ≤ length b → Way b (takenOf b)
+      inside e l =
+          let f = le-leb (tableOf b) (length b) l in
+          ⊎-elim
+          (λ k. no-way 14 (inr (inr refl)) (take-short b e refl f k))
+          (λ k. rw (take-coded b e refl f k refl) at (coded e l (givenHeader b) refl))
+          (lt-or (sizeOf b) 2)
+
+      tag : (v : Bool) → goodOf b ≡ v → Way b (takenOf b)
+      tag false e = no-way 12 (inl refl) (take-tag b e)
+      tag true e = ⊎-elim (λ k. no-way 13 (inr (inl refl)) (take-first b e refl (lt-leb (tableOf b) (length b) k))) (λ k. inside e k) (lt-or (length b) (tableOf b))
+
+-- ---- what was tried says of the whole
+rounded-side : (n : ℕ) → 1 ≤ n → n < 16384 → Side (roundedOf n)
+rounded-side n h l = record { least = omega arith; most = omega arith; whole = omega arith }
+
+rounded-covers : (n : ℕ) → Covers n (roundedOf n)
+rounded-covers n = record { whole = omega arith; tight = omega arith }
+
 module _ (b : List ℕ) (e : goodOf b ≡ true) where
   tag-width : 1 ≤ widthOf b
   unfolding goodOf
@@ -47,106 +84,85 @@ module _ (b : List ℕ) (e : goodOf b ≡ true) where
   unfolding goodOf
   tag-height = leb-true 1 (heightOf b) (both-right (leb 10 (length b) && eqb (interOf b) 0 && startCodeOf b && leb (versionOf b) 3 && leb 1 (widthOf b)) _ e)
 
-counts : (p : ℕ) → p < 4 → (1 ≤ countOf p) × (countOf p ≤ 8)
-counts zero h = (lit≤ tt, lit≤ tt)
-counts (suc zero) h = (lit≤ tt, lit≤ tt)
-counts (suc (suc zero)) h = (lit≤ tt, lit≤ tt)
-counts (suc (suc (suc zero))) h = (lit≤ tt, lit≤ tt)
-counts (suc (suc (suc (suc n)))) h = absurd (omega arith)
+counted : (p : ℕ) → p < 4 → Counted (partitionCount p)
+counted zero h = record { least = lit≤ tt; most = lit≤ tt }
+counted (suc zero) h = record { least = lit≤ tt; most = lit≤ tt }
+counted (suc (suc zero)) h = record { least = lit≤ tt; most = lit≤ tt }
+counted (suc (suc (suc zero))) h = record { least = lit≤ tt; most = lit≤ tt }
+counted (suc (suc (suc (suc n)))) h = absurd (omega arith)
 
-module _ (b : List ℕ) (n : ℕ) (h : 10 + n ≤ length b) (y : Bytes b) where
-  first-length : length (take n (drop 10 b)) ≡ n
-  first-length = simp (length-take, length-drop) (omega arith)
+module _ (b : List ℕ) (table count : ℕ) (h : tokensInside b table count ≡ true) (m : count ≤ 8) where
+  token-at : (i : ℕ) → i < count → getD (tokenSpans b table count) i noSpan ≡ record { start = startOf b table count i; len = lengthOf b table count i (startOf b table count i) }
+  unfolding tokenSpans
+  token-at i l = getD-build 8 (λ i. spanOf b table count i (startOf b table count i)) i noSpan (omega arith) ∙ span-is b table count i _ l
 
-  first-bytes : Bytes (take n (drop 10 b))
-  first-bytes i =
-      ⊎-elim
-      (λ l. rw (getD-take n (drop 10 b) i 0 l, getD-drop 10 b i 0) (y (10 + i)))
-      (λ g. rw (List·getD-eq-default (take n (drop 10 b)) 0 {n = i} (rw first-length g)) (lit< tt))
-      (lt-or i n)
-
-module _ (b : List ℕ) (table count : ℕ) (h : insideOf b table count ≡ true) (m : count ≤ 8) where
-  token-at : (i : ℕ) → i < count → getD (tokensOf b table count) i noSpan ≡ record { start = placeOf b table count i; len = lengthOf b table count i (placeOf b table count i) }
-  unfolding tokensOf
-  token-at i l = getD-build 8 (λ i. spanOf b table count i (placeOf b table count i)) i noSpan (omega arith) ∙ span-is b table count i _ l
-
-  token-inside : (i : ℕ) → i < count → Inside b (getD (tokensOf b table count) i noSpan)
-  unfolding insideOf
+  token-inside : (i : ℕ) → i < count → Inside (length b) (getD (tokenSpans b table count) i noSpan)
+  unfolding tokensInside
   token-inside i l =
       rw (token-at i l)
-      (leb-true (placeOf b table count i + lengthOf b table count i (placeOf b table count i)) (length b)
-      (all-below (λ i. leb (placeOf b table count i + lengthOf b table count i (placeOf b table count i)) (length b)) count (both-right (leb (table + 3 * (count - 1)) (length b)) _ h) i l))
+      (record {
+        fits = leb-true (startOf b table count i + lengthOf b table count i (startOf b table count i)) (length b)
+            (all-below (λ i. leb (startOf b table count i + lengthOf b table count i (startOf b table count i)) (length b)) count (both-right (leb (table + 3 * (count - 1)) (length b)) _ h) i l);
+      })
 
--- a frame that is taken whole
-module _ (b : List ℕ) (y : Bytes b) (e : goodOf b ≡ true) (l : tableOf b ≤ length b) where
-  whole-passes : (h : Header) (r : Reader) → run header (firstOf b) (firstReader (firstOf b)) ≡ given h r → insideOf b (tableOf b) (countOf (h .partitions)) ≡ true → Passes b (wholeOf b h r)
-  unfolding wholeOf
-  whole-passes h r g i =
-      let s = first-bytes b (sizeOf b) l y in
-      let d : Ended Fine (firstOf b) (firstReader (firstOf b)) h r = run-valid header-within s (first-valid (firstOf b) s) g in
-      let c = counts (h .partitions) (d .value .partitions) in
-      let n : ℕ = countOf (h .partitions) in
-      record {
-        width = rounded-side (widthOf b) (tag-width b e) (omega arith);
-        height = rounded-side (heightOf b) (tag-height b e) (omega arith);
-        long = entries-length h;
-        each = entries-each h (d .value);
-        cut = record { some = c .0; few = c .1; first = l; tokens = token-inside b (tableOf b) n i (c .1); reader = d .valid };
-      }
+whole-passes : (b : List ℕ) → Bytes b → (h : Header) (r : Reader) → goodOf b ≡ true → tableOf b ≤ length b → givenHeader b ≡ given h r → tokensInside b (tableOf b) (partitionCount (h .partitions)) ≡ true → Passes b (wholeOf b h r)
+unfolding wholeOf givenHeader
+whole-passes b y h r e l g i =
+    let s : List ℕ = partOf b (firstOf b) in
+    let z : Bytes s = part-bytes b (firstOf b) y in
+    let d : Ended Fine s (firstReader s) h r = run-valid header-within z (first-valid s z) g in
+    let n : ℕ = partitionCount (h .partitions) in
+    let c : Counted n = counted (h .partitions) (d .value .partitions) in
+    record {
+      sides = record { width = rounded-side (widthOf b) (tag-width b e) (omega arith); height = rounded-side (heightOf b) (tag-height b e) (omega arith) };
+      counted = c;
+      each = entries-each h (d .value);
+      long = entries-length h;
+      cut = record {
+        first = record { fits = l };
+        tokens = λ j q. rw (span-at (tileOf b h r) j (omega (arith, c .most))) (token-inside b (tableOf b) n i (c .most) j q);
+        reader = d .valid;
+      };
+      width = rounded-covers (widthOf b);
+      height = rounded-covers (heightOf b);
+    }
 
-  placed-passes : (h : Header) (r : Reader) → run header (firstOf b) (firstReader (firstOf b)) ≡ given h r → placedOf b h r .answer .number ≡ 0 → Passes b (placedOf b h r)
-  unfolding placedOf nothing
-  placed-passes h r g z = go (insideOf b (tableOf b) (countOf (h .partitions))) refl
-    where
-      go : (v : Bool) → insideOf b (tableOf b) (countOf (h .partitions)) ≡ v → Passes b (placedOf b h r)
-      go true i = rw (i, placedOf) (whole-passes h r g i)
-      go false i = absurd (let n : 13 ≡ 0 = rw (i, placedOf) at z in omega arith)
-
-  coded-passes : (x : Given Header) → run header (firstOf b) (firstReader (firstOf b)) ≡ x → codedOf b x .answer .number ≡ 0 → Passes b (codedOf b x)
-  unfolding nothing
-  coded-passes (given h r) g z = placed-passes h r g z
-  coded-passes missing g z = absurd (let n : 14 ≡ 0 = z in omega arith)
-
--- THE LAW: what is taken of any bytes passes
+-- ---- THE LAWS: what is taken of any bytes passes; what is not taken is refused
 pub taken-is-fine : (b : List ℕ) → Bytes b → takenOf b .answer .number ≡ 0 → Passes b (takenOf b)
 unfolding nothing
-taken-is-fine b y z = tag (goodOf b) refl
+taken-is-fine b y z = go (way b) z
   where
-    never-so : {n : ℕ} → nothing (suc n) ≡ takenOf b → ⊥
-    never-so {n} e = let f : suc n ≡ 0 = ap (λ t. t .answer .number) e ∙ z in omega arith
-
-    coded : goodOf b ≡ true → tableOf b ≤ length b → 2 ≤ sizeOf b → Passes b (takenOf b)
-    coded e l k =
-        let f = take-coded b e refl (le-leb (tableOf b) (length b) l) k in
-        rw f at (coded-passes b y e l (run header (firstOf b) (firstReader (firstOf b))) refl (ap (λ t. t .answer .number) f ∙ z))
-
-    inside : goodOf b ≡ true → tableOf b ≤ length b → Passes b (takenOf b)
-    inside e l = ⊎-elim (λ k. absurd (never-so (take-short b e refl (le-leb (tableOf b) (length b) l) k))) (λ k. coded e l k) (lt-or (sizeOf b) 2)
-
-    tag : (v : Bool) → goodOf b ≡ v → Passes b (takenOf b)
-    tag false e = absurd (never-so (take-tag b e))
-    tag true e = ⊎-elim (λ k. absurd (never-so (take-first b e refl (lt-leb (tableOf b) (length b) k)))) (λ k. inside e k) (lt-or (length b) (tableOf b))
-
--- ---- or it is refused
-refusal : (n : ℕ) {t : Taken} → (n ≡ 12) ⊎ (n ≡ 13) ⊎ (n ≡ 14) → nothing n ≡ t → Refused t
-unfolding nothing
-refusal n e f = let g : Refused (nothing n) = record { number = e; zeros = refl } in rw f at g
+    go : {t : Taken} → Way b t → t .answer .number ≡ 0 → Passes b t
+    go (refused n k) e = absurd (⊎-elim (λ p. omega (arith, p, e)) (λ q. ⊎-elim (λ p. omega (arith, p, e)) (λ p. omega (arith, p, e)) q) k)
+    go (whole h r g l f i) e = whole-passes b y h r g l f i
 
 pub taken-or-refused : (b : List ℕ) → (takenOf b .answer .number ≡ 0) ⊎ Refused (takenOf b)
-unfolding nothing wholeOf placedOf
-taken-or-refused b = tag (goodOf b) refl
+unfolding nothing wholeOf
+taken-or-refused b = go (way b)
   where
-    placed : (h : Header) (r : Reader) (v : Bool) → insideOf b (tableOf b) (countOf (h .partitions)) ≡ v → placedOf b h r ≡ takenOf b → (takenOf b .answer .number ≡ 0) ⊎ Refused (takenOf b)
-    placed h r true i f = inl (ap (λ t. t .answer .number) (sym f) ∙ rw (i, placedOf))
-    placed h r false i f = inr (refusal 13 (inr (inl refl)) (rw (i, placedOf) at f))
+    go : {t : Taken} → Way b t → (t .answer .number ≡ 0) ⊎ Refused t
+    go (refused n k) = inr (record { number = k; zeros = refl })
+    go (whole h r g l f i) = inl refl
 
-    coded : (x : Given Header) → codedOf b x ≡ takenOf b → (takenOf b .answer .number ≡ 0) ⊎ Refused (takenOf b)
-    coded (given h r) f = placed h r (insideOf b (tableOf b) (countOf (h .partitions))) refl f
-    coded missing f = inr (refusal 14 (inr (inr refl)) f)
+-- the same of the call that is lent the entries
+pub into-or-kept : (b : List ℕ) (old : List ℤ) → ((takenOf b .answer .number ≡ 0) × (intoOf b old ≡ takenOf b)) ⊎ Kept old (intoOf b old)
+unfolding intoOf nothing
+into-or-kept b old = long (eqb (length old) 1096) refl
+  where
+    taken : eqb (length old) 1096 ≡ true → (v : Bool) → eqb (takenOf b .answer .number) 0 ≡ v → (takenOf b .answer .number ≡ 0) ⊎ Refused (takenOf b) → ((takenOf b .answer .number ≡ 0) × (intoOf b old ≡ takenOf b)) ⊎ Kept old (intoOf b old)
+    taken e true f w = inl (eqb-true _ _ f, rw (e, f, intoOf))
+    taken e false f (inl z) = absurd (never (eq-eqb _ _ z) f)
+    taken e false f (inr r) = inr (rw (e, f, intoOf) (record { number = inr (r .number); zeros = ap (λ (t : Taken). t .answer) (r .zeros); unchanged = refl }))
 
-    inside : goodOf b ≡ true → tableOf b ≤ length b → (takenOf b .answer .number ≡ 0) ⊎ Refused (takenOf b)
-    inside e l = ⊎-elim (λ k. inr (refusal 14 (inr (inr refl)) (take-short b e refl (le-leb (tableOf b) (length b) l) k))) (λ k. coded (run header (firstOf b) (firstReader (firstOf b))) (take-coded b e refl (le-leb (tableOf b) (length b) l) k)) (lt-or (sizeOf b) 2)
+    long : (v : Bool) → eqb (length old) 1096 ≡ v → ((takenOf b .answer .number ≡ 0) × (intoOf b old ≡ takenOf b)) ⊎ Kept old (intoOf b old)
+    long true e = taken e (eqb (takenOf b .answer .number) 0) refl (taken-or-refused b)
+    long false e = inr (rw (e, intoOf) (record { number = inl refl; zeros = refl; unchanged = refl }))
 
-    tag : (v : Bool) → goodOf b ≡ v → (takenOf b .answer .number ≡ 0) ⊎ Refused (takenOf b)
-    tag false e = inr (refusal 12 (inl refl) (take-tag b e))
-    tag true e = ⊎-elim (λ k. inr (refusal 13 (inr (inl refl)) (take-first b e refl (lt-leb (tableOf b) (length b) k)))) (λ k. inside e k) (lt-or (length b) (tableOf b))
+-- taken or not, there are eight spans
+pub tokens-eight : (b : List ℕ) → length (takenOf b .answer .tile .tokens) ≡ 8
+unfolding nothing wholeOf tokenSpans
+tokens-eight b = go (way b)
+  where
+    go : {t : Taken} → Way b t → length (t .answer .tile .tokens) ≡ 8
+    go (refused n k) = refl
+    go (whole h r g l f i) = length-build 8 (λ i. spanOf b (tableOf b) (partitionCount (h .partitions)) i (startOf b (tableOf b) (partitionCount (h .partitions)) i))

@@ -7,16 +7,13 @@ use lib.Dec.{ltb, leb}
 use lib.ListN.{length}
 use Rattle.numbers.specs.Lists.{build}
 use Rattle.numbers.specs.Tables.{allBelow}
-use Rattle.frame.specs.declared.tile.Span.{Span}
+use Rattle.tile.specs.declared.Span.{Span}
+use Rattle.tile.specs.Partitions.{noSpan}
 use Rattle.frame.specs.Tag.{threeAt}
 
 -- log2_nbr_of_dct_partitions: 1, 2, 4 or 8
-abbrev pub countOf : ℕ → ℕ
-countOf partitions = 2 ^ partitions
-
--- no partition: what stands past the count
-abbrev pub noSpan : Span
-noSpan = record { start = 0; len = 0 }
+abbrev pub partitionCount : ℕ → ℕ
+partitionCount partitions = 2 ^ partitions
 
 module _ (b : List ℕ) (table count : ℕ) where
   -- partition_size of partition i; the last has none in the table
@@ -24,23 +21,23 @@ module _ (b : List ℕ) (table count : ℕ) where
   sizedOf i = elim (ltb (i + 1) count) [ true ↦ threeAt b (table + 3 * i) | false ↦ 0 ]
 
   -- where partition i starts: the first after the table, each other where the one before it ends
-  unfoldable pub placeOf : ℕ → ℕ
-  placeOf zero = table + 3 * (count - 1)
-  placeOf (suc i) = placeOf i + sizedOf i
+  unfoldable pub startOf : ℕ → ℕ
+  startOf zero = table + 3 * (count - 1)
+  startOf (suc i) = startOf i + sizedOf i
 
   -- how long partition i is that starts at `at`: the last goes up to the end
   unfoldable pub lengthOf : ℕ → ℕ → ℕ
   lengthOf i at = elim (ltb (i + 1) count) [ true ↦ threeAt b (table + 3 * i) | false ↦ length b - at ]
 
-  -- partition i, were its start at `at`
+  -- partition i, were its start at `at`; past the count there is none
   unfoldable pub spanOf : ℕ → ℕ → Span
   spanOf i at = elim (ltb i count) [ true ↦ record { start = at; len = lengthOf i at } | false ↦ noSpan ]
 
-  unfoldable pub tokensOf : List Span
-  tokensOf = build 8 (λ i. spanOf i (placeOf i))
+  unfoldable pub tokenSpans : List Span
+  tokenSpans = build 8 (λ i. spanOf i (startOf i))
 
   -- what the second 13 refuses: the sizes past the end, or a token partition
-  unfoldable pub insideOf : Bool
-  insideOf =
+  unfoldable pub tokensInside : Bool
+  tokensInside =
       leb (table + 3 * (count - 1)) (length b)
-      && allBelow count (λ i. leb (placeOf i + lengthOf i (placeOf i)) (length b))
+      && allBelow count (λ i. leb (startOf i + lengthOf i (startOf i)) (length b))

@@ -12,8 +12,9 @@ use borrow.Author.Tests.{lt-ltb, le-ltb, le-leb, lt-leb, leb-true}
 use Rattle.numbers.specs.Tests.{lt-or, never, not-so, both-left, both-right, both-true, both-false}
 use Rattle.numbers.specs.Tables.{allBelow, all-below}
 use Rattle.frame.specs.Tag.{threeAt}
-use Rattle.frame.specs.declared.tile.Span.{Span}
-use Rattle.frame.specs.Places.{noSpan, sizedOf, placeOf, lengthOf, spanOf, insideOf}
+use Rattle.tile.specs.declared.Span.{Span}
+use Rattle.tile.specs.Partitions.{noSpan}
+use Rattle.frame.specs.Places.{sizedOf, startOf, lengthOf, spanOf, tokensInside}
 
 module _ (b : List ℕ) (table count : ℕ) where
   sized-none : (i : ℕ) → count ≤ i + 1 → sizedOf b table count i ≡ 0
@@ -49,47 +50,47 @@ module _ (b : List ℕ) (table count : ℕ) where
     pub span-last : i < count → count ≤ i + 1 → {n : ℕ} → n ≡ length b - at → record { start = at; len = n } ≡ spanOf b table count i at
     span-last h g e = rw (e, ← length-last i at g) (sym (span-is h))
 
-  place-next : (i : ℕ) → placeOf b table count (suc i) ≡ placeOf b table count i + sizedOf b table count i
-  unfolding placeOf
+  place-next : (i : ℕ) → startOf b table count (suc i) ≡ startOf b table count i + sizedOf b table count i
+  unfolding startOf
   place-next i = refl
 
   -- no place is before an earlier one
-  place-up : (i k : ℕ) → placeOf b table count i ≤ placeOf b table count (i + k)
+  place-up : (i k : ℕ) → startOf b table count i ≤ startOf b table count (i + k)
   place-up i zero = rw (add-zero i) (omega arith)
   place-up i (suc k) = rw (add-suc i k) (omega (arith, place-up i k, place-next (i + k)))
 
   -- from the last on they stay
-  place-stays : (i k : ℕ) → count ≤ i + 1 → placeOf b table count (i + k) ≡ placeOf b table count i
-  place-stays i zero h = ap (placeOf b table count) (add-zero i)
-  place-stays i (suc k) h = ap (placeOf b table count) (add-suc i k) ∙ omega (arith, place-stays i k h, place-next (i + k), sized-none (i + k) (omega arith))
+  place-stays : (i k : ℕ) → count ≤ i + 1 → startOf b table count (i + k) ≡ startOf b table count i
+  place-stays i zero h = ap (startOf b table count) (add-zero i)
+  place-stays i (suc k) h = ap (startOf b table count) (add-suc i k) ∙ omega (arith, place-stays i k h, place-next (i + k), sized-none (i + k) (omega arith))
 
   module _ (h : count ≤ 8) where
-    to-eight : (i : ℕ) → i ≤ 8 → placeOf b table count i ≤ placeOf b table count 8
+    to-eight : (i : ℕ) → i ≤ 8 → startOf b table count i ≤ startOf b table count 8
     to-eight i l =
         let e : i + (8 - i) ≡ 8 = omega arith in
         rw e at (place-up i (8 - i))
 
-    module _ (g : placeOf b table count 8 ≤ length b) where
-      one-inside : (i : ℕ) → i < count → leb (placeOf b table count i + lengthOf b table count i (placeOf b table count i)) (length b) ≡ true
-      one-inside i l = le-leb (placeOf b table count i + lengthOf b table count i (placeOf b table count i)) (length b) (⊎-elim
-          (λ k. rw (length-sized i (placeOf b table count i) k) (omega (arith, place-next i, to-eight (suc i) (omega arith))))
-          (λ k. rw (length-last i (placeOf b table count i) k) (omega (arith, to-eight i (omega arith))))
+    module _ (g : startOf b table count 8 ≤ length b) where
+      one-inside : (i : ℕ) → i < count → leb (startOf b table count i + lengthOf b table count i (startOf b table count i)) (length b) ≡ true
+      one-inside i l = le-leb (startOf b table count i + lengthOf b table count i (startOf b table count i)) (length b) (⊎-elim
+          (λ k. rw (length-sized i (startOf b table count i) k) (omega (arith, place-next i, to-eight (suc i) (omega arith))))
+          (λ k. rw (length-last i (startOf b table count i) k) (omega (arith, to-eight i (omega arith))))
           (lt-or (i + 1) count))
 
-      below : (n : ℕ) → n ≤ count → allBelow n (λ i. leb (placeOf b table count i + lengthOf b table count i (placeOf b table count i)) (length b)) ≡ true
+      below : (n : ℕ) → n ≤ count → allBelow n (λ i. leb (startOf b table count i + lengthOf b table count i (startOf b table count i)) (length b)) ≡ true
       below zero l = refl
       below (suc n) l = both-true (one-inside n (omega arith)) (below n (omega arith))
 
-      pub inside-all : insideOf b table count ≡ true
-      unfolding insideOf placeOf
+      pub inside-all : tokensInside b table count ≡ true
+      unfolding tokensInside startOf
       inside-all = both-true (le-leb (table + 3 * (count - 1)) (length b) (omega (arith, to-eight 0 (omega arith)))) (below count (omega arith))
 
-    pub inside-not : 1 ≤ count → length b < placeOf b table count 8 → insideOf b table count ≡ false
-    unfolding insideOf
-    inside-not k g = sym (not-so (insideOf b table count) (λ e.
+    pub inside-not : 1 ≤ count → length b < startOf b table count 8 → tokensInside b table count ≡ false
+    unfolding tokensInside
+    inside-not k g = sym (not-so (tokensInside b table count) (λ e.
         let last : ℕ = count - 1 in
-        let t = all-below (λ i. leb (placeOf b table count i + lengthOf b table count i (placeOf b table count i)) (length b)) count (both-right (leb (table + 3 * (count - 1)) (length b)) _ e) last (omega arith) in
-        let u = leb-true (placeOf b table count last + lengthOf b table count last (placeOf b table count last)) (length b) t in
+        let t = all-below (λ i. leb (startOf b table count i + lengthOf b table count i (startOf b table count i)) (length b)) count (both-right (leb (table + 3 * (count - 1)) (length b)) _ e) last (omega arith) in
+        let u = leb-true (startOf b table count last + lengthOf b table count last (startOf b table count last)) (length b) t in
         let v : last + (8 - last) ≡ 8 = omega arith in
-        let w : placeOf b table count 8 ≡ placeOf b table count last = rw v at (place-stays last (8 - last) (omega arith)) in
+        let w : startOf b table count 8 ≡ startOf b table count last = rw v at (place-stays last (8 - last) (omega arith)) in
         omega (arith, u, w)))

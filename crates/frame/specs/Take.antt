@@ -4,18 +4,20 @@ use mathlib.Core.Bool.{Bool, true, false, not}
 use mathlib.Core.List.{List}
 use lib.Dec.{ltb, leb, eqb}
 use lib.IntN.{ℤ, pos}
-use lib.ListN.{length, take, drop, replicate}
+use lib.ListN.{length, replicate}
 use Rattle.reader.specs.declared.boolean.Reader.{Reader}
 use Rattle.reader.specs.Boolean.{Given, given, missing, firstReader, noReader}
 use Rattle.reader.specs.Reading.{run}
 use Rattle.frame.specs.declared.fields.Header.{Header}
-use Rattle.frame.specs.declared.tile.Tile.{Tile}
+use Rattle.header.specs.Entries.{entryCount}
+use Rattle.tile.specs.declared.Span.{Span}
+use Rattle.tile.specs.declared.Tile.{Tile}
+use Rattle.tile.specs.Partitions.{noSpan, partOf}
 use Rattle.frame.specs.declared.take.Answer.{Answer}
 use Rattle.frame.specs.declared.take.Taken.{Taken}
 use Rattle.frame.specs.Header.{header}
 use Rattle.frame.specs.Tag.{sizeOf, widthOf, heightOf, goodOf, roundedOf}
-use Rattle.frame.specs.Places.{countOf, noSpan, tokensOf, insideOf}
-use Rattle.frame.specs.Names.{entryCount}
+use Rattle.frame.specs.Places.{partitionCount, tokenSpans, tokensInside}
 use Rattle.frame.specs.Entries.{entries}
 
 -- ---- a refusal: its number, and all other numbers zero
@@ -29,17 +31,21 @@ unfoldable pub nothing : ℕ → Taken
 nothing number = record { answer = refusedOf number; header = replicate entryCount (pos 0) }
 
 -- ---- what is taken of a frame whose coded header is h, the reader after it r
--- where the token partitions' sizes stand: after the ten bytes and the first partition
+-- the first partition: after ten bytes, as long as the tag says
+abbrev pub firstOf : List ℕ → Span
+firstOf b = record { start = 10; len = sizeOf b }
+
+-- where it ends stand the sizes of the token partitions
 abbrev pub tableOf : List ℕ → ℕ
 tableOf b = 10 + sizeOf b
 
 abbrev pub tileOf : List ℕ → Header → Reader → Tile
 tileOf b h r =
     record {
-      first = record { start = 10; len = sizeOf b };
-      tokens = tokensOf b (tableOf b) (countOf (h .partitions));
+      first = firstOf b;
+      tokens = tokenSpans b (tableOf b) (partitionCount (h .partitions));
       reader = r;
-      count = countOf (h .partitions);
+      count = partitionCount (h .partitions);
       width = roundedOf (widthOf b);
       height = roundedOf (heightOf b);
     }
@@ -60,16 +66,16 @@ wholeOf b h r = record { answer = answerOf b h r; header = entries h }
 -- ---- the refusals in order
 -- 13: the sizes of the token partitions, or one of them, past the end
 unfoldable pub placedOf : List ℕ → Header → Reader → Taken
-placedOf b h r = elim (insideOf b (tableOf b) (countOf (h .partitions))) [ true ↦ wholeOf b h r | false ↦ nothing 13 ]
+placedOf b h r = elim (tokensInside b (tableOf b) (partitionCount (h .partitions))) [ true ↦ wholeOf b h r | false ↦ nothing 13 ]
 
 -- 14: the coded header ran out
 abbrev pub codedOf : List ℕ → Given Header → Taken
 codedOf b (given h r) = placedOf b h r
 codedOf b missing = nothing 14
 
--- the first partition: after ten bytes, as long as the tag says
-abbrev pub firstOf : List ℕ → List ℕ
-firstOf b = take (sizeOf b) (drop 10 b)
+-- what the coded header is, read from the first partition
+unfoldable pub givenHeader : List ℕ → Given Header
+givenHeader b = run header (partOf b (firstOf b)) (firstReader (partOf b (firstOf b)))
 
 -- 12: the tag, start code or sizes; 13: the first partition past the end; 14: it has under two bytes
 unfoldable pub takenOf : List ℕ → Taken
@@ -78,7 +84,7 @@ takenOf b =
       | false ↦ nothing 12
       | true ↦ elim (leb (tableOf b) (length b)) [
         | false ↦ nothing 13
-        | true ↦ elim (ltb (sizeOf b) 2) [ true ↦ nothing 14 | false ↦ codedOf b (run header (firstOf b) (firstReader (firstOf b))) ]
+        | true ↦ elim (ltb (sizeOf b) 2) [ true ↦ nothing 14 | false ↦ codedOf b (givenHeader b) ]
       ]
     ]
 

@@ -14,18 +14,19 @@ use Rattle.reader.specs.BooleanLaws.{Bytes, first-valid, valid-test, valid-fact
 use Rattle.reader.specs.Reading.{run}
 use Rattle.reader.specs.ReadingLaws.{run-valid}
 use Rattle.frame.specs.declared.fields.Header.{Header}
-use Rattle.frame.specs.declared.tile.Span.{Span}
+use Rattle.tile.specs.declared.Span.{Span}
+use Rattle.tile.specs.Partitions.{partOf}
 use Rattle.frame.specs.declared.take.Answer.{Answer}
 use Rattle.frame.specs.declared.take.Taken.{Taken}
 use Rattle.frame.specs.Header.{header}
 use Rattle.frame.specs.Tag.{sizeOf, widthOf, heightOf, roundedOf, goodOf}
-use Rattle.frame.specs.Places.{countOf, placeOf, tokensOf, insideOf}
+use Rattle.frame.specs.Places.{partitionCount, startOf, tokenSpans, tokensInside}
 use Rattle.frame.specs.Fine.{Fine}
 use Rattle.frame.specs.HeaderLaws.{header-within}
 use Rattle.frame.specs.Entries.{entries}
 use Rattle.reader.specs.Reads.{Reads}
 use Rattle.frame.specs.PlacesLaws.{inside-all, inside-not}
-use Rattle.frame.specs.Take.{refusedOf, nothing, tableOf, firstOf, wholeOf, placedOf, codedOf, takenOf, intoOf}
+use Rattle.frame.specs.Take.{refusedOf, nothing, firstOf, tableOf, wholeOf, placedOf, codedOf, givenHeader, takenOf, intoOf}
 
 module _ (b : List ℕ) where
   pub take-tag : goodOf b ≡ false → nothing 12 ≡ takenOf b
@@ -46,26 +47,29 @@ module _ (b : List ℕ) where
       unfolding takenOf
       take-short l = rw (e, inside, lt-ltb (sizeOf b) 2 (rw z at l), takenOf)
 
-      pub take-coded : 2 ≤ size → codedOf b (run header (firstOf b) (firstReader (firstOf b))) ≡ takenOf b
-      unfolding takenOf
-      take-coded l = rw (e, inside, le-ltb (sizeOf b) 2 (rw z at l), takenOf)
+      pub take-coded : 2 ≤ size → {s : List ℕ} → s ≡ partOf b (record { start = 10; len = size }) → codedOf b (run header s (firstReader s)) ≡ takenOf b
+      unfolding takenOf givenHeader
+      take-coded l {s} f =
+          let g : s ≡ partOf b (firstOf b) = rw z at f in
+          let k : codedOf b (givenHeader b) ≡ takenOf b = rw (e, inside, le-ltb (sizeOf b) 2 (rw z at l), takenOf) in
+          ap (λ (s : List ℕ). codedOf b (run header s (firstReader s))) g ∙ k
 
   -- the token partitions
-  module _ (h : Header) (r : Reader) (l : 1 ≤ countOf (h .partitions)) (m : countOf (h .partitions) ≤ 8) where
-    pub placed-not : length b < placeOf b (tableOf b) (countOf (h .partitions)) 8 → nothing 13 ≡ placedOf b h r
+  module _ (h : Header) (r : Reader) (l : 1 ≤ partitionCount (h .partitions)) (m : partitionCount (h .partitions) ≤ 8) where
+    pub placed-not : length b < startOf b (tableOf b) (partitionCount (h .partitions)) 8 → nothing 13 ≡ placedOf b h r
     unfolding placedOf
-    placed-not g = rw (inside-not b (tableOf b) (countOf (h .partitions)) m l g, placedOf)
+    placed-not g = rw (inside-not b (tableOf b) (partitionCount (h .partitions)) m l g, placedOf)
 
-    pub placed-all : placeOf b (tableOf b) (countOf (h .partitions)) 8 ≤ length b → wholeOf b h r ≡ placedOf b h r
+    pub placed-all : startOf b (tableOf b) (partitionCount (h .partitions)) 8 ≤ length b → wholeOf b h r ≡ placedOf b h r
     unfolding placedOf
-    placed-all g = rw (inside-all b (tableOf b) (countOf (h .partitions)) m g, placedOf)
+    placed-all g = rw (inside-all b (tableOf b) (partitionCount (h .partitions)) m g, placedOf)
 
   -- the same of what the code has: the size, the count and the last start
-  module _ (h : Header) (r : Reader) {size n last : ℕ} (e : size ≡ sizeOf b) (f : n ≡ countOf (h .partitions)) (l : 1 ≤ n) (m : n ≤ 8) (g : last ≡ placeOf b (10 + size) n 8) where
+  module _ (h : Header) (r : Reader) {size n last : ℕ} (e : size ≡ sizeOf b) (f : n ≡ partitionCount (h .partitions)) (l : 1 ≤ n) (m : n ≤ 8) (g : last ≡ startOf b (10 + size) n 8) where
     pub refused-places : length b < last → nothing 13 ≡ placedOf b h r
     refused-places k = placed-not h r (rw f at l) (rw f at m) (rw (g, e, f) at k)
 
-    pub taken-whole : {w t a d : ℕ} {tokens : List Span} {es : List ℤ} → a ≡ widthOf b → d ≡ heightOf b → w ≡ roundedOf a → t ≡ roundedOf d → tokens ≡ tokensOf b (10 + size) n → es ≡ entries h → last ≤ length b
+    pub taken-whole : {w t a d : ℕ} {tokens : List Span} {es : List ℤ} → a ≡ widthOf b → d ≡ heightOf b → w ≡ roundedOf a → t ≡ roundedOf d → tokens ≡ tokenSpans b (10 + size) n → es ≡ entries h → last ≤ length b
         → record {
           answer = record {
             number = 0;

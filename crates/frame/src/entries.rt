@@ -6,7 +6,7 @@ use crate::fields::Quantizers;
 use crate::fields::Segments;
 use crate::fields::Signed;
 use crate::fields::Three;
-use crate::names;
+use header::entries;
 ghost use mathlib.Core.Path.{_≡_};
 ghost use Prim.Native.Nat.{_<_};
 ghost use Rattle.frame.specs.Fine.{Fine};
@@ -58,21 +58,21 @@ fn with_segments(g: Segments, l: [Signed; 38]) -> [Signed; 38]
 {
     let features = g.features;
     let mut out = l;
-    out[names::SEGMENTS_ON] = Signed {
+    out[entries::SEGMENTS_ON] = Signed {
         sign: 0,
         size: g.on,
     };
-    out[names::MAP_PRESENT] = Signed {
+    out[entries::MAP_ON] = Signed {
         sign: 0,
         size: g.map,
     };
-    out[names::ABSOLUTE] = Signed {
+    out[entries::SEGMENTS_ABSOLUTE] = Signed {
         sign: 0,
         size: features.absolute,
     };
-    let quantized = four_from(out, names::SEGMENT_QUANTIZERS, features.quantizers);
-    let leveled = four_from(quantized, names::SEGMENT_LEVELS, features.levels);
-    three_from(leveled, names::MAP_PROBABILITIES, g.probs)
+    let quantized = four_from(out, entries::SEGMENT_INDEX, features.quantizers);
+    let leveled = four_from(quantized, entries::SEGMENT_LEVEL, features.levels);
+    three_from(leveled, entries::MAP_PROBABILITY, g.probs)
 }
 
 fn with_filter(f: Filter, l: [Signed; 38]) -> [Signed; 38]
@@ -82,20 +82,20 @@ fn with_filter(f: Filter, l: [Signed; 38]) -> [Signed; 38]
     let intra = deltas.intra;
     let small = deltas.small;
     let mut out = l;
-    out[names::LEVEL] = Signed {
+    out[entries::FRAME_LEVEL] = Signed {
         sign: 0,
         size: f.level,
     };
-    out[names::SHARPNESS] = Signed {
+    out[entries::SHARPNESS] = Signed {
         sign: 0,
         size: f.sharpness,
     };
-    out[names::DELTAS_ON] = Signed {
+    out[entries::DELTAS_ON] = Signed {
         sign: 0,
         size: f.on,
     };
-    out[names::INTRA_DELTA] = intra;
-    out[names::SMALL_DELTA] = small;
+    out[entries::INTRA_DELTA] = intra;
+    out[entries::SMALL_DELTA] = small;
     out
 }
 
@@ -108,15 +108,15 @@ fn with_quantizers(q: Quantizers, l: [Signed; 38]) -> [Signed; 38]
     let uvdc = q.uvdc;
     let uvac = q.uvac;
     let mut out = l;
-    out[names::QUANTIZER] = Signed {
+    out[entries::BASE_INDEX] = Signed {
         sign: 0,
         size: q.base,
     };
-    out[names::Y_DC] = ydc;
-    out[names::Y2_DC] = y2dc;
-    out[names::Y2_AC] = y2ac;
-    out[names::UV_DC] = uvdc;
-    out[names::UV_AC] = uvac;
+    out[entries::YDC_DELTA] = ydc;
+    out[entries::Y2DC_DELTA] = y2dc;
+    out[entries::Y2AC_DELTA] = y2ac;
+    out[entries::UVDC_DELTA] = uvdc;
+    out[entries::UVAC_DELTA] = uvac;
     out
 }
 
@@ -136,16 +136,16 @@ fn number_at(first: [Signed; 38], probs: &[u32; 1056], skip: u32, chance: u32, i
     requires { ⌜ i < 1096 ⌝ }
     ensures { λ r. ⌜ r ≡ numberAt first (now (probs .entry)) skip chance i ⌝ }
 {
-    if i < names::COEFFICIENTS {
+    if i < entries::COEFFICIENT_PROBABILITY {
         return first[i];
     }
-    if i < names::SKIP_PRESENT {
+    if i < entries::SKIPS_ON {
         return Signed {
             sign: 0,
-            size: probs[i - names::COEFFICIENTS],
+            size: probs[i - entries::COEFFICIENT_PROBABILITY],
         };
     }
-    if i < names::SKIP_PROBABILITY {
+    if i < entries::SKIP_PROBABILITY {
         return Signed {
             sign: 0,
             size: skip,
@@ -165,7 +165,7 @@ pub(crate) fn entries(h: Header) -> [i32; 1096]
     let probs = h.probs;
     let mut out = [0i32; 1096];
     let mut i = 0;
-    while i < names::ENTRIES {
+    while i < entries::ENTRY_COUNT {
         out[i] = value(number_at(first, &probs, h.skip, h.chance, i));
         i = i + 1;
     }

@@ -1,9 +1,9 @@
 // The same call with the 1096 entries lent by the caller: they keep what they held unless all is taken.
-use crate::names;
 use crate::take::Answer;
 use crate::take::Taken;
 use crate::take::refused;
 use crate::take::take;
+use header::entries;
 ghost use mathlib.Core.Path.{_≡_};
 ghost use lib.ListN.{length};
 ghost use Rattle.frame.specs.declared.take.Taken.{Taken};
@@ -14,7 +14,7 @@ fn put(header: &mut [i32], entries: [i32; 1096])
     ensures { λ _. ⌜ now (header .exit) ≡ entries ⌝ }
 {
     let mut i = 0;
-    while i < names::ENTRIES {
+    while i < entries::ENTRY_COUNT {
         header[i] = entries[i];
         i = i + 1;
     }
@@ -25,7 +25,7 @@ pub fn take_into(bytes: &[u8], header: &mut [i32]) -> Answer
     ensures { λ r. ⌜ _≡_ {A = Taken} (record { answer = r; header = now (header .exit) })
         (intoOf (now (bytes .entry)) (now (header .entry))) ⌝ }
 {
-    if header.len() != names::ENTRIES {
+    if header.len() != entries::ENTRY_COUNT {
         return refused(9);
     }
     let t = take(bytes);

@@ -1,10 +1,10 @@
 // The token partitions (RFC 6386, section 9.5): after the first partition stand the sizes of all but the last, three bytes each; then
 // the partitions one after the other, the last up to the end.
 use crate::tag::three;
-use crate::tile::Span;
+use tile::Span;
 ghost use mathlib.Core.Path.{_≡_};
 ghost use Prim.Native.Nat.{_<_, _≤_, _-_};
-ghost use Rattle.frame.specs.Places.{countOf, sizedOf, placeOf, spanOf, tokensOf};
+ghost use Rattle.frame.specs.Places.{partitionCount, sizedOf, startOf, spanOf, tokenSpans};
 
 // `last` is where the last one starts.
 pub(crate) struct Found {
@@ -15,7 +15,7 @@ pub(crate) struct Found {
 // 1, 2, 4 or 8.
 pub(crate) fn count(partitions: u32) -> usize
     requires { ⌜ partitions < 4 ⌝ }
-    ensures { λ r. ⌜ (r ≡ countOf partitions) × (1 ≤ r) × (r ≤ 8) ⌝ }
+    ensures { λ r. ⌜ (r ≡ partitionCount partitions) × (1 ≤ r) × (r ≤ 8) ⌝ }
 {
     if partitions == 0 {
         return 1;
@@ -72,8 +72,8 @@ fn cut(b: &[u8], table: usize, count: usize, i: usize, at: usize) -> Span
 
 pub(crate) fn places(b: &[u8], table: usize, count: usize) -> Found
     requires { ⌜ (table < 1000000) × (1 ≤ count) × (count ≤ 8) ⌝ }
-    ensures { λ r. ⌜ (r .tokens ≡ tokensOf (now (b .entry)) table count)
-        × (r .last ≡ placeOf (now (b .entry)) table count 8) ⌝ }
+    ensures { λ r. ⌜ (r .tokens ≡ tokenSpans (now (b .entry)) table count)
+        × (r .last ≡ startOf (now (b .entry)) table count 8) ⌝ }
 {
     let mut tokens = [Span { start: 0, len: 0 }; 8];
     let mut at = table + 3 * (count - 1);

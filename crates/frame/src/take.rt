@@ -10,19 +10,18 @@ use crate::tag::height;
 use crate::tag::rounded;
 use crate::tag::size;
 use crate::tag::width;
-use crate::tile::Span;
-use crate::tile::Tile;
 use reader::boolean::Reader;
 use reader::boolean::open;
 use reader::boolean::valid;
+use tile::Span;
+use tile::Tile;
+use tile::partitions::part;
 ghost use mathlib.Core.Path.{_≡_};
-ghost use Prim.Native.Nat.{_≤_};
-ghost use lib.ListN.{length};
 ghost use Rattle.reader.specs.Boolean.{firstReader};
 ghost use Rattle.reader.specs.Reading.{run};
 ghost use Rattle.frame.specs.Header.{header};
 ghost use Rattle.frame.specs.Fine.{Fine};
-ghost use Rattle.frame.specs.Take.{refusedOf, nothing, tableOf, firstOf, answerOf, placedOf, codedOf, takenOf};
+ghost use Rattle.frame.specs.Take.{refusedOf, nothing, placedOf, codedOf, takenOf};
 
 pub struct Size {
     pub width: usize,
@@ -72,14 +71,6 @@ fn nothing(number: u32) -> Taken
         answer: refused(number),
         header: [0; 1096],
     }
-}
-
-// The first partition.
-fn first(b: &[u8], end: usize) -> &[u8]
-    requires { ⌜ (end ≡ tableOf (now b)) × (end ≤ length (now b)) ⌝ }
-    ensures { λ r. ⌜ now r ≡ firstOf (now (b .entry)) ⌝ }
-{
-    &b[10..end]
 }
 
 // After the coded header: the token partitions.
@@ -139,9 +130,8 @@ pub fn take(bytes: &[u8]) -> Taken
     ensures { λ r. ⌜ r ≡ takenOf (now (bytes .entry)) ⌝ }
 {
     let size = size(bytes);
-    let end = 10 + size;
     let key = good(bytes);
-    let inside = end <= bytes.len();
+    let inside = 10 + size <= bytes.len();
     if !key {
         return nothing(12);
     }
@@ -151,5 +141,9 @@ pub fn take(bytes: &[u8]) -> Taken
     if size < 2 {
         return nothing(14);
     }
-    read(bytes, first(bytes, end))
+    let first = Span {
+        start: 10,
+        len: size,
+    };
+    read(bytes, part(bytes, first))
 }

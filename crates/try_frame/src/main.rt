@@ -2,9 +2,9 @@
 // the partitions, the reader and the 1096 entries, which stay 77 where the frame is refused.
 use frame::into::take_into;
 use frame::take::Answer;
-use frame::tile::Span;
-use frame::tile::Tile;
 use header::entries::probability;
+use tile::Span;
+use tile::Tile;
 ghost use mathlib.Core.Path.{_≡_};
 ghost use lib.ListN.{length};
 

@@ -1,6 +1,5 @@
 use mathlib.Core.Path.{sym, _∙_}
-use native.Mathlib.Omega.{arith}
-use borrow.Author.Tests.{not-true, not-false, leb-true}
+use borrow.Author.Tests.{not-true, not-false}
 use Rattle.frame.specs.TakeLaws.{take-tag, take-first, take-short, take-coded}
 use borrow.Author.Needs.{needs}
 use Rattle.frame.proofs.take.take.Statement.{statement}
@@ -9,11 +8,11 @@ use Rattle.frame.proofs.take.take.Tie as tie
 size-requires : tie.Need-size-requires
 size-requires c κs = search needs
 
-add-end : tie.Need-add-end
-add-end c = search needs
-
 good-requires : tie.Need-good-requires
 good-requires c κs = search needs
+
+add-inside : tie.Need-add-inside
+add-inside c = search needs
 
 nothing-requires : tie.Need-nothing-requires
 nothing-requires c κs = search needs
@@ -33,28 +32,28 @@ nothing-requires-3 c κs = search needs
 returns-3 : tie.Need-returns-3
 returns-3 c = c .nothing3 .ensures ∙ take-short _ (sym (c .before .before .before .before .good2 .ensures) ∙ not-false _ (c .before .before .before .if1 .left)) (c .before .before .before .before .before .size .ensures .0) (not-false _ (c .before .before .if2 .left)) (c .before .if3 .taken)
 
-first-requires : tie.Need-first-requires
-first-requires c κs = (omega (arith, c .before .before .before .before .size .ensures .0), leb-true _ _ (not-false _ (c .before .if2 .left)))
+part-requires : tie.Need-part-requires
+part-requires c κs = search needs
 
 read-requires : tie.Need-read-requires
 read-requires c κs = search needs
 
 returns-4 : tie.Need-returns-4
-returns-4 c = rw (c .before .first .ensures) at (c .read .ensures) ∙ take-coded _ (sym (c .before .before .before .before .before .good2 .ensures) ∙ not-false _ (c .before .before .before .before .if1 .left)) (c .before .before .before .before .before .before .size .ensures .0) (not-false _ (c .before .before .before .if2 .left)) (c .before .before .if3 .left)
+returns-4 c = c .read .ensures ∙ take-coded _ (sym (c .before .before .before .before .before .good2 .ensures) ∙ not-false _ (c .before .before .before .before .if1 .left)) (c .before .before .before .before .before .before .size .ensures .0) (not-false _ (c .before .before .before .if2 .left)) (c .before .before .if3 .left) (c .before .part .ensures)
 
 pub take-spec : {M : Type 1} → statement M
 take-spec =
     tie.close
     (tie.spec
     size-requires
-    add-end
     good-requires
+    add-inside
     nothing-requires
     returns
     nothing-requires-2
     returns-2
     nothing-requires-3
     returns-3
-    first-requires
+    part-requires
     read-requires
     returns-4)
