@@ -24,7 +24,8 @@ enum hookbarley_number {
     HOOKBARLEY_PARTITION = 5, /* a partition is outside the bytes; the starting reader is out of range */
     HOOKBARLEY_NO_MODES = 6,  /* the first partition ran out in macroblock *finished */
     HOOKBARLEY_NO_TOKENS = 7, /* a token partition ran out in macroblock *finished */
-    HOOKBARLEY_ARGUMENT = 9,  /* not eight starts, not eight lengths; of hookbarley_filter and _explain: not eight samples */
+    HOOKBARLEY_ARGUMENT = 9,  /* not eight starts, not eight lengths; of hookbarley_filter and _explain: not eight samples; of
+                               * hookbarley_frame: not 28 numbers, not 1096 entries */
     HOOKBARLEY_LIMIT = 11     /* of hookbarley_deblock: a strength record's limit is above 189 */
 };
 
@@ -131,6 +132,37 @@ uint32_t hookbarley_explain(const uint8_t *samples, size_t samples_len, uint8_t 
                             uint8_t *after, size_t after_len, int32_t *steps, size_t steps_len,
                             uint32_t *rule, uint32_t *pair);
 
+/* What hookbarley_frame returns besides HOOKBARLEY_WHOLE and HOOKBARLEY_ARGUMENT. */
+enum hookbarley_frame_number {
+    HOOKBARLEY_NO_KEY_FRAME = 12, /* under 10 bytes, no key frame, another start code, a version above 3, a size of zero */
+    HOOKBARLEY_PAST_END = 13,     /* the first partition, the sizes of the token partitions or one of these is past the end */
+    HOOKBARLEY_NO_HEADER = 14     /* the coded header ran out, or the first partition has under two bytes */
+};
+
+/* A key frame as hookbarley_decode takes it: 28 numbers. */
+struct hookbarley_tile {
+    size_t width, height;           /* of the planes, in samples: the true sizes rounded up to 16 */
+    size_t true_width, true_height; /* what of them is the picture */
+    size_t simple;                  /* 1: the simple loop filter, else 0 */
+    size_t count;                   /* token partitions: 1, 2, 4 or 8 */
+    size_t first_start, first_length;
+    size_t token_starts[8], token_lengths[8]; /* from `count` on 0 */
+    size_t at, range, shifts, window;         /* the boolean reader, behind the coded header */
+};
+
+enum { HOOKBARLEY_ENTRIES = 1096, HOOKBARLEY_TILE_NUMBERS = sizeof(struct hookbarley_tile) / sizeof(size_t) };
+
+/* Takes a key frame's own header (RFC 6386, sections 9 and 19.2): frame tag, start code and sizes, then the coded header, into the 1096
+ * entries that hookbarley_decode reads (those it does not read are 0) and the numbers of a hookbarley_tile. The frame is all of the bytes:
+ * the last token partition goes up to their end. Checked in this order: 9 not 28 numbers, not 1096 entries; 12; 13 the first partition;
+ * 14; 13 the token partitions. After a refusal the numbers are zero (where there are 28; else as they were) and the entries as
+ * they were. What is taken is never refused by hookbarley_decode with memory of the lengths that it asks, nor is the header out of range.
+ *
+ * The filter kind is the header's own filter_type, whatever the version is: of a key frame the version (0 to 3) decides nothing else. The two
+ * scaling bits of each size, the colour space and the clamping type are not looked at.
+ */
+uint32_t hookbarley_frame(const uint8_t *bytes, size_t length, int32_t *header, size_t header_len, size_t *tile, size_t tile_len);
+
 /* What the WebP calls return besides HOOKBARLEY_WHOLE. */
 enum hookbarley_webp_number {
     HOOKBARLEY_ROOM = 16,  /* of the writer: the room is too small */
@@ -152,6 +184,62 @@ uint32_t hookbarley_webp_find(const uint8_t *bytes, size_t length, size_t *start
  * what lies behind it in `out` is as it was; after a refusal *written is 0 and `out` is as it was.
  */
 uint32_t hookbarley_webp_wrap(const uint8_t *frame, size_t frame_length, uint8_t *out, size_t room, size_t *written);
+
+/* ---- From a frame to its planes. The calls above take every number and every length by itself; these hand them over.
+ *
+ *     int32_t header[HOOKBARLEY_ENTRIES];
+ *     struct hookbarley_tile tile;
+ *     struct hookbarley_memory memory;
+ *     size_t finished;
+ *     uint32_t number = hookbarley_take(frame, length, header, &tile);
+ *     if (number) return number;
+ *     hookbarley_lend(&tile, malloc(hookbarley_room(&tile)), &memory);
+ *     number = hookbarley_picture(frame, length, header, &tile, &memory, &finished);
+ *     if (header[18]) hookbarley_deblock_picture(&tile, &memory);
+ *     draw(memory.y, memory.u, memory.v, &tile);
+ */
+struct hookbarley_memory {
+    uint8_t *y, *u, *v, *columns, *modes, *strengths;
+};
+
+static inline size_t hookbarley_blocks(const struct hookbarley_tile *t) { return t->width / 16 * (t->height / 16); }
+
+/* The bytes that a tile is lent in all: Y, U, V, columns, modes, strengths, one after the other. */
+static inline size_t hookbarley_room(const struct hookbarley_tile *t) {
+    return t->width * t->height / 2 * 3 + 13 * (t->width / 16) + (20 + 4) * hookbarley_blocks(t);
+}
+
+/* Cuts that many bytes into the six. */
+static inline void hookbarley_lend(const struct hookbarley_tile *t, uint8_t *room, struct hookbarley_memory *m) {
+    m->y = room;
+    m->u = m->y + t->width * t->height;
+    m->v = m->u + t->width * t->height / 4;
+    m->columns = m->v + t->width * t->height / 4;
+    m->modes = m->columns + 13 * (t->width / 16);
+    m->strengths = m->modes + 20 * hookbarley_blocks(t);
+}
+
+/* hookbarley_frame. */
+static inline uint32_t hookbarley_take(const uint8_t *frame, size_t length, int32_t *header, struct hookbarley_tile *t) {
+    return hookbarley_frame(frame, length, header, HOOKBARLEY_ENTRIES, &t->width, HOOKBARLEY_TILE_NUMBERS);
+}
+
+/* hookbarley_decode of what was taken. */
+static inline uint32_t hookbarley_picture(const uint8_t *frame, size_t length, const int32_t *header, const struct hookbarley_tile *t,
+                                          const struct hookbarley_memory *m, size_t *finished) {
+    size_t chroma = t->width / 2 * (t->height / 2), blocks = hookbarley_blocks(t);
+    return hookbarley_decode(frame, length, t->first_start, t->first_length, t->token_starts, 8, t->token_lengths, 8,
+                             t->at, (uint32_t)t->range, (uint32_t)t->shifts, (uint32_t)t->window, t->count, header, HOOKBARLEY_ENTRIES,
+                             t->width, t->height, m->y, t->width * t->height, m->u, chroma, m->v, chroma,
+                             m->columns, 13 * (t->width / 16), m->modes, 20 * blocks, m->strengths, 4 * blocks, finished);
+}
+
+/* hookbarley_deblock of what was decoded. */
+static inline uint32_t hookbarley_deblock_picture(const struct hookbarley_tile *t, const struct hookbarley_memory *m) {
+    size_t chroma = t->width / 2 * (t->height / 2);
+    return hookbarley_deblock(m->y, t->width * t->height, m->u, chroma, m->v, chroma, m->strengths, 4 * hookbarley_blocks(t),
+                              t->width, t->height, (uint32_t)t->simple);
+}
 
 #ifdef __cplusplus
 }

@@ -1,8 +1,8 @@
 #!/usr/bin/env bash
 # The tests from outside, through the archive: tests/outside/run.sh [ARCHIVE]. Builds the archive where it is not there
 # (`rt staticlib hookbarley`), installs what is missing (Debian packages, as root), runs on x86-64 and, by emulation, on Arm:
-# the C example on the case files, damaged inputs between guard pages, faults that these must find, the WebP calls, explanations, the Rust
-# wrapper's tests; and a look at the machine code of the transform's products.
+# the C example on the case files, damaged inputs between guard pages, faults that these must find, the WebP calls, explanations, the call on
+# a frame's header, the Rust wrapper's tests; and a look at the machine code of the transform's products.
 # Settings: N (damaged inputs, 20000), SEED (of these; else drawn from the clock and printed).
 set -u
 cd "$(dirname "$0")/../.." || exit 1
@@ -194,17 +194,43 @@ else
     bad explain "$line"
 fi
 
-# 6. The Rust wrapper.
+# 6. The call on a key frame's header between guard pages, on frames of encoders and damaged ones; the faults that the test must find.
+small="tests/outside/webp/even.webp tests/outside/webp/odd.webp"
+if build frame tests/outside/frame.c && $X86RUN $out/frame "$N" "$SEED" $small bench/*.webp >$out/frame.log 2>&1; then
+    sed 's/^/           /' $out/frame.log
+    say frame "$(tail -n 1 $out/frame.log)"
+    least frame "calls" "$(counted $out/frame.log '^ok: \([0-9]*\) calls')" 100000
+else
+    tail -n 5 $out/frame.log
+    bad frame "N $N, seed $SEED"
+fi
+found=0
+for fault in 0 1 2 3 4 5 6 7 8 9 10 11 12 13 14; do
+    build frame-mutant -DFAULT=$fault -Wl,--wrap=hookbarley_frame tests/outside/frame.c tests/outside/frame_mutants.c || { bad frame "fault $fault does not build"; continue; }
+    $X86RUN $out/frame-mutant 2000 1 $small >$out/frame-mutant-$fault.log 2>&1
+    status=$?
+    if [ $fault -eq 0 ]; then
+        [ $status -eq 0 ] || bad frame "the call without a fault fails"
+    elif [ $status -eq 1 ] && grep -q '^FAILED at' $out/frame-mutant-$fault.log; then
+        found=$((found + 1))
+    else
+        bad frame "fault $fault was not found (status $status)"
+    fi
+done
+least frame "faults found" $found 14
+say frame "$found of 14 faults found"
+
+# 7. The Rust wrapper.
 if tests/outside/rust.sh "$ARCHIVE" >$out/rust.log 2>&1; then
     passed=$(grep '^test result' $out/rust.log | awk '{s += $4} END {print s + 0}')
-    least rust "tests" "$passed" 16
+    least rust "tests" "$passed" 19
     say rust "$passed tests passed"
 else
     tail -n 20 $out/rust.log
     bad rust "see $out/rust.log"
 fi
 
-# 7. The machine code of the transform's products.
+# 8. The machine code of the transform's products.
 if line=$(tests/outside/products.sh "$ARCHIVE" 2>$out/products.log); then
     say products "$line"
 else

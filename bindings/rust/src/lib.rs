@@ -26,6 +26,7 @@ extern "C" {
         strengths: *const u8, strengths_len: usize,
         width: usize, height: usize, simple: u32,
     ) -> u32;
+    fn hookbarley_frame(bytes: *const u8, length: usize, header: *mut i32, header_len: usize, tile: *mut usize, tile_len: usize) -> u32;
     fn hookbarley_filter(samples: *mut u8, samples_len: usize, simple: u8, edge: u8, limit: u8, inner: u8, threshold: u8) -> u32;
     fn hookbarley_explain(
         samples: *const u8, samples_len: usize,
@@ -69,6 +70,73 @@ pub struct Tile<'a> {
     pub header: &'a [i32],
     pub width: usize,
     pub height: usize,
+}
+
+/// A key frame's own header, as `Frame::take` takes it: what a picture is decoded from besides the frame's bytes.
+#[derive(Clone, Debug, PartialEq, Eq)]
+pub struct Frame {
+    /// The sides of the planes: the true sizes rounded up to 16.
+    pub width: usize,
+    pub height: usize,
+    /// What of the planes is the picture.
+    pub true_width: usize,
+    pub true_height: usize,
+    /// The simple loop filter.
+    pub simple: bool,
+    pub count: usize,
+    pub first_start: usize,
+    pub first_length: usize,
+    pub token_starts: [usize; 8],
+    pub token_lengths: [usize; 8],
+    /// The reader behind the coded header.
+    pub reader: Reader,
+    /// 1096 entries.
+    pub header: Vec<i32>,
+}
+
+impl Frame {
+    /// Takes the header of a key frame, which is all of `bytes` (RFC 6386, sections 9 and 19.2), or gives the number of the refusal: 12 no key
+    /// frame, 13 a partition past the end, 14 the header ran out. `decode` never refuses what was taken.
+    pub fn take(bytes: &[u8]) -> Result<Frame, u32> {
+        let mut header = vec![0i32; 1096];
+        let mut n = [0usize; 28];
+        // Safe: a slice, and two vectors of numbers that nothing else refers to.
+        match unsafe { hookbarley_frame(bytes.as_ptr(), bytes.len(), header.as_mut_ptr(), header.len(), n.as_mut_ptr(), n.len()) } {
+            0 => {}
+            refused => return Err(refused),
+        }
+        let eight = |from: usize| std::array::from_fn(|i| n[from + i]);
+        Ok(Frame {
+            width: n[0],
+            height: n[1],
+            true_width: n[2],
+            true_height: n[3],
+            simple: n[4] != 0,
+            count: n[5],
+            first_start: n[6],
+            first_length: n[7],
+            token_starts: eight(8),
+            token_lengths: eight(16),
+            reader: Reader { at: n[24], range: n[25] as u32, shifts: n[26] as u32, window: n[27] as u32 },
+            header,
+        })
+    }
+
+    /// The same as `decode` takes it, with the frame's bytes.
+    pub fn tile<'a>(&'a self, bytes: &'a [u8]) -> Tile<'a> {
+        Tile {
+            bytes,
+            first_start: self.first_start,
+            first_length: self.first_length,
+            token_starts: self.token_starts,
+            token_lengths: self.token_lengths,
+            reader: self.reader,
+            count: self.count,
+            header: &self.header,
+            width: self.width,
+            height: self.height,
+        }
+    }
 }
 
 /// The memory lent to a call. `Memory::new` makes it of the lengths that a size asks.

@@ -1,7 +1,8 @@
-// What a program in C or Rust links: the picture call, the edge kernel and, in files of their own, deblocking, explanations and the WebP
-// calls, on numbers and slices. A slice passes as a pointer and a length; include/hookbarley.h says the same in C.
+// What a program in C or Rust links: the picture call, the edge kernel and, in files of their own, deblocking, explanations, the key frame's
+// header and the WebP calls, on numbers and slices. A slice passes as a pointer and a length; include/hookbarley.h says the same in C.
 pub mod deblocking;
 pub mod explaining;
+pub mod key_frame;
 pub mod webp_find;
 pub mod webp_wrap;
 

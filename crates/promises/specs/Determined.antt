@@ -55,7 +55,9 @@ use Rattle.hookbarley.specs.Calls.{calledOf, deblockCalledOf, filteredOf}
 use Rattle.hookbarley.specs.ExplainCalls.{explainCalledOf}
 use Rattle.picture.specs.declared.rows.Decoded.{Decoded}
 use Rattle.picture.specs.Picture.{numberOf, pictureOf, valuesOf}
+use Rattle.hookbarley.specs.FrameCalls.{frameCalledOf}
 use Rattle.hookbarley.specs.WebpCalls.{webpFoundOf, webpWrappedOf}
+use Rattle.frame.specs.Take.{takenOf, intoOf}
 use Rattle.webp.specs.Webp.{findOf, wrapOf}
 
 -- one answer meets the promise, and no other
@@ -310,6 +312,13 @@ deblock-deblock d strengths w h simple = determined (deblockOf d strengths w h s
 pub casefile-run : (file : List ℕ) → One (λ x. x ≡ ranOf file)
 casefile-run file = determined (ranOf file)
 
+-- ---- frame
+pub frame-take : (bytes : List ℕ) → One (λ x. x ≡ takenOf bytes)
+frame-take bytes = determined (takenOf bytes)
+
+pub frame-take-into : (bytes : List ℕ) (header : List ℤ) → One (λ x. x ≡ intoOf bytes header)
+frame-take-into bytes header = determined (intoOf bytes header)
+
 -- ---- webp
 pub webp-find : (bytes : List ℕ) → One (λ x. x ≡ findOf bytes)
 webp-find bytes = determined (findOf bytes)
@@ -331,6 +340,9 @@ pub hookbarley-explain : (samples : List ℕ) (simple edge limit inner threshold
     → One (λ x. x ≡ explainCalledOf samples simple edge limit inner threshold after steps)
 hookbarley-explain samples simple edge limit inner threshold after steps =
     determined (explainCalledOf samples simple edge limit inner threshold after steps)
+
+pub hookbarley-frame : (bytes : List ℕ) (header : List ℤ) (tile : List ℕ) → One (λ x. x ≡ frameCalledOf bytes header tile)
+hookbarley-frame bytes header tile = determined (frameCalledOf bytes header tile)
 
 pub hookbarley-webp-find : (bytes : List ℕ) → One (λ x. x ≡ webpFoundOf bytes)
 hookbarley-webp-find bytes = determined (webpFoundOf bytes)

@@ -14,6 +14,7 @@ pub mod IsolationLaws
 pub mod Valid
 pub mod Witness
 pub mod Determined
+pub mod Frame
 pub mod Webp
 pub mod Deblocked
 pub mod DeblockedLaws
