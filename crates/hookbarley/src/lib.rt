@@ -1,5 +1,6 @@
-// What a program in C or Rust links: the picture call, the edge kernel and, in files of their own, deblocking, explanations, the key frame's
-// header and the WebP calls, on numbers and slices. A slice passes as a pointer and a length; include/hookbarley.h says the same in C.
+// What a program in C or Rust links: the picture call, the edge kernel and, in files of their own, deblocking, explanations, the key
+// frame's header and the WebP calls, on numbers and slices. A slice passes as a pointer and a length; include/hookbarley.h says the same
+// in C.
 pub mod deblocking;
 pub mod explaining;
 pub mod key_frame;

@@ -9,12 +9,12 @@ use Rattle.lent.specs.Memory.{Memory, sizesOf}
 use Rattle.lent.specs.Sizes.{Sized}
 use Rattle.picture.specs.Checks.{Call, callOf}
 use Rattle.picture.specs.ChecksLaws.{refusal-none}
-use Rattle.picture.specs.Picture.{Ended, numberOf, cutOut, startOf}
+use Rattle.picture.specs.Picture.{Picture, State, Ended, numberOf}
 use Rattle.frame.specs.Take.{takenOf}
 use Rattle.frame.specs.PassesLaws.{taken-is-fine}
 use Rattle.promises.specs.Refusals.{Fine, number}
 use Rattle.promises.specs.Reached.{Ending, whole, modes-out, tokens-out}
-use Rattle.promises.specs.Stops.{macroblocks, stops-at}
+use Rattle.promises.specs.Stops.{stops-at}
 
 -- what the picture call is given of a frame
 abbrev pub frameCall : List ℕ → Call
@@ -31,7 +31,7 @@ module _ (b : List ℕ) (y : Bytes b) (e : takenOf b .answer .number ≡ 0) (m :
   pub taken-answers : (number (frameCall b) m ≡ 0) ⊎ (number (frameCall b) m ≡ 6) ⊎ (number (frameCall b) m ≡ 7)
   taken-answers = go (stops-at (frameCall b) m taken-passes .one)
     where
-      go : {o : Ended} → Ending (cutOut (frameCall b)) (startOf (frameCall b) m) (macroblocks (frameCall b)) o → (numberOf (o .answer) ≡ 0) ⊎ (numberOf (o .answer) ≡ 6) ⊎ (numberOf (o .answer) ≡ 7)
+      go : {P : Picture} {S : State} {k : ℕ} {o : Ended} → Ending P S k o → (numberOf (o .answer) ≡ 0) ⊎ (numberOf (o .answer) ≡ 6) ⊎ (numberOf (o .answer) ≡ 7)
       go (whole r) = inl refl
       go (modes-out l r g) = inr (inl refl)
       go (tokens-out l r g h) = inr (inr refl)
