@@ -10,6 +10,9 @@
 #include <stddef.h>
 #include <stdint.h>
 
+/* The version; CHANGELOG.md says what changed. */
+#define HOOKBARLEY_VERSION "0.2.0"
+
 #ifdef __cplusplus
 extern "C" {
 #endif

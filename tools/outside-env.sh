@@ -2,7 +2,7 @@
 #   X86CC     a C compiler for x86-64
 #   X86RUN    what runs an x86-64 program here: nothing on x86-64, qemu elsewhere
 #   ARCHIVE   libhookbarley.a: $ARCHIVE if given, else target/staticlib/libhookbarley.a, built where it is not there or not new
-# and need COMMAND PACKAGE.., which installs Debian packages where the command is missing and
+# and program OUT, which builds the program, and need COMMAND PACKAGE.., which installs Debian packages where the command is missing and
 # shows what apt says where that fails.
 
 packages() { DEBIAN_FRONTEND=noninteractive apt-get install -y -q --no-install-recommends "$@"; }
@@ -42,3 +42,12 @@ if [ -z "${ARCHIVE:-}" ]; then
 fi
 [ -f "$ARCHIVE" ] || { echo "no archive: $ARCHIVE" >&2; exit 1; }
 ARCHIVE=$(realpath "$ARCHIVE")
+
+# program OUT: the program of cli/ as OUT, where it is not there or older than what it is made of. Other arguments go to the compiler.
+program() {
+    local out=$1
+    shift
+    [ -f "$out" ] && [ -z "$(find cli include "$ARCHIVE" -newer "$out" -print -quit)" ] && return
+    mkdir -p "$(dirname "$out")"
+    $X86CC -std=c99 -D_POSIX_C_SOURCE=200809L -O2 -Wall -Wextra -pedantic "$@" -Iinclude -Icli -o "$out" cli/*.c "$ARCHIVE"
+}

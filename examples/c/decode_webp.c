@@ -1,5 +1,7 @@
-/* From a WebP file (simple lossy) to its luma plane: decode_webp FILE writes the deblocked picture, cut to its true size, as a PGM picture on
- * standard output, and the answer's number, the macroblocks finished and the true sizes on standard error. */
+/* From a WebP file (simple lossy) to its luma plane: decode_webp FILE writes the deblocked picture, cut to its true size, as a PGM picture
+ * on standard output, and the answer's number, the macroblocks finished and the true sizes on standard error. With the library installed
+ * (tools/install.sh):
+ *   cc $(pkg-config --cflags hookbarley) decode_webp.c $(pkg-config --libs hookbarley) -o decode_webp */
 #include "hookbarley.h"
 #include <stdio.h>
 #include <stdlib.h>

@@ -82,13 +82,14 @@ fi
 # The call as the README shows it compiles.
 {
     echo '#include "hookbarley.h"'
-    echo '#include <stdlib.h>'
-    echo 'void draw(uint8_t *, uint8_t *, uint8_t *, size_t), report(uint32_t);'
-    echo 'void tile(const uint8_t *bytes, size_t length, size_t first_start, size_t first_length, const size_t *token_starts,'
-    echo '          const size_t *token_lengths, size_t count, const int32_t *header, size_t w, size_t h) {'
+    echo 'uint8_t *room_of(size_t);'
+    echo 'void draw(const struct hookbarley_tile *, const uint8_t *, const uint8_t *, const uint8_t *);'
+    echo 'uint32_t show(const uint8_t *frame, size_t length);'
+    echo 'uint32_t show(const uint8_t *frame, size_t length) {'
     awk '/^```c$/ {on = 1; next} /^```$/ {if (on) exit} on' README.md
-    echo '}'
+    echo 'return number; }'
 } >$out/readme.c
+grep -q hookbarley_picture $out/readme.c || bad readme "it shows no call"
 $X86CC -std=gnu11 -Wall -Wextra -Werror -Iinclude -c -o $out/readme.o $out/readme.c || bad readme "its call does not compile"
 
 # 2. Damaged inputs between guard pages.
@@ -168,6 +169,7 @@ say webp "$found of 14 faults found"
 # 5. Explanations between guard pages; the faults that the test must find.
 if build explain tests/outside/explain.c && $X86RUN $out/explain "$N" "$SEED" >$out/explain.log 2>&1; then
     sed 's/^/           /' $out/explain.log
+    least explain "edges" "$(counted $out/explain.log '^\([0-9]*\) edges told')" "$N"
     say explain "$(tail -n 1 $out/explain.log)"
 else
     tail -n 5 $out/explain.log
@@ -186,9 +188,11 @@ for fault in 0 1 2 3 4 5 6 7 8 9 10; do
         bad explain "fault $fault was not found (status $status)"
     fi
 done
+least explain "faults found" $found 10
 say explain "$found of 10 faults found"
 # whole tiles replayed by what the program's `explain` uses: the last value told of every sample is deblocking's
 if build explain-tiles tests/outside/explain_tiles.c cli/explain.c && line=$($X86RUN $out/explain-tiles $cases/real/*.case bench/*.case 2>&1); then
+    least explain "tiles" "${line%% *}" 43
     say explain "${line%%;*}"
 else
     bad explain "$line"

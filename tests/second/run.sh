@@ -1,7 +1,7 @@
 #!/usr/bin/env bash
 # The archive beside a second decoder: tests/second/run.sh [COUNT [SEED]]. Makes COUNT pictures (100), encodes each with cwebp and, four
-# key frames long, with vpxenc, with options drawn by SEED (else from the clock, printed), decodes the files with the archive (frame.c)
-# and with ffmpeg, before and after the loop filter, and compares every sample. Installs what is missing (Debian's ffmpeg, webp, vpx-tools).
+# key frames long, with vpxenc, with options drawn by SEED (else from the clock, printed), decodes the files with the program (cli/) and
+# with ffmpeg, before and after the loop filter, and compares every sample. Installs what is missing (Debian's ffmpeg, webp, vpx-tools).
 set -u
 cd "$(dirname "$0")/../.." || exit 1
 count=${1:-100}
@@ -14,7 +14,8 @@ need ffmpeg ffmpeg || exit 1
 need cwebp webp || exit 1
 need vpxenc vpx-tools || exit 1
 need python3 python3 || exit 1
-$X86CC -std=gnu11 -O2 -Wall -Wextra -Iinclude -o $out/frame tests/second/frame.c "$ARCHIVE" || exit 1
+program target/cli/hookbarley || exit 1
+hb() { $X86RUN target/cli/hookbarley "$@"; }
 echo "archive $ARCHIVE, $count pictures, seed $seed"
 python3 tests/second/images.py "$seed" "$count" $out >$out/list || exit 1
 RANDOM=$((seed % 32768))
@@ -23,18 +24,18 @@ pick() { printf -v "$1" %d $(($2 + RANDOM % ($3 - $2 + 1))); }
 files=0
 frames=0
 failed=0
-same() { # same FILE KIND FFMPEG-OPTIONS..: both decoders, every sample
+same() { # same FILE OURS FFMPEG-OPTIONS..: both decoders, every sample; OURS is --unfiltered or nothing
     local file=$1 kind=$2
     shift 2
-    $X86RUN $out/frame "$file" $kind >$out/ours.yuv 2>$out/ours.log || { echo "$file: $(tail -n 1 $out/ours.log)"; return 1; }
+    hb decode $kind "$file" $out/ours.yuv >$out/ours.log 2>&1 || { cat $out/ours.log; return 1; }
     ffmpeg -nostdin -v error -y "$@" -i "$file" -fps_mode passthrough -f rawvideo -pix_fmt yuv420p $out/theirs.yuv || { echo "$file: ffmpeg fails"; return 1; }
     cmp -s $out/ours.yuv $out/theirs.yuv || { echo "$file: samples differ $kind"; return 1; }
 }
 compare() {
-    same "$1" "" -skip_loop_filter all && same "$1" filtered || { failed=1; return; }
+    same "$1" --unfiltered -skip_loop_filter all && same "$1" "" || { failed=1; return; }
     files=$((files + 1))
-    frames=$((frames + $(grep -c . $out/ours.log)))
-    cat $out/ours.log >>$out/all.log
+    frames=$((frames + $(grep -c whole $out/ours.log)))
+    hb info "$1" >>$out/all.log
 }
 while read -r name w h; do
     pick quality 0 100; pick method 0 6; pick segments 1 4; pick limit 0 100; pick sns 0 100; pick strength 0 100; pick sharp 0 7; pick passes 1 3; pick weak 0 1
@@ -48,7 +49,8 @@ while read -r name w h; do
         --sharpness=$vsharp --cpu-used=$cpu --static-thresh=$static -o $out/$name.ivf $out/$name.i420 </dev/null 2>$out/vpxenc.log || { cat $out/vpxenc.log; failed=1; continue; }
     compare $out/$name.ivf
 done <$out/list
-echo "partitions: $(grep -o 'partitions [0-9]' $out/all.log | sort | uniq -c | awk '{printf "%s of %s, ", $1, $3}' | sed 's/, $//'); with segments: $(grep -c 'segments 1' $out/all.log); filtered: $(grep -c 'level [1-9]' $out/all.log), simple $(grep -c 'level [1-9].*simple 1' $out/all.log)"
+kinds() { grep -c "$1" $out/all.log; }
+echo "key frames of 1, 2, 4, 8 partitions: $(kinds ' 1 of tokens'), $(kinds ' 2 of tokens'), $(kinds ' 4 of tokens'), $(kinds ' 8 of tokens'); with segments: $(kinds 'segments    q'); filtered: $(kinds 'filter .*level [1-9]'), simple $(kinds 'filter      simple, level [1-9]')"
 # cwebp gives a file of one frame for each picture, vpxenc one of four
 [ "$count" -ge 1 ] && [ $files -ge $((2 * count)) ] && [ $frames -ge $((5 * count)) ] || { echo "only $files files and $frames key frames of $count pictures compared"; failed=1; }
 if [ $failed -eq 0 ]; then echo "second: $files files, $frames key frames, every sample the same before and after the loop filter, seed $seed"; else echo "second: FAILED, seed $seed"; fi

@@ -325,3 +325,8 @@ pub fn webp_wrap(frame: &[u8], out: &mut [u8]) -> Result<usize, u32> {
         n => Err(n),
     }
 }
+
+/// The README's call compiles (`cargo test`).
+#[cfg(doctest)]
+#[doc = include_str!("../../../README.md")]
+struct Readme;

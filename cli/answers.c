@@ -1,0 +1,94 @@
+#include "answers.h"
+#include <errno.h>
+#include <string.h>
+#include <unistd.h>
+
+static const char *const words[ANSWERS] = {
+    [0] = "every macroblock is finished",
+    [1] = "width or height is not a multiple of 16 in 16 to 16384",
+    [2] = "the count of token partitions is not 1 to 8",
+    [3] = "a header entry is outside -255 to 255",
+    [4] = "a lent length is not what the size asks",
+    [5] = "a partition lies outside the bytes, or the starting reader is out of range",
+    [6] = "the first partition, which holds the modes, ran out",
+    [7] = "a token partition ran out",
+    [8] = "a coefficient is outside 16 bits",
+    [9] = "an argument is out of range",
+    [10] = "the case file is malformed",
+    [11] = "a strength record's limit is above 189",
+    [12] = "not a VP8 key frame (under 10 bytes, an inter frame, a wrong start code, a version above 3 or a size of 0)",
+    [13] = "a partition lies past the end of the frame",
+    [14] = "the frame's header ran out",
+    [15] = "a count would pass 2^63 - 1",
+    [16] = "the room to write into is too small",
+    [17] = "not a WebP file ('RIFF' or 'WEBP' is missing)",
+    [18] = "a size in the WebP file is at odds with its bytes",
+    [19] = "the WebP file's first chunk is not 'VP8 ' (lossless, or the extended layout)",
+    [ANSWER_IVF] = "the IVF file ends in a frame's head, holds no frame or is not of VP8",
+};
+
+const char *words_of(uint32_t number) {
+    return number < ANSWERS ? words[number] : "an answer that no call gives";
+}
+
+const char *outcome_of(uint32_t number) {
+    return number == 0 ? "whole" : has_picture(number) ? "cut" : "refused";
+}
+
+void print_answer(FILE *out, uint32_t number, const struct picture *p) {
+    if (number != ANSWER_IVF) fprintf(out, "%u, ", (unsigned)number);
+    fprintf(out, "%s", words_of(number));
+    if (!p || !number || !has_picture(number)) return;
+    size_t columns = p->tile.width / 16;
+    fprintf(out, " in macroblock %zu (column %zu, row %zu)", p->finished, p->finished % columns, p->finished / columns);
+    fprintf(out, ", %zu of %zu finished", p->finished, p->blocks);
+}
+
+int take_answer(struct tally *tally, const char *path, const struct file *file, uint32_t number, const struct picture *p) {
+    if (number < ANSWERS) tally->by[number]++;
+    if (has_picture(number)) tally->pictures++;
+    if (!number) return STATUS_WHOLE;
+    fprintf(stderr, "%s%s: ", isatty(STDERR_FILENO) ? "\033[K" : "", path);
+    if (p && file->kind == KIND_IVF) fprintf(stderr, "frame %zu: ", file->frames - 1);
+    fprintf(stderr, "%s: ", outcome_of(number));
+    print_answer(stderr, number, p);
+    fprintf(stderr, "%s\n", has_picture(number) ? "; the rest is grey" : "");
+    return STATUS_REFUSED;
+}
+
+int take_end(struct tally *tally, const char *path, const struct file *file, uint32_t number) {
+    if (!number && file->frames) return STATUS_WHOLE;
+    return take_answer(tally, path, file, number ? number : ANSWER_IVF, NULL);
+}
+
+void print_tally(const struct tally *tally) {
+    printf("%zu files, %zu pictures\n", tally->files, tally->pictures);
+    for (uint32_t n = 0; n < ANSWERS; n++) {
+        if (!tally->by[n]) continue;
+        printf("%8zu  %s: ", tally->by[n], outcome_of(n));
+        print_answer(stdout, n, NULL);
+        printf("\n");
+    }
+}
+
+void progress(int which, int count, const char *path) {
+    if (!isatty(STDERR_FILENO)) return;
+    if (which < count)
+        fprintf(stderr, "\033[K%d of %d: %.60s\r", which + 1, count, path);
+    else
+        fprintf(stderr, "\033[K");
+}
+
+int usage(const char *why, const char *what) {
+    fprintf(stderr, "hookbarley: %s%s; hookbarley --help says how\n", why, what);
+    return STATUS_USAGE;
+}
+
+int cannot_write(const char *path) {
+    fprintf(stderr, "hookbarley: %s: %s\n", path, strerror(errno));
+    return STATUS_USAGE;
+}
+
+int worse(int status, int other) {
+    return status > other ? status : other;
+}

@@ -1,0 +1,20 @@
+/* What the program is asked for. Each command returns the exit status. */
+#ifndef CLI_COMMANDS_H
+#define CLI_COMMANDS_H
+
+#include "picture.h"
+#include "write.h"
+
+struct options {
+    enum filter filter;
+    enum form to; /* FORM_NONE where not given */
+    char **names; /* the arguments that are not options */
+    int count;
+};
+
+int decode(const struct options *options);
+int info(const struct options *options);
+int wrap(const struct options *options);
+int explain(const struct options *options);
+
+#endif

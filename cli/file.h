@@ -1,0 +1,38 @@
+/* A file read whole, and the frames in it. */
+#ifndef CLI_FILE_H
+#define CLI_FILE_H
+
+#include <stddef.h>
+#include <stdint.h>
+
+enum kind { KIND_FRAME, KIND_WEBP, KIND_IVF };
+
+struct file {
+    uint8_t *bytes;
+    size_t length;
+    enum kind kind; /* by its first four bytes: RIFF, DKIF, or else a bare VP8 frame */
+    size_t at;      /* where the next frame is looked for */
+    size_t frames;  /* those found so far */
+};
+
+struct frame {
+    const uint8_t *bytes;
+    size_t length;
+};
+
+/* Reads a file, or says on standard error why not and returns 0. */
+int file_open(const char *path, struct file *file);
+
+/* The next frame: 1; none left: 0; a file that is at odds with its kind: 0, with the answer's number in *number, which else is 0. The last
+ * frame of an IVF file that ends too early has the bytes that are there. */
+int file_next(struct file *file, struct frame *frame, uint32_t *number);
+
+void file_close(struct file *file);
+
+/* "WebP file", "IVF file" or "VP8 frame" */
+const char *kind_name(enum kind kind);
+
+/* Memory, or the end of the program with status 2. */
+void *memory(size_t length);
+
+#endif

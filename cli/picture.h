@@ -1,0 +1,33 @@
+/* From a frame to its planes, by the library's calls. */
+#ifndef CLI_PICTURE_H
+#define CLI_PICTURE_H
+
+#include "file.h"
+#include "hookbarley.h"
+
+/* Which loop filter: as the frame says, none, or one of the two kinds all the same. */
+enum filter { FILTER_CODED, FILTER_NONE, FILTER_SIMPLE, FILTER_NORMAL };
+
+struct picture {
+    uint32_t number;                    /* the answer; where it is 0, 6 or 7 all below stands */
+    int32_t header[HOOKBARLEY_ENTRIES]; /* the entries that include/hookbarley.h lists */
+    struct hookbarley_tile tile;        /* its `simple` is the kind of filter that is asked for */
+    struct hookbarley_memory memory;
+    uint8_t *room;           /* what the memory is cut from */
+    size_t blocks, finished; /* macroblocks, and those finished */
+    int level;               /* the frame's filter level; where it is 0 nothing is filtered (docs/DIFFERENCES.md) */
+    const char *filtered;    /* "unfiltered", "simple filter" or "normal filter" */
+};
+
+/* Whether an answer leaves a picture: 0, 6 and 7. */
+int has_picture(uint32_t number);
+
+/* The frame's header alone: entries and tile, or the number of the refusal. */
+uint32_t picture_header(struct picture *picture, struct frame frame);
+
+/* Decodes a frame and deblocks it. */
+void picture_decode(struct picture *picture, struct frame frame, enum filter filter);
+
+void picture_free(struct picture *picture);
+
+#endif

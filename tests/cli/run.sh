@@ -1,0 +1,147 @@
+#!/usr/bin/env bash
+# The program and its installation, from outside: tests/cli/run.sh [ARCHIVE]. Runs each command with good, cut, refused and wrong
+# arguments and looks at exit status, what is said and what is written; installs into a folder and builds the C example through
+# pkg-config. The gate runs it.
+set -u
+cd "$(dirname "$0")/../.." || exit 1
+ARCHIVE=${1:-${ARCHIVE:-}}
+. tools/outside-env.sh
+need pkg-config pkgconf || exit 1
+out=target/cli-test
+rm -rf $out target/cli
+mkdir -p $out
+program target/cli/hookbarley -Werror || exit 1
+kept=tests/second/kept
+tried=0
+failed=0
+bad() { echo "cli: FAILED: $1"; failed=1; }
+hb() { # hb STATUS ARGUMENTS..: runs the program; what it says goes to $out/said and $out/err
+    local want=$1 got
+    shift
+    $X86RUN target/cli/hookbarley "$@" >$out/said 2>$out/err
+    got=$?
+    tried=$((tried + 1))
+    what="hookbarley $*"
+    [ $got -eq "$want" ] || bad "$what: status $got and not $want: $(head -n 1 $out/err)"
+}
+said() { grep -qF -- "$1" $out/said || bad "$what: does not say '$1'"; }
+warned() { grep -qF -- "$1" $out/err || bad "$what: does not say '$1' on standard error"; }
+quiet() { [ ! -s $out/err ] || bad "$what: says on standard error: $(head -n 1 $out/err)"; }
+md5() { [ "$(md5sum <$out/"$1" | cut -d' ' -f1)" = "$2" ] || bad "$what: $1 is not the picture that it should be"; }
+same() { cmp -s "$1" "$2" || bad "$what: $1 and $2 differ"; }
+none() { [ ! -e $out/"$1" ] || bad "$what: $1 was written"; }
+
+# Usage: status 2.
+hb 0 --help && said 'hookbarley decode' && said 'hookbarley info' && said 'hookbarley wrap' && said 'Exit status' && quiet
+hb 0 --version && said "hookbarley $(sed -n 's/^#define HOOKBARLEY_VERSION "\(.*\)"$/\1/p' include/hookbarley.h)"
+hb 2 && warned 'no command'
+hb 2 paint && warned 'what is paint'
+hb 2 decode bench/tile-q90.webp && warned 'an IN and an OUT'
+hb 2 decode --fast bench/tile-q90.webp $out/a.ppm && warned 'what is --fast'
+hb 2 decode bench/tile-q90.webp $out/a.png && warned '.yuv, .pgm or .ppm'
+hb 2 decode $out/absent.webp $out/a.ppm && warned 'No such file'
+hb 2 decode bench/tile-q90.webp $out/absent/a.ppm && warned 'No such file'
+hb 2 decode bench/tile-q90.webp /dev/full --to yuv && warned 'No space'
+hb 2 info && warned 'info takes an IN'
+hb 2 wrap bench/tile-q90.webp && warned 'wrap takes'
+none a.ppm
+
+# The three forms. The md5 of the .yuv is of what ffmpeg 5.1.9 gave, that of the .ppm of `dwebp -nofancy -ppm` (1.2.4).
+hb 0 decode bench/tile-q90.webp $out/a.yuv && md5 a.yuv 3b66ffdc9cc18e21bfe8f556a77df122 && said '256 x 256, whole, normal filter' && quiet
+hb 0 decode --unfiltered bench/tile-q90.webp $out/u.yuv && md5 u.yuv 58ff2dd3bdddfede31b9249dae58c48b && said unfiltered
+hb 0 decode bench/tile-q90.webp $out/a.ppm && md5 a.ppm 545488b137f7e681cbccbcff6c38a6c5
+hb 0 decode bench/tile-q90.webp $out/a.pgm
+{ printf 'P5\n256 256\n255\n' && head -c 65536 $out/a.yuv; } >$out/luma.pgm
+same $out/a.pgm $out/luma.pgm
+hb 0 decode --normal bench/tile-q90.webp $out/n.yuv && same $out/n.yuv $out/a.yuv
+hb 0 decode --simple bench/tile-q90.webp $out/s.yuv && said 'simple filter'
+cmp -s $out/s.yuv $out/a.yuv && bad "$what: the same as the normal filter"
+[ "$(tail -c 32768 $out/s.yuv | md5sum)" = "$(tail -c 32768 $out/u.yuv | md5sum)" ] || bad "$what: the simple filter moved U or V"
+hb 0 decode --simple $kept/fine.webp $out/l.yuv && said unfiltered && md5 l.yuv "$(awk '$1 == "fine.webp" {print $3}' $kept/expected.txt)"
+hb 0 decode $kept/two-partitions.ivf $out/i.yuv && md5 i.yuv "$(awk '$1 == "two-partitions.ivf" {print $4}' $kept/expected.txt)"
+[ "$(wc -l <$out/said)" -eq 2 ] || bad "$what: not two pictures"
+
+# A bare frame, and the file written around it.
+tail -c +21 bench/tile-q90.webp >$out/tile.vp8
+hb 0 decode $out/tile.vp8 $out/b.yuv && same $out/b.yuv $out/a.yuv
+hb 0 wrap $out/tile.vp8 $out/w.webp && same $out/w.webp bench/tile-q90.webp && said 'w.webp: 29196 bytes'
+hb 2 wrap $kept/two-partitions.ivf $out/two.webp && warned 'one frame' && none two.webp
+hb 1 wrap cli/main.c $out/no.webp && warned 'refused: 12' && none no.webp
+hb 1 wrap tests/outside/webp/lossless.webp $out/no.webp && warned 'refused: 19' && none no.webp
+
+# Cut: still written, the finished rows as in the whole picture and grey below, and said so.
+head -c 15000 $out/tile.vp8 >$out/cut.vp8
+stop='7, a token partition ran out in macroblock 123 (column 11, row 7), 123 of 256 finished'
+hb 1 decode --unfiltered $out/cut.vp8 $out/c.yuv && said cut && warned "cut: $stop; the rest is grey"
+cmp -s -n $((7 * 16 * 256)) $out/c.yuv $out/u.yuv || bad "$what: the finished rows differ"
+[ "$(head -c 65536 $out/c.yuv | tail -c $((8 * 16 * 256)) | tr -d '\200' | wc -c)" -eq 0 ] || bad "$what: the rest is not grey"
+[ "$(wc -c <$out/c.yuv)" -eq 98304 ] || bad "$what: not a whole picture"
+{ printf '\020\175\000' && tail -c +4 $out/tile.vp8; } >$out/modes.vp8 # a first partition of 1000 bytes
+hb 1 decode $out/modes.vp8 $out/m.pgm && warned 'cut: 6, the first partition, which holds the modes, ran out in macroblock'
+hb 1 info $out/cut.vp8 && said "$stop" && said 'small 123'
+
+# Refused: the number in words, and nothing is written.
+refused() { # refused NUMBER FILE
+    hb 1 decode "$2" $out/r.yuv && warned "refused: $1, " && none r.yuv
+}
+: >$out/empty
+{ printf '\021' && tail -c +2 $out/tile.vp8; } >$out/inter.vp8
+{ printf '\160\000\000' && tail -c +4 $out/tile.vp8; } >$out/short.vp8 # a first partition of 3 bytes
+head -c 1000 $out/tile.vp8 >$out/first.vp8
+{ printf 'RIFF\004\000\000\000WEBX'; } >$out/marks.webp
+head -c 20000 bench/tile-q90.webp >$out/size.webp
+refused 12 $out/empty
+refused 12 cli/main.c
+refused 12 $out/inter.vp8
+refused 13 $out/first.vp8
+refused 14 $out/short.vp8
+refused 17 $out/marks.webp
+refused 18 $out/size.webp
+refused 19 tests/outside/webp/lossless.webp
+refused 19 tests/outside/webp/extended.webp
+head -c 32 $kept/two-partitions.ivf >$out/none.ivf
+hb 1 decode $out/none.ivf $out/r.yuv && warned 'refused: the IVF file' && none r.yuv
+head -c $(($(wc -c <$kept/two-partitions.ivf) - 100)) $kept/two-partitions.ivf >$out/short.ivf
+hb 1 decode $out/short.ivf $out/short.yuv && warned 'short.ivf: frame 1: cut: 7' && said whole && said cut
+
+# Many: a folder, a summary by number.
+hb 0 decode $kept/*.webp $out/all && said '8 files, 8 pictures' && said '8  whole: 0, every macroblock is finished' && quiet
+[ "$(find $out/all -name '*.ppm' | wc -l)" -eq 8 ] || bad "$what: not eight pictures"
+hb 1 decode --to yuv bench/tile-q90.webp $out/cut.vp8 $out/inter.vp8 $kept/two-partitions.ivf $out/some
+said '4 files, 4 pictures' && said '3  whole: 0' && said '1  cut: 7' && said '1  refused: 12' && same $out/some/tile-q90.yuv $out/a.yuv
+hb 2 decode $out/cut.vp8 bench/tile-q90.webp $out/absent $out/some && said '3 files, 2 pictures'
+hb 2 decode bench/tile-q90.webp $out/../../bench/tile-q90.webp $out/twice && warned 'would both be written'
+hb 0 info bench/tile-q90.webp $kept/eight-partitions.ivf && said '256 x 256, coded as 256 x 256, macroblocks 16 x 16'
+said '24 x 145, coded as 32 x 160' && said '8 of tokens:' && said '2 files, 3 pictures'
+
+# Explained: in words and in colours.
+hb 0 explain bench/tile-q50.webp 15 20 && said 'luma at 15 20: 138 before the loop filter' && said 'U at 7 10' && said 'V at 7 10' && quiet
+hb 0 explain bench/tile-q50.webp $out/e.svg && grep -q '</svg>' $out/e.svg || bad "$what: no picture"
+hb 0 explain bench/tile-q50.webp $out/e.ppm && [ "$(wc -c <$out/e.ppm)" -eq 196623 ] || bad "$what: no picture"
+hb 0 explain $kept/fine.webp 1 1 && said 'nothing is filtered'
+hb 1 explain $out/cut.vp8 1 1 && said 'luma at 1 1' && warned 'cut: 7'
+hb 1 explain tests/outside/webp/lossless.webp 1 1 && warned 'refused: 19'
+hb 2 explain bench/tile-q50.webp 256 0 && warned 'no such pixel'
+hb 2 explain bench/tile-q50.webp -- -1 0 && warned 'X and Y'
+hb 2 explain bench/tile-q50.webp $out/e.png && warned '.ppm or .svg' && none e.png
+
+# Installed: the example through pkg-config; one version everywhere.
+if tools/install.sh $out/prefix >$out/install.log 2>&1; then
+    export PKG_CONFIG_PATH=$PWD/$out/prefix/lib/pkgconfig
+    version=$(pkg-config --modversion hookbarley)
+    # shellcheck disable=SC2046
+    $X86CC -std=c99 -Wall -Wextra -Werror $(pkg-config --cflags hookbarley) examples/c/decode_webp.c $(pkg-config --libs hookbarley) -o $out/decode_webp ||
+        bad "examples/c/decode_webp.c does not build"
+    what="examples/c/decode_webp.c"
+    $X86RUN $out/decode_webp bench/tile-q90.webp >$out/example.pgm 2>$out/err && same $out/example.pgm $out/a.pgm
+    what="PREFIX/bin/hookbarley"
+    $out/prefix/bin/hookbarley decode bench/tile-q90.webp $out/installed.yuv >/dev/null && same $out/installed.yuv $out/a.yuv
+    grep -q "^version = \"$version\"$" bindings/rust/Cargo.toml || bad "bindings/rust has another version than $version"
+    grep -q "^## $version" CHANGELOG.md || bad "CHANGELOG.md has no version $version"
+else
+    tail -n 5 $out/install.log
+    bad "tools/install.sh"
+fi
+[ $tried -ge 53 ] || bad "only $tried runs of the program"
+[ $failed -eq 0 ] && echo "cli: passed, $tried runs of the program"
+exit $failed
