@@ -38,7 +38,11 @@ const char *outcome_of(uint32_t number) {
 void print_answer(FILE *out, uint32_t number, const struct picture *p) {
     if (number != ANSWER_IVF) fprintf(out, "%u, ", (unsigned)number);
     fprintf(out, "%s", words_of(number));
-    if (!p || !number || !has_picture(number)) return;
+    if (!p || !has_picture(number)) return;
+    if (number == HOOKBARLEY_WHOLE) {
+        fprintf(out, " (%zu)", p->finished);
+        return;
+    }
     size_t columns = p->tile.width / 16;
     fprintf(out, " in macroblock %zu (column %zu, row %zu)", p->finished, p->finished % columns, p->finished / columns);
     fprintf(out, ", %zu of %zu finished", p->finished, p->blocks);

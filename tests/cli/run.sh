@@ -112,7 +112,7 @@ said '4 files, 4 pictures' && said '3  whole: 0' && said '1  cut: 7' && said '1 
 hb 2 decode $out/cut.vp8 bench/tile-q90.webp $out/absent $out/some && said '3 files, 2 pictures'
 hb 2 decode bench/tile-q90.webp $out/../../bench/tile-q90.webp $out/twice && warned 'would both be written'
 hb 0 info bench/tile-q90.webp $kept/eight-partitions.ivf && said '256 x 256, coded as 256 x 256, macroblocks 16 x 16'
-said '24 x 145, coded as 32 x 160' && said '8 of tokens:' && said '2 files, 3 pictures'
+said '24 x 145, coded as 32 x 160' && said '8 of tokens:' && said '2 files, 3 pictures' && said '0, every macroblock is finished (256)'
 
 # Explained: in words and in colours.
 hb 0 explain bench/tile-q50.webp 15 20 && said 'luma at 15 20: 138 before the loop filter' && said 'U at 7 10' && said 'V at 7 10' && quiet

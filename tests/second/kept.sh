@@ -16,7 +16,9 @@ files=0
 frames=0
 bad() { echo "second: FAILED: $1"; failed=1; }
 md5() { # md5 FILE OPTIONS..: of the samples
-    $X86RUN target/cli/hookbarley decode $kept/"$@" $out/samples.yuv >$out/log || echo "$1 is not decoded whole" >&2
+    local file=$kept/$1
+    shift
+    $X86RUN target/cli/hookbarley decode "$@" "$file" $out/samples.yuv >$out/log || echo "$file is not decoded whole" >&2
     md5sum <$out/samples.yuv | cut -d' ' -f1
 }
 while read -r name count before after; do
