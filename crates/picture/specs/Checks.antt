@@ -1,17 +1,19 @@
 -- The argument checks of the picture call, 1 to 5 in this order. The first that fails gives its number; then nothing is
 -- decoded and the lent memory is unchanged.
 use Prim.Native.Nat.{ℕ, suc}
+use mathlib.Core.Path.{_≡_}
 use mathlib.Core.Bool.{Bool, true, false, _&&_}
 use mathlib.Core.List.{List, [], _∷_}
 use lib.Dec.{eqb}
-use lib.IntN.{ℤ}
+use lib.IntN.{ℤ, pos, negsuc}
 use lib.ListN.{length}
+use Rattle.numbers.specs.In.{Each}
 use Rattle.header.specs.Entries.{entryCount}
 use Rattle.header.specs.Header.{entriesOf}
 use Rattle.tile.specs.declared.Tile.{Tile}
 use Rattle.tile.specs.Checks.{sidesOf, countOf, partitionsOf}
 use Rattle.lent.specs.declared.sizes.Sizes.{Sizes}
-use Rattle.lent.specs.Sizes.{sizesFine}
+use Rattle.lent.specs.Sizes.{sizesFine, Sized}
 
 -- what the picture call is given besides the lent memory
 pub record Call : Type 0 where
@@ -25,6 +27,14 @@ callOf bytes tile header = record { bytes = bytes; tile = tile; header = header 
 -- ---- 4: the length of each lent memory, and of the header
 unfoldable pub lengthsOf : Call → Sizes → Bool
 lengthsOf c z = sizesFine (c .tile .width) (c .tile .height) z && eqb (length (c .header)) entryCount
+
+-- ---- 3 and 4 as facts
+abbrev pub Bounded : List ℤ → Type 0
+Bounded = Each (negsuc 254) (pos 255)
+
+pub record Lengths (t : Call) (z : Sizes) : Type 0 where
+  pub sizes : Sized (t .tile .width) (t .tile .height) z
+  pub header : length (t .header) ≡ entryCount
 
 -- ---- the number of the first check that fails, counted from n; 0 where none does
 unfoldable pub failed : ℕ → List Bool → ℕ

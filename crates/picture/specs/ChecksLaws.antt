@@ -12,7 +12,7 @@ use lib.Signed.{_≤ℤ_, ltZ}
 use lib.ListN.{length, getD}
 use borrow.Author.Tests.{eqb-true, eq-eqb, ne-eqb}
 use Rattle.numbers.specs.Tests.{never, not-so, both-left, both-right, both-true, both-false}
-use Rattle.numbers.specs.In.{In, Each}
+use Rattle.numbers.specs.In.{In}
 use Rattle.numbers.specs.Parts.{to-le, lt-parts}
 use Rattle.reader.specs.declared.boolean.Reader.{Reader}
 use Rattle.reader.specs.BooleanLaws.{Bytes, Valid}
@@ -21,23 +21,13 @@ use Rattle.header.specs.Header.{entry, outside, fineTo, entriesOf, headerOf}
 use Rattle.header.specs.HeaderLaws.{entries-each, fine-none, fine-next, entries-all, header-fine}
 use Rattle.lent.specs.declared.sizes.Sizes.{Sizes}
 use Rattle.lent.specs.Memory.{Memory, sizesOf, blankOf}
-use Rattle.lent.specs.Sizes.{sizesFine, Sized}
+use Rattle.lent.specs.Sizes.{sizesFine}
 use Rattle.lent.specs.SizesLaws.{sizes-fact, sizes-test, blank-sizes}
 use Rattle.tile.specs.Partitions.{tokenOf, readersOf}
 use Rattle.tile.specs.PartitionsLaws.{readers-valid}
 use Rattle.tile.specs.Checks.{sidesOf, countOf, partitionsOf, Sides, Counted, Cut}
 use Rattle.tile.specs.ChecksLaws.{sides-fact, sides-test, count-fact, count-test, partitions-fact, partitions-test}
-use Rattle.picture.specs.Checks.{Call, lengthsOf, failed, checksOf, refusalOf}
-
--- ---- what checks 3 and 4 ask, as facts
--- 3
-abbrev pub Bounded : List ℤ → Type 0
-Bounded = Each (negsuc 254) (pos 255)
-
--- 4
-pub record Lengths (t : Call) (z : Sizes) : Type 0 where
-  pub sizes : Sized (t .tile .width) (t .tile .height) z
-  pub header : length (t .header) ≡ entryCount
+use Rattle.picture.specs.Checks.{Call, Bounded, Lengths, lengthsOf, failed, checksOf, refusalOf}
 
 -- ---- 3: the facts are crate header's `entries-each`
 not-less : (a b : ℤ) → b ≤ℤ a → ltZ a b ≡ false

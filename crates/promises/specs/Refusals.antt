@@ -6,9 +6,9 @@ use lib.ListN.{length, replicate}
 use Rattle.picture.specs.declared.rows.Decoded.the-variants as D
 use Rattle.lent.specs.Memory.{Memory, sizesOf, blankOf}
 use Rattle.tile.specs.Checks.{blocksOf}
-use Rattle.picture.specs.Checks.{Call, refusalOf}
+use Rattle.picture.specs.Checks.{Call, Bounded, Lengths, refusalOf}
 use Rattle.tile.specs.Checks.{Sides, Counted, Cut}
-use Rattle.picture.specs.ChecksLaws.{Bounded, Lengths, refusal-most, refusal-none, refused-side, refused-count, refused-entries, refused-lengths, refused-partitions, fine-lengths}
+use Rattle.picture.specs.ChecksLaws.{refusal-most, refusal-none, refused-side, refused-count, refused-entries, refused-lengths, refused-partitions, fine-lengths}
 use Rattle.picture.specs.CallLaws.{picture-bad, picture-good}
 use Rattle.picture.specs.Picture.{Ended, picturedOf, startOf, begunOf, runOf, pictureOf, numberOf, valuesOf}
 

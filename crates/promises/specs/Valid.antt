@@ -1,6 +1,6 @@
 -- Demand 2, what replaces the source's clauses on contexts and limits. After 1 to 5 nothing changed, so there is nothing to say.
 use Prim.Native.Nat.{ℕ, _≤_}
-use Rattle.reader.specs.BooleanLaws.{Bytes}
+use Rattle.reader.specs.Boolean.{Bytes}
 use Rattle.lent.specs.Records.{Columns, strengthAt}
 use Rattle.lent.specs.Memory.{Memory}
 use Rattle.picture.specs.Checks.{Call}

@@ -18,8 +18,7 @@ use Rattle.tile.specs.declared.Span.{Span}
 use Rattle.tile.specs.Partitions.{spanAt}
 use Rattle.tile.specs.PartitionsLaws.{part-length}
 use Rattle.tile.specs.Checks.{Sides, Counted, Inside, Cut}
-use Rattle.picture.specs.Checks.{Call, callOf}
-use Rattle.picture.specs.ChecksLaws.{Bounded, Lengths}
+use Rattle.picture.specs.Checks.{Call, callOf, Bounded, Lengths}
 use Rattle.promises.specs.Refusals.{Fine, good-arguments}
 use Rattle.promises.specs.Isolation.{SameTokens, Alike, Isolated}
 use Rattle.promises.specs.IsolationLaws.{isolated}
@@ -82,12 +81,12 @@ fine x y = good-arguments (tileOf x) (heldOf y) sides counted bounded sized cut
     sized : Lengths (tileOf x) (sizesOf (heldOf y))
     sized = record {
       sizes = record {
-      y = length-replicate 512 y;
-      u = length-replicate 128 y;
-      v = length-replicate 128 y;
-      columns = length-replicate 13 y;
-      modes = length-replicate 40 y;
-      strengths = length-replicate 8 y;
+        y = length-replicate 512 y;
+        u = length-replicate 128 y;
+        v = length-replicate 128 y;
+        columns = length-replicate 13 y;
+        modes = length-replicate 40 y;
+        strengths = length-replicate 8 y;
       };
       header = length-replicate 1096 (pos 0);
     }

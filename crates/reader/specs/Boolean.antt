@@ -1,5 +1,6 @@
 -- The boolean decoder (RFC 6386, section 7.3): what a symbol is, where a byte is missing, which readers are in range.
-use Prim.Native.Nat.{ℕ, zero, suc, _+_, _-_, _*_, _/_, _%_, _^_}
+use Prim.Native.Nat.{ℕ, zero, suc, _+_, _-_, _*_, _/_, _%_, _^_, _≤_, _<_}
+use mathlib.Core.Path.{_≡_}
 use mathlib.Core.List.{List}
 use mathlib.Core.Bool.{Bool, true, false, _&&_}
 use lib.ListN.{length, getD}
@@ -95,3 +96,22 @@ abbrev pub symbolValuesOf : Symbol → Bool × Reader
 symbolValuesOf (S.Got b r) = (b, r)
 symbolValuesOf S.Missing = (false, noReader)
 symbolValuesOf S.Refused = (false, noReader)
+
+-- ---- as facts
+-- every element is a byte
+abbrev pub Bytes : List ℕ → Type 0
+Bytes s = (i : ℕ) → getD s i 0 < 256
+
+-- a reader over s from a range of at least `low`: after the split 1, between symbols 128
+pub record From (low : ℕ) (s : List ℕ) (r : Reader) : Type 0 where
+  pub placed : 2 ≤ r .at
+  pub inside : r .at ≤ length s + 2
+  pub least : low ≤ r .range
+  pub most : r .range < 256
+  pub few : r .shifts < 8
+  pub small : r .window < 65536
+  pub even : r .window % 2 ^ r .shifts ≡ 0
+
+-- a reader in range
+abbrev pub Valid : List ℕ → Reader → Type 0
+Valid = From 128

@@ -14,25 +14,8 @@ use Rattle.numbers.specs.Tests.{lt-or, eq-or, not-so, both-left, both-right}
 use Rattle.reader.specs.declared.boolean.Reader.{Reader}
 use Rattle.reader.specs.declared.boolean.Symbol.{Symbol}
 use Rattle.reader.specs.declared.boolean.Symbol.the-variants as S
+pub use Rattle.reader.specs.Boolean.{Bytes, From, Valid}
 use Rattle.reader.specs.Boolean.{Given, given, missing, splitOf, partOf, shifted, loaded, grow, decidedOf, symbolOf, firstReader, validOf, toSymbol, symbolAnswer}
-
--- every element is a byte
-abbrev pub Bytes : List ℕ → Type 0
-Bytes s = (i : ℕ) → getD s i 0 < 256
-
--- a reader over s from a range of at least `low`: after the split 1, between symbols 128
-pub record From (low : ℕ) (s : List ℕ) (r : Reader) : Type 0 where
-  pub placed : 2 ≤ r .at
-  pub inside : r .at ≤ length s + 2
-  pub least : low ≤ r .range
-  pub most : r .range < 256
-  pub few : r .shifts < 8
-  pub small : r .window < 65536
-  pub even : r .window % 2 ^ r .shifts ≡ 0
-
--- a reader in range
-abbrev pub Valid : List ℕ → Reader → Type 0
-Valid = From 128
 
 -- what a partition gives from a place on: a reader in range, no earlier
 abbrev pub Next : {A : Type 0} → List ℕ → ℕ → Given A → Type 0

@@ -6,8 +6,7 @@ use mathlib.Core.List.{List}
 use lib.Dec.{leb, eqb}
 use lib.ListN.{length}
 use Rattle.numbers.specs.Tables.{allBelow}
-use Rattle.reader.specs.Boolean.{validOf}
-use Rattle.reader.specs.BooleanLaws.{Valid}
+use Rattle.reader.specs.Boolean.{validOf, Valid}
 use Rattle.tile.specs.declared.Span.{Span}
 use Rattle.tile.specs.declared.Tile.{Tile}
 use Rattle.tile.specs.Partitions.{partOf, spanAt}
