@@ -60,5 +60,5 @@ while kill -0 $running 2>/dev/null; do
 done
 [ ! -t 2 ] || printf '\r\033[K' >&2
 rm -f target/staticlib.began
-wait $running || { grep -E ': error|NOT PROVED|^rt: ' $log | cut -c 1-300 | head -n 10 >&2; echo "not proved: see $log" >&2; exit 1; }
+wait $running || { grep -E ': error|NOT PROVED|^rt: FAILED' $log | cut -c 1-300 | head -n 10 >&2; echo "not proved: see $log" >&2; exit 1; }
 echo "$archive: proved and built in $(($(date +%s) - began)) s" >&2
