@@ -10,7 +10,7 @@ use Rattle.numbers.specs.Lists.{build}
 use Rattle.reader.specs.Boolean.{firstReader}
 use Rattle.tile.specs.declared.Span.{Span}
 use Rattle.tile.specs.declared.Tile.{Tile}
-use Rattle.tile.specs.Partitions.{partOf, noSpan}
+use Rattle.tile.specs.Partitions.{contentsOf, noSpan}
 use Rattle.picture.specs.Checks.{Call, callOf}
 
 -- ---- numbers of one, two and four bytes
@@ -24,30 +24,30 @@ unfoldable pub wordAt : List ℕ → ℕ → ℕ
 wordAt s i = halfAt s i * 65536 + halfAt s (i + 2)
 
 -- two bytes as a signed number
-unfoldable pub signedOf : ℕ → ℤ
-signedOf n = elim (ltb n 32768) [ true ↦ pos n | false ↦ pos n -ℤ pos 65536 ]
+unfoldable pub caseSigned : ℕ → ℤ
+caseSigned n = elim (ltb n 32768) [ true ↦ pos n | false ↦ pos n -ℤ pos 65536 ]
 
 -- ---- the fields
-abbrev pub versionOf : List ℕ → ℕ
-versionOf s = byteAt s 0
+abbrev pub caseVersion : List ℕ → ℕ
+caseVersion s = byteAt s 0
 
 abbrev pub restOf : List ℕ → ℕ
 restOf s = wordAt s 1
 
-abbrev pub widthOf : List ℕ → ℕ
-widthOf s = halfAt s 5
+abbrev pub caseWidth : List ℕ → ℕ
+caseWidth s = halfAt s 5
 
-abbrev pub heightOf : List ℕ → ℕ
-heightOf s = halfAt s 7
+abbrev pub caseHeight : List ℕ → ℕ
+caseHeight s = halfAt s 7
 
-abbrev pub countOf : List ℕ → ℕ
-countOf s = byteAt s 9
+abbrev pub caseCount : List ℕ → ℕ
+caseCount s = byteAt s 9
 
 abbrev pub entryAt : List ℕ → ℕ → ℤ
-entryAt s i = signedOf (halfAt s (10 + 2 * i))
+entryAt s i = caseSigned (halfAt s (10 + 2 * i))
 
-unfoldable pub headerOf : List ℕ → List ℤ
-headerOf s = build 1096 (entryAt s)
+unfoldable pub caseHeader : List ℕ → List ℤ
+caseHeader s = build 1096 (entryAt s)
 
 -- ---- partitions: 0 is the first, then the token partitions
 abbrev pub lengthAt : List ℕ → ℕ → ℕ
@@ -55,7 +55,7 @@ lengthAt s i = wordAt s (2202 + 4 * i)
 
 -- behind the lengths and the partitions before it
 unfoldable pub startAt : List ℕ → ℕ → ℕ
-startAt s zero = 2206 + 4 * countOf s
+startAt s zero = 2206 + 4 * caseCount s
 startAt s (suc i) = startAt s i + lengthAt s i
 
 abbrev pub partitionAt : List ℕ → ℕ → Span
@@ -63,31 +63,31 @@ partitionAt s i = record { start = startAt s i; len = lengthAt s i }
 
 -- what is handed on of the token partitions: eight, and past the count the empty span
 unfoldable pub slotOf : List ℕ → ℕ → Span
-slotOf s i = elim (ltb i (countOf s)) [ true ↦ partitionAt s (i + 1) | false ↦ noSpan ]
+slotOf s i = elim (ltb i (caseCount s)) [ true ↦ partitionAt s (i + 1) | false ↦ noSpan ]
 
-unfoldable pub spansOf : List ℕ → List Span
-spansOf s = build 8 (slotOf s)
+unfoldable pub caseSpans : List ℕ → List Span
+caseSpans s = build 8 (slotOf s)
 
 -- ---- well-formed: version 1, as long as the file says, no byte missing or left over; at most 64 KiB, and no side over 64
-unfoldable pub wholeOf : List ℕ → Bool
-wholeOf s = leb (2206 + 4 * countOf s) (length s) && eqb (startAt s (countOf s + 1)) (length s)
+unfoldable pub caseWhole : List ℕ → Bool
+caseWhole s = leb (2206 + 4 * caseCount s) (length s) && eqb (startAt s (caseCount s + 1)) (length s)
 
 unfoldable pub wellFormed : List ℕ → Bool
 wellFormed s =
     leb 2206 (length s)
-    && (leb (length s) 65536 && eqb (versionOf s) 1 && eqb (restOf s + 5) (length s) && leb (widthOf s) 64 && leb (heightOf s) 64 && wholeOf s)
+    && (leb (length s) 65536 && eqb (caseVersion s) 1 && eqb (restOf s + 5) (length s) && leb (caseWidth s) 64 && leb (caseHeight s) 64 && caseWhole s)
 
 -- ---- what the picture call is given of it
 -- the first partition is opened afresh
-abbrev pub tileOf : List ℕ → Tile
-tileOf s = record {
+abbrev pub caseTile : List ℕ → Tile
+caseTile s = record {
   first = partitionAt s 0;
-  tokens = spansOf s;
-  reader = firstReader (partOf s (partitionAt s 0));
-  count = countOf s;
-  width = widthOf s;
-  height = heightOf s;
+  tokens = caseSpans s;
+  reader = firstReader (contentsOf s (partitionAt s 0));
+  count = caseCount s;
+  width = caseWidth s;
+  height = caseHeight s;
 }
 
 abbrev pub givenOf : List ℕ → Call
-givenOf s = callOf s (tileOf s) (headerOf s)
+givenOf s = callOf s (caseTile s) (caseHeader s)

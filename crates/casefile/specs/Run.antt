@@ -11,7 +11,7 @@ use Rattle.picture.specs.Picture.{Ended, numberOf, valuesOf, pictureOf}
 use Rattle.casefile.specs.declared.run.Sums.{Sums}
 use Rattle.casefile.specs.declared.run.Hashes.{Hashes}
 use Rattle.casefile.specs.declared.run.Ran.{Ran}
-use Rattle.casefile.specs.CaseFile.{widthOf, heightOf, wellFormed, givenOf}
+use Rattle.casefile.specs.CaseFile.{caseWidth, caseHeight, wellFormed, givenOf}
 use Rattle.casefile.specs.Measures.{sumOf, fnvOf}
 
 abbrev pub lentOf : ℕ → ℕ → Memory
@@ -51,4 +51,4 @@ malformedRan = record {
 }
 
 unfoldable pub ranOf : List ℕ → Ran
-ranOf s = elim (wellFormed s) [ true ↦ reportOf (pictureOf (givenOf s) (lentOf (widthOf s) (heightOf s))) | false ↦ malformedRan ]
+ranOf s = elim (wellFormed s) [ true ↦ reportOf (pictureOf (givenOf s) (lentOf (caseWidth s) (caseHeight s))) | false ↦ malformedRan ]

@@ -13,7 +13,7 @@ use Rattle.lent.specs.Memory.{Memory, memoryOf}
 use Rattle.picture.specs.Checks.{callOf}
 use Rattle.picture.specs.Picture.{Ended, pictureOf}
 use Rattle.casefile.specs.declared.run.Ran.{Ran}
-use Rattle.casefile.specs.CaseFile.{widthOf, heightOf, headerOf, wellFormed, tileOf, givenOf}
+use Rattle.casefile.specs.CaseFile.{caseWidth, caseHeight, caseHeader, wellFormed, caseTile, givenOf}
 use Rattle.casefile.specs.Measures.{sumOf}
 use Rattle.casefile.specs.Run.{lentOf, sumAfter, reportOf, malformedRan, ranOf}
 
@@ -31,12 +31,12 @@ module _ (s : List ℕ) where
   unfolding ranOf
   run-malformed e = rw (e, ranOf)
 
-  pub run-formed : wellFormed s ≡ true → {w h : ℕ} {x : Ran} → w ≡ widthOf s → h ≡ heightOf s → x ≡ reportOf (pictureOf (givenOf s) (lentOf w h)) → x ≡ ranOf s
+  pub run-formed : wellFormed s ≡ true → {w h : ℕ} {x : Ran} → w ≡ caseWidth s → h ≡ caseHeight s → x ≡ reportOf (pictureOf (givenOf s) (lentOf w h)) → x ≡ ranOf s
   unfolding ranOf
   run-formed e f g r = r ∙ rw (e, f, g, ranOf)
 
 -- what a file gives to the picture call
-pub given-is : (s : List ℕ) (m : Memory) {t : Tile} {e : List ℤ} {x : Ended} → x ≡ pictureOf (callOf s t e) m → t ≡ tileOf s → e ≡ headerOf s → x ≡ pictureOf (givenOf s) m
+pub given-is : (s : List ℕ) (m : Memory) {t : Tile} {e : List ℤ} {x : Ended} → x ≡ pictureOf (callOf s t e) m → t ≡ caseTile s → e ≡ caseHeader s → x ≡ pictureOf (givenOf s) m
 given-is s m p f g = p ∙ ap₂ (λ (t : Tile) (e : List ℤ). pictureOf (callOf s t e) m) f g
 
 pub report-is : (s : List ℕ) {m m′ : Memory} {x : Ran} → x ≡ reportOf (pictureOf (givenOf s) m) → m ≡ m′ → x ≡ reportOf (pictureOf (givenOf s) m′)

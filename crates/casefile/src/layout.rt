@@ -7,8 +7,8 @@ use tile::partitions::part;
 ghost use mathlib.Core.Path.{_≡_};
 ghost use Prim.Native.Nat.{_+_, _*_, _<_, _≤_};
 ghost use lib.ListN.{length};
-ghost use Rattle.casefile.specs.CaseFile.{byteAt, halfAt, wordAt, widthOf, heightOf, countOf, signedOf, headerOf};
-ghost use Rattle.casefile.specs.CaseFile.{lengthAt, startAt, partitionAt, slotOf, spansOf, wholeOf, wellFormed, tileOf};
+ghost use Rattle.casefile.specs.CaseFile.{byteAt, halfAt, wordAt, caseWidth, caseHeight, caseCount, caseSigned, caseHeader};
+ghost use Rattle.casefile.specs.CaseFile.{lengthAt, startAt, partitionAt, slotOf, caseSpans, caseWhole, wellFormed, caseTile};
 
 fn wide(x: u8) -> usize
     ensures { λ r. ⌜ (r ≡ x) × (r < 256) ⌝ }
@@ -39,21 +39,21 @@ fn word(file: &[u8], at: usize) -> usize
 
 pub(crate) fn width(file: &[u8]) -> usize
     requires { ⌜ 2206 ≤ length (now file) ⌝ }
-    ensures { λ r. ⌜ r ≡ widthOf (now (file .entry)) ⌝ }
+    ensures { λ r. ⌜ r ≡ caseWidth (now (file .entry)) ⌝ }
 {
     half(file, 5)
 }
 
 pub(crate) fn height(file: &[u8]) -> usize
     requires { ⌜ 2206 ≤ length (now file) ⌝ }
-    ensures { λ r. ⌜ r ≡ heightOf (now (file .entry)) ⌝ }
+    ensures { λ r. ⌜ r ≡ caseHeight (now (file .entry)) ⌝ }
 {
     half(file, 7)
 }
 
 fn count(file: &[u8]) -> usize
     requires { ⌜ 2206 ≤ length (now file) ⌝ }
-    ensures { λ r. ⌜ (r ≡ countOf (now (file .entry))) × (r < 256) ⌝ }
+    ensures { λ r. ⌜ (r ≡ caseCount (now (file .entry))) × (r < 256) ⌝ }
 {
     byte(file, 9)
 }
@@ -61,7 +61,7 @@ fn count(file: &[u8]) -> usize
 // Two bytes as a signed number.
 fn signed(n: usize) -> i32
     requires { ⌜ n ≤ 65535 ⌝ }
-    ensures { λ r. ⌜ r ≡ signedOf n ⌝ }
+    ensures { λ r. ⌜ r ≡ caseSigned n ⌝ }
 {
     let v = n as i32;
     if n < 32768 {
@@ -72,7 +72,7 @@ fn signed(n: usize) -> i32
 
 pub(crate) fn header(file: &[u8]) -> [i32; 1096]
     requires { ⌜ 2206 ≤ length (now file) ⌝ }
-    ensures { λ r. ⌜ r ≡ headerOf (now (file .entry)) ⌝ }
+    ensures { λ r. ⌜ r ≡ caseHeader (now (file .entry)) ⌝ }
 {
     let mut h = [0; 1096];
     let mut i = 0;
@@ -93,7 +93,7 @@ fn length_at(file: &[u8], i: usize) -> usize
 
 // Where partition i starts: behind the lengths and the partitions before it.
 fn start_at(file: &[u8], i: usize) -> usize
-    requires { ⌜ (2206 + 4 * countOf (now file) ≤ length (now file)) × (i ≤ countOf (now file) + 1) ⌝ }
+    requires { ⌜ (2206 + 4 * caseCount (now file) ≤ length (now file)) × (i ≤ caseCount (now file) + 1) ⌝ }
     ensures { λ r. ⌜ r ≡ startAt (now (file .entry)) i ⌝ }
 {
     let mut at = 2206 + 4 * count(file);
@@ -108,7 +108,7 @@ fn start_at(file: &[u8], i: usize) -> usize
 // Whether the partitions end where the file ends.
 fn whole(file: &[u8]) -> bool
     requires { ⌜ 2206 ≤ length (now file) ⌝ }
-    ensures { λ r. ⌜ r ≡ wholeOf (now (file .entry)) ⌝ }
+    ensures { λ r. ⌜ r ≡ caseWhole (now (file .entry)) ⌝ }
 {
     let n = count(file);
     if file.len() < 2206 + 4 * n {
@@ -134,7 +134,7 @@ pub(crate) fn well_formed(file: &[u8]) -> bool
 
 // Partition i as a span of the file.
 fn span_at(file: &[u8], i: usize) -> Span
-    requires { ⌜ (2206 + 4 * countOf (now file) ≤ length (now file)) × (i ≤ countOf (now file)) ⌝ }
+    requires { ⌜ (2206 + 4 * caseCount (now file) ≤ length (now file)) × (i ≤ caseCount (now file)) ⌝ }
     ensures { λ r. ⌜ r ≡ partitionAt (now (file .entry)) i ⌝ }
 {
     Span {
@@ -145,7 +145,7 @@ fn span_at(file: &[u8], i: usize) -> Span
 
 // Token partition i of the n; past them, the empty span.
 fn slot(file: &[u8], n: usize, i: usize) -> Span
-    requires { ⌜ (2206 + 4 * countOf (now file) ≤ length (now file)) × (n ≡ countOf (now file)) × (i < 8) ⌝ }
+    requires { ⌜ (2206 + 4 * caseCount (now file) ≤ length (now file)) × (n ≡ caseCount (now file)) × (i < 8) ⌝ }
     ensures { λ r. ⌜ r ≡ slotOf (now (file .entry)) i ⌝ }
 {
     if n <= i {
@@ -155,8 +155,8 @@ fn slot(file: &[u8], n: usize, i: usize) -> Span
 }
 
 fn spans(file: &[u8]) -> [Span; 8]
-    requires { ⌜ 2206 + 4 * countOf (now file) ≤ length (now file) ⌝ }
-    ensures { λ r. ⌜ r ≡ spansOf (now (file .entry)) ⌝ }
+    requires { ⌜ 2206 + 4 * caseCount (now file) ≤ length (now file) ⌝ }
+    ensures { λ r. ⌜ r ≡ caseSpans (now (file .entry)) ⌝ }
 {
     let mut all = [Span { start: 0, len: 0 }; 8];
     let n = count(file);
@@ -170,8 +170,8 @@ fn spans(file: &[u8]) -> [Span; 8]
 
 // The tile, with the first partition opened afresh.
 pub(crate) fn tile_of(file: &[u8]) -> Tile
-    requires { ⌜ 2206 + 4 * countOf (now file) ≤ length (now file) ⌝ }
-    ensures { λ r. ⌜ r ≡ tileOf (now (file .entry)) ⌝ }
+    requires { ⌜ 2206 + 4 * caseCount (now file) ≤ length (now file) ⌝ }
+    ensures { λ r. ⌜ r ≡ caseTile (now (file .entry)) ⌝ }
 {
     let first = span_at(file, 0);
     Tile {

@@ -16,7 +16,7 @@ ghost use Prim.Native.Nat.{_*_, _≤_};
 ghost use lib.ListN.{length, replicate};
 ghost use Rattle.lent.specs.Memory.{memoryOf};
 ghost use Rattle.picture.specs.Picture.{endedOf, pictureOf};
-ghost use Rattle.casefile.specs.CaseFile.{widthOf, heightOf, givenOf};
+ghost use Rattle.casefile.specs.CaseFile.{caseWidth, caseHeight, givenOf};
 ghost use Rattle.casefile.specs.CaseFileLaws.{Formed};
 ghost use Rattle.casefile.specs.Run.{lentOf, sumAfter, reportOf, malformedRan, ranOf};
 
@@ -186,7 +186,7 @@ fn area(w: usize, h: usize, top: usize) -> usize
 // The same over memory of the lengths that a size asks.
 fn lent(file: &[u8], w: usize, h: usize) -> Ran
     requires { ⌜ Formed (now file) ⌝ }
-    requires { ⌜ (w ≡ widthOf (now file)) × (h ≡ heightOf (now file)) ⌝ }
+    requires { ⌜ (w ≡ caseWidth (now file)) × (h ≡ caseHeight (now file)) ⌝ }
     ensures { λ r. ⌜ r ≡ reportOf (pictureOf (givenOf (now (file .entry))) (lentOf w h)) ⌝ }
 {
     let large = area(w, h, 64);

@@ -1,2 +1,2 @@
-pub mod TokenAnswers
-pub mod TokenTurns
+pub mod BlockAnswers
+pub mod BlockTurns

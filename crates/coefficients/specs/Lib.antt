@@ -1,4 +1,4 @@
 -- tokens: definitions, the steps of a block, laws that callers cite
-pub mod Tokens
-pub mod TokenSteps
-pub mod TokenLaws
+pub mod Block
+pub mod BlockSteps
+pub mod BlockLaws

@@ -1,2 +1,2 @@
 // The coefficients of a block: what its tokens stand for (RFC 6386, section 13).
-pub mod tokens;
+pub mod block;

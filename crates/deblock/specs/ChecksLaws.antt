@@ -17,13 +17,13 @@ use Rattle.tile.specs.ChecksLaws.{sides-fact, sides-test}
 use Rattle.lent.specs.Records.{recordsIn, strengthWidth, strengthAt}
 use Rattle.lent.specs.Sizes.{lumaFine, chromaFine, strengthsFine}
 use Rattle.lent.specs.SizesLaws.{long-fact, long-test, luma-area, chroma-area}
-use Rattle.deblock.specs.Deblock.{lengthsOf, Lengths, limitsOf, refusalOf, Outcome, when, rasterOf, planesDeblocked, deblockOf, numberOf}
+use Rattle.deblock.specs.Deblock.{deblockLengths, Lengths, limitsOf, deblockRefusal, Outcome, when, rasterOf, planesDeblocked, deblockOf, deblockNumberOf}
 use Rattle.macroblock.specs.Macroblock.{Planes}
 use Rattle.deblock.specs.declared.Deblocked.the-variants.{Done, Refused}
 use Rattle.deblock.specs.Located.{Whole}
 
-pub lengths : (w h y u v s : ℕ) → lengthsOf w h y u v s ≡ true → Lengths w h y u v s
-unfolding lengthsOf
+pub lengths : (w h y u v s : ℕ) → deblockLengths w h y u v s ≡ true → Lengths w h y u v s
+unfolding deblockLengths
 lengths w h y u v s e =
     let a = lumaFine w h y in
     let b = chromaFine w h u in
@@ -42,22 +42,22 @@ pub limits-next : (s : List ℕ) (k : ℕ) {t : Strength} {b : Bool} → t ≡ s
 limits-next s k e f = ap₂ _&&_ (ap (λ (x : Strength). leb (x .limit) 189) e) f ∙ rw add-one
 
 module _ (w h y u v : ℕ) (s : List ℕ) where
-  pub stop-side : sidesOf w h ≡ false → 1 ≡ refusalOf w h y u v s
-  unfolding refusalOf
+  pub stop-side : sidesOf w h ≡ false → 1 ≡ deblockRefusal w h y u v s
+  unfolding deblockRefusal
   stop-side a = rw a
 
   module _ (a : sidesOf w h ≡ true) where
-    pub stop-lengths : lengthsOf w h y u v (length s) ≡ false → 4 ≡ refusalOf w h y u v s
-    unfolding refusalOf
+    pub stop-lengths : deblockLengths w h y u v (length s) ≡ false → 4 ≡ deblockRefusal w h y u v s
+    unfolding deblockRefusal
     stop-lengths b = rw (a, b)
 
-    module _ (b : lengthsOf w h y u v (length s) ≡ true) where
-      pub stop-limits : limitsOf s ≡ false → 11 ≡ refusalOf w h y u v s
-      unfolding refusalOf
+    module _ (b : deblockLengths w h y u v (length s) ≡ true) where
+      pub stop-limits : limitsOf s ≡ false → 11 ≡ deblockRefusal w h y u v s
+      unfolding deblockRefusal
       stop-limits c = rw (a, b, c)
 
-      pub stop-none : limitsOf s ≡ true → 0 ≡ refusalOf w h y u v s
-      unfolding refusalOf
+      pub stop-none : limitsOf s ≡ true → 0 ≡ deblockRefusal w h y u v s
+      unfolding deblockRefusal
       stop-none c = rw (a, b, c)
 
 -- ---- past all checks
@@ -72,10 +72,10 @@ three true true false e = absurd (omega arith)
 three true false c e = absurd (omega arith)
 three false b c e = absurd (omega arith)
 
-pub fine : (w h y u v : ℕ) (s : List ℕ) → 0 ≡ refusalOf w h y u v s → Fine w h y u v s
-unfolding refusalOf
+pub fine : (w h y u v : ℕ) (s : List ℕ) → 0 ≡ deblockRefusal w h y u v s → Fine w h y u v s
+unfolding deblockRefusal
 fine w h y u v s e =
-    let t = three (sidesOf w h) (lengthsOf w h y u v (length s)) (limitsOf s) e in
+    let t = three (sidesOf w h) (deblockLengths w h y u v (length s)) (limitsOf s) e in
     record { sides = sides-fact w h (t .0); lengths = lengths w h y u v (length s) (t .1); limits = limits s (t .2) }
 
 -- and the other way: good arguments are not refused
@@ -83,8 +83,8 @@ all-true : (f : ℕ → Bool) (n : ℕ) → ((k : ℕ) → k < n → f k ≡ tru
 all-true f zero h = refl
 all-true f (suc n) h = both-true (h n (omega arith)) (all-true f n (λ k l. h k (omega arith)))
 
-lengths-test : (w h y u v s : ℕ) → Sides w h → Lengths w h y u v s → lengthsOf w h y u v s ≡ true
-unfolding lengthsOf
+lengths-test : (w h y u v s : ℕ) → Sides w h → Lengths w h y u v s → deblockLengths w h y u v s ≡ true
+unfolding deblockLengths
 lengths-test w h y u v s z l =
     both-true (both-true (both-true (long-test w h y z (l .luma)) (long-test w h u z (l .blue))) (long-test w h v z (l .red))) (long-test w h s z (l .records))
 
@@ -92,20 +92,20 @@ limits-test : (s : List ℕ) → ((k : ℕ) → k < recordsIn strengthWidth s �
 unfolding limitsOf
 limits-test s h = all-true _ (recordsIn strengthWidth s) (λ k l. le-leb (strengthAt s k .limit) 189 (h k l))
 
-pub fine-none : (w h y u v : ℕ) (s : List ℕ) → Fine w h y u v s → 0 ≡ refusalOf w h y u v s
+pub fine-none : (w h y u v : ℕ) (s : List ℕ) → Fine w h y u v s → 0 ≡ deblockRefusal w h y u v s
 fine-none w h y u v s f =
     stop-none w h y u v s (sides-test w h (f .sides)) (lengths-test w h y u v (length s) (f .sides) (f .lengths)) (limits-test s (f .limits))
 
 -- each number, where its check fails and those before it pass
 module _ (w h y u v : ℕ) (s : List ℕ) where
-  pub refused-side : (Sides w h → ⊥) → 1 ≡ refusalOf w h y u v s
+  pub refused-side : (Sides w h → ⊥) → 1 ≡ deblockRefusal w h y u v s
   refused-side n = stop-side w h y u v s (sym (not-so _ (λ e. n (sides-fact w h e))))
 
   module _ (a : Sides w h) where
-    pub refused-lengths : (Lengths w h y u v (length s) → ⊥) → 4 ≡ refusalOf w h y u v s
+    pub refused-lengths : (Lengths w h y u v (length s) → ⊥) → 4 ≡ deblockRefusal w h y u v s
     refused-lengths n = stop-lengths w h y u v s (sides-test w h a) (sym (not-so _ (λ e. n (lengths w h y u v (length s) e))))
 
-    pub refused-limit : Lengths w h y u v (length s) → (k : ℕ) → k < recordsIn strengthWidth s → 189 < strengthAt s k .limit → 11 ≡ refusalOf w h y u v s
+    pub refused-limit : Lengths w h y u v (length s) → (k : ℕ) → k < recordsIn strengthWidth s → 189 < strengthAt s k .limit → 11 ≡ deblockRefusal w h y u v s
     refused-limit l k i n =
         stop-limits w h y u v s (sides-test w h a) (lengths-test w h y u v (length s) a l) (sym (not-so _ (λ e. omega (arith, limits s e k i))))
 
@@ -132,7 +132,7 @@ module _ {w h y u v : ℕ} {s : List ℕ} (f : Fine w h y u v s) where
 -- ---- the call: refused, done in the simple kind, done in the other
 module _ (m : Planes) (s : List ℕ) (w h : ℕ) (simple : Bool) where
   abbrev bad : ℕ
-  bad = refusalOf w h (length (m .y)) (length (m .u)) (length (m .v)) s
+  bad = deblockRefusal w h (length (m .y)) (length (m .u)) (length (m .v)) s
 
   pub deblock-refused : (k : ℕ) → bad ≡ suc k → deblockOf m s w h simple ≡ record { answer = Refused (suc k); planes = m }
   unfolding deblockOf
@@ -150,12 +150,12 @@ module _ (m : Planes) (s : List ℕ) (w h : ℕ) (simple : Bool) where
   done e f = rw (f, ← e, deblockOf)
 
   -- its number, and that a refusal changes nothing
-  pub deblock-number : bad ≡ numberOf (deblockOf m s w h simple .answer)
+  pub deblock-number : bad ≡ deblockNumberOf (deblockOf m s w h simple .answer)
   deblock-number = go bad refl
     where
-      go : (k : ℕ) → bad ≡ k → k ≡ numberOf (deblockOf m s w h simple .answer)
-      go zero e = ap (λ (o : Outcome). numberOf (o .answer)) (done (sym e) refl)
-      go (suc k) e = ap (λ (o : Outcome). numberOf (o .answer)) (sym (deblock-refused k e))
+      go : (k : ℕ) → bad ≡ k → k ≡ deblockNumberOf (deblockOf m s w h simple .answer)
+      go zero e = ap (λ (o : Outcome). deblockNumberOf (o .answer)) (done (sym e) refl)
+      go (suc k) e = ap (λ (o : Outcome). deblockNumberOf (o .answer)) (sym (deblock-refused k e))
 
   pub deblock-unchanged : (bad ≡ 0 → ⊥) → deblockOf m s w h simple .planes ≡ m
   deblock-unchanged z = ap (λ (o : Outcome). o .planes) (sym (refused refl z))

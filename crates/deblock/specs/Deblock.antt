@@ -42,9 +42,9 @@ unfoldable pub acrossOf : List ℕ → (at step : ℕ) → List ℕ
 acrossOf p at step = build 8 (λ k. getD p (at + k * step) 0)
 
 -- p with samples 1 to n of e in their places
-unfoldable pub laidOf : List ℕ → (at step : ℕ) (e : List ℕ) (n : ℕ) → List ℕ
-laidOf p at step e zero = p
-laidOf p at step e (suc n) = set (laidOf p at step e n) (at + suc n * step) (getD e (suc n) 0)
+unfoldable pub laidBack : List ℕ → (at step : ℕ) (e : List ℕ) (n : ℕ) → List ℕ
+laidBack p at step e zero = p
+laidBack p at step e (suc n) = set (laidBack p at step e n) (at + suc n * step) (getD e (suc n) 0)
 
 -- the eight as the kernel leaves them
 unfoldable pub keptOf : Edge → List ℕ → List ℕ
@@ -52,18 +52,18 @@ keptOf g e = filterOf e (g .simple) (g .outer) (g .limit) (g .inner) (g .thresho
 
 -- those around the edge are laid back; the outermost two, p3 and q3, are only read, since the kernel never changes them (`position-at`)
 unfoldable pub positionOf : Edge → (at step : ℕ) → Change
-positionOf g at step p = laidOf p at step (keptOf g (acrossOf p at step)) 6
+positionOf g at step p = laidBack p at step (keptOf g (acrossOf p at step)) 6
 
 -- ---- one edge (section 15.1): n positions, `along` apart
 unfoldable pub sweepOf : Edge → (at along step n : ℕ) → Change
 sweepOf g at along step n = turns (λ i. positionOf g (at + i * along) step) n
 
 -- the edge left of column x in the n rows from y on, and the edge above row y in the n columns from x on
-unfoldable pub verticalOf : Edge → (w x y n : ℕ) → Change
-verticalOf g w x y n = sweepOf g (y * w + x - 4) w 1 n
+unfoldable pub verticalEdges : Edge → (w x y n : ℕ) → Change
+verticalEdges g w x y n = sweepOf g (y * w + x - 4) w 1 n
 
-unfoldable pub horizontalOf : Edge → (w x y n : ℕ) → Change
-horizontalOf g w x y n = sweepOf g ((y - 4) * w + x) 1 w n
+unfoldable pub horizontalEdges : Edge → (w x y n : ℕ) → Change
+horizontalEdges g w x y n = sweepOf g ((y - 4) * w + x) 1 w n
 
 -- ---- one macroblock: its n by n square in a plane, 16 of luma and 8 of chroma, at the given column and row of macroblocks
 -- what the kernel is told of an edge (section 15.2): the edges to other macroblocks have the limit raised by 4
@@ -75,10 +75,10 @@ innerEdge simple t = record { simple = simple; outer = false; limit = t .limit; 
 
 -- the inner edges lie four samples apart: at 4, 8, 12 in luma, at 4 in chroma
 unfoldable pub verticalsOf : Edge → (w x y n : ℕ) → Change
-verticalsOf g w x y n = turns (λ j. verticalOf g w (x + 4 * j + 4) y n) (n / 4 - 1)
+verticalsOf g w x y n = turns (λ j. verticalEdges g w (x + 4 * j + 4) y n) (n / 4 - 1)
 
 unfoldable pub horizontalsOf : Edge → (w x y n : ℕ) → Change
-horizontalsOf g w x y n = turns (λ j. horizontalOf g w x (y + 4 * j + 4) n) (n / 4 - 1)
+horizontalsOf g w x y n = turns (λ j. horizontalEdges g w x (y + 4 * j + 4) n) (n / 4 - 1)
 
 -- in the order of section 15.1: the left edge unless column 0, inner vertical edges, the top edge unless row 0, inner horizontal edges; the
 -- inner ones where the inside byte is 1
@@ -87,19 +87,19 @@ squareOf simple t w n column row p =
     let x = column * n in
     let y = row * n in
     let inside = eqb (t .inside) 1 in
-    let a = when (not (eqb column 0)) (verticalOf (outerEdge simple t) w x y n) p in
+    let a = when (not (eqb column 0)) (verticalEdges (outerEdge simple t) w x y n) p in
     let b = when inside (verticalsOf (innerEdge simple t) w x y n) a in
-    let c = when (not (eqb row 0)) (horizontalOf (outerEdge simple t) w x y n) b in
+    let c = when (not (eqb row 0)) (horizontalEdges (outerEdge simple t) w x y n) b in
     when inside (horizontalsOf (innerEdge simple t) w x y n) c
 
 -- ---- one plane: the first m macroblocks in raster order, `wide` to a row; a limit of 0 means no filtering
-unfoldable pub blockOf : Bool → (strengths : List ℕ) → (n wide k : ℕ) → Change
-blockOf simple strengths n wide k =
+unfoldable pub macroblockEdges : Bool → (strengths : List ℕ) → (n wide k : ℕ) → Change
+macroblockEdges simple strengths n wide k =
     let t = strengthAt strengths k in
     when (not (eqb (t .limit) 0)) (squareOf simple t (wide * n) n (k % wide) (k / wide))
 
 unfoldable pub rasterOf : Bool → (strengths : List ℕ) → (n wide m : ℕ) → Change
-rasterOf simple strengths n wide m = turns (blockOf simple strengths n wide) m
+rasterOf simple strengths n wide m = turns (macroblockEdges simple strengths n wide) m
 
 -- ---- the picture: the simple kind (section 15.2) touches luma only
 unfoldable pub planesDeblocked : Bool → (strengths : List ℕ) → (wide high : ℕ) → Planes → Planes
@@ -112,8 +112,8 @@ planesDeblocked simple strengths wide high m = record {
 -- ---- the call
 -- 1: the sides: `sidesOf` of crate tile
 -- 4: the lengths of what is lent
-unfoldable pub lengthsOf : (w h y u v strengths : ℕ) → Bool
-lengthsOf w h y u v strengths = lumaFine w h y && chromaFine w h u && chromaFine w h v && strengthsFine w h strengths
+unfoldable pub deblockLengths : (w h y u v strengths : ℕ) → Bool
+deblockLengths w h y u v strengths = lumaFine w h y && chromaFine w h u && chromaFine w h v && strengthsFine w h strengths
 
 -- as a fact
 pub record Lengths (w h y u v s : ℕ) : Type 0 where
@@ -127,9 +127,9 @@ unfoldable pub limitsOf : List ℕ → Bool
 limitsOf strengths = allBelow (recordsIn strengthWidth strengths) (λ k. leb (strengthAt strengths k .limit) 189)
 
 -- the number of the first check that fails, 0 where none does
-unfoldable pub refusalOf : (w h y u v : ℕ) (strengths : List ℕ) → ℕ
-refusalOf w h y u v strengths =
-    cond (sidesOf w h) (cond (lengthsOf w h y u v (length strengths)) (cond (limitsOf strengths) 0 11) 4) 1
+unfoldable pub deblockRefusal : (w h y u v : ℕ) (strengths : List ℕ) → ℕ
+deblockRefusal w h y u v strengths =
+    cond (sidesOf w h) (cond (deblockLengths w h y u v (length strengths)) (cond (limitsOf strengths) 0 11) 4) 1
 
 -- what the call answers, and the planes after it
 pub record Outcome : Type 0 where
@@ -139,12 +139,12 @@ pub record Outcome : Type 0 where
 -- THE CALL: a bad argument is refused by number and nothing changes; else all planes are deblocked
 unfoldable pub deblockOf : Planes → (strengths : List ℕ) → (w h : ℕ) (simple : Bool) → Outcome
 deblockOf m strengths w h simple =
-    elim (refusalOf w h (length (m .y)) (length (m .u)) (length (m .v)) strengths) [
+    elim (deblockRefusal w h (length (m .y)) (length (m .u)) (length (m .v)) strengths) [
       | zero ↦ record { answer = Done; planes = planesDeblocked simple strengths (w / 16) (h / 16) m }
       | suc n ↦ record { answer = Refused (suc n); planes = m }
     ]
 
 -- the answer's number
-abbrev pub numberOf : Deblocked → ℕ
-numberOf Done = 0
-numberOf (Refused n) = n
+abbrev pub deblockNumberOf : Deblocked → ℕ
+deblockNumberOf Done = 0
+deblockNumberOf (Refused n) = n

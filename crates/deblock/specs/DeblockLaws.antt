@@ -18,10 +18,10 @@ use Rattle.numbers.specs.Tests.{lt-or, never}
 use Rattle.numbers.specs.Clamp.{clipZ}
 use Rattle.numbers.specs.Lists.{build, _∷≡_, length-build, getD-build, getD-build-past}
 use Rattle.filter.specs.declared.answers.Rule.{Rule}
-use Rattle.filter.specs.Kernel.{samplesOf, ruleOf, stepsOf, movedOf, filterOf}
+use Rattle.filter.specs.Kernel.{samplesAcross, ruleOf, stepsOf, movedOf, filterOf}
 use Rattle.filter.specs.KernelLaws.{Bytes, clip-still, outermost-stay}
 use Rattle.deblock.specs.declared.edges.Edge.{Edge}
-use Rattle.deblock.specs.Deblock.{Change, turns, when, acrossOf, laidOf, keptOf, positionOf, sweepOf, verticalOf, horizontalOf, verticalsOf, horizontalsOf, outerEdge, innerEdge, squareOf, blockOf, rasterOf}
+use Rattle.deblock.specs.Deblock.{Change, turns, when, acrossOf, laidBack, keptOf, positionOf, sweepOf, verticalEdges, horizontalEdges, verticalsOf, horizontalsOf, outerEdge, innerEdge, squareOf, macroblockEdges, rasterOf}
 
 -- ---- changes one after the other
 pub turns-none : (f : ℕ → Change) (p : List ℕ) → turns f 0 p ≡ p
@@ -100,21 +100,21 @@ module _ (p : List ℕ) (at step : ℕ) where
   ]
 
   module _ (e : List ℕ) where
-    laid-first : laidOf p at step e 0 ≡ p
-    unfolding laidOf
+    laid-first : laidBack p at step e 0 ≡ p
+    unfolding laidBack
     laid-first = refl
 
-    pub length-laid : (n : ℕ) → length (laidOf p at step e n) ≡ length p
-    unfolding laidOf
+    pub length-laid : (n : ℕ) → length (laidBack p at step e n) ≡ length p
+    unfolding laidBack
     length-laid zero = refl
-    length-laid (suc n) = length-set (laidOf p at step e n) (at + suc n * step) (getD e (suc n) 0) ∙ length-laid n
+    length-laid (suc n) = length-set (laidBack p at step e n) (at + suc n * step) (getD e (suc n) 0) ∙ length-laid n
 
     -- a place that none of the n is
-    pub laid-other : (n i : ℕ) → ((k : ℕ) → k ≤ n → 0 < k → i ≡ at + k * step → ⊥) → getD (laidOf p at step e n) i 0 ≡ getD p i 0
-    unfolding laidOf
+    pub laid-other : (n i : ℕ) → ((k : ℕ) → k ≤ n → 0 < k → i ≡ at + k * step → ⊥) → getD (laidBack p at step e n) i 0 ≡ getD p i 0
+    unfolding laidBack
     laid-other zero i h = refl
     laid-other (suc n) i h =
-        getD-set-other (laidOf p at step e n) (at + suc n * step) i (getD e (suc n) 0) 0 (h (suc n) (omega arith) (omega arith)) ∙ laid-other n i (λ k l. h k (omega arith))
+        getD-set-other (laidBack p at step e n) (at + suc n * step) i (getD e (suc n) 0) 0 (h (suc n) (omega arith) (omega arith)) ∙ laid-other n i (λ k l. h k (omega arith))
 
     -- a sample that stays need not be laid
     abbrev Stays : ℕ → Type 0
@@ -124,42 +124,42 @@ module _ (p : List ℕ) (at step : ℕ) where
       further : (n m : ℕ) → n < m → at + m * step ≡ at + n * step → ⊥
       further n m h z = omega (arith, mul-le-mul-right {m = suc n} {n = m} step h, suc-mul n step)
 
-      skip : (n : ℕ) → Stays (suc n) → laidOf p at step e (suc n) ≡ laidOf p at step e n
-      unfolding laidOf
+      skip : (n : ℕ) → Stays (suc n) → laidBack p at step e (suc n) ≡ laidBack p at step e n
+      unfolding laidBack
       skip n h =
-          let v : getD e (suc n) 0 ≡ getD (laidOf p at step e n) (at + suc n * step) 0 = h ∙ sym (laid-other n (at + suc n * step) (λ k l o. further k (suc n) (omega arith))) in
-          rw v (set-getD (laidOf p at step e n) (at + suc n * step) 0)
+          let v : getD e (suc n) 0 ≡ getD (laidBack p at step e n) (at + suc n * step) 0 = h ∙ sym (laid-other n (at + suc n * step) (λ k l o. further k (suc n) (omega arith))) in
+          rw v (set-getD (laidBack p at step e n) (at + suc n * step) 0)
 
-      mid-four : laidOf p at step e 5 ≡ four (laidOf p at step e 1) at step e
-      unfolding laidOf
+      mid-four : laidBack p at step e 5 ≡ four (laidBack p at step e 1) at step e
+      unfolding laidBack
       mid-four = refl
 
-      mid-two : laidOf p at step e 4 ≡ two (laidOf p at step e 2) at step e
-      unfolding laidOf
+      mid-two : laidBack p at step e 4 ≡ two (laidBack p at step e 2) at step e
+      unfolding laidBack
       mid-two = refl
 
       -- where the others stay, laying none, two, four or six of them is laying all
-      pub laid-none : ((k : ℕ) → k < 8 → Stays k) → p ≡ laidOf p at step e 6
+      pub laid-none : ((k : ℕ) → k < 8 → Stays k) → p ≡ laidBack p at step e 6
       laid-none h =
           sym (skip 5 (h 6 (omega arith)) ∙ skip 4 (h 5 (omega arith)) ∙ skip 3 (h 4 (omega arith)) ∙ skip 2 (h 3 (omega arith)) ∙ skip 1 (h 2 (omega arith)) ∙ skip 0 (h 1 (omega arith)) ∙ laid-first)
 
-      pub laid-six : six p at step e ≡ laidOf p at step e 6
-      unfolding laidOf
+      pub laid-six : six p at step e ≡ laidBack p at step e 6
+      unfolding laidBack
       laid-six = ap (λ (i : ℕ). set (four (set p i (getD e 1 0)) at step e) (at + 6 * step) (getD e 6 0)) {x = at + step} {y = at + 1 * step} (omega arith)
 
-      pub laid-four : Stays 1 → Stays 6 → four p at step e ≡ laidOf p at step e 6
+      pub laid-four : Stays 1 → Stays 6 → four p at step e ≡ laidBack p at step e 6
       laid-four b c = sym (skip 5 c ∙ mid-four ∙ ap (λ (q : List ℕ). four q at step e) (skip 0 b ∙ laid-first))
 
-      pub laid-two : Stays 1 → Stays 2 → Stays 5 → Stays 6 → two p at step e ≡ laidOf p at step e 6
+      pub laid-two : Stays 1 → Stays 2 → Stays 5 → Stays 6 → two p at step e ≡ laidBack p at step e 6
       laid-two b c d f = sym (skip 5 f ∙ skip 4 d ∙ mid-two ∙ ap (λ (q : List ℕ). two q at step e) (skip 1 c ∙ skip 0 b ∙ laid-first))
 
       -- each of them stands in its place
-      pub laid-at : (n k : ℕ) → k ≤ n → 0 < k → at + n * step < length p → getD (laidOf p at step e n) (at + k * step) 0 ≡ getD e k 0
-      unfolding laidOf
+      pub laid-at : (n k : ℕ) → k ≤ n → 0 < k → at + n * step < length p → getD (laidBack p at step e n) (at + k * step) 0 ≡ getD e k 0
+      unfolding laidBack
       laid-at zero k h o l = absurd (omega arith)
       laid-at (suc n) k h o l = elim (lt-or k (suc n)) [
-        | inl g ↦ getD-set-other (laidOf p at step e n) (at + suc n * step) (at + k * step) (getD e (suc n) 0) 0 (λ z. further k (suc n) g (sym z)) ∙ laid-at n k (omega arith) o (omega (arith, suc-mul n step))
-        | inr g ↦ let z : k ≡ suc n = omega arith in rw z (getD-set-same (laidOf p at step e n) (at + suc n * step) (getD e (suc n) 0) 0 (rw (length-laid n) l))
+        | inl g ↦ getD-set-other (laidBack p at step e n) (at + suc n * step) (at + k * step) (getD e (suc n) 0) 0 (λ z. further k (suc n) g (sym z)) ∙ laid-at n k (omega arith) o (omega (arith, suc-mul n step))
+        | inr g ↦ let z : k ≡ suc n = omega arith in rw z (getD-set-same (laidBack p at step e n) (at + suc n * step) (getD e (suc n) 0) 0 (rw (length-laid n) l))
       ]
 
 -- ---- what each rule leaves alone
@@ -173,29 +173,29 @@ still e s k b h z = getD-build 8 (λ (i : ℕ). clipZ (pos (getD e i 0) +ℤ get
 
 -- ---- one position by the rule that acts on its eight samples e
 module _ (g : Edge) (p : List ℕ) (at step : ℕ) (b : Bytes p) (some : 0 < step) {e : List ℕ} (f : e ≡ acrossOf p at step) (R : Rule)
-    (m : ruleOf (samplesOf e) (g .simple) (g .outer) (g .limit) (g .inner) (g .threshold) ≡ R) where
-  kept : keptOf g (acrossOf p at step) ≡ movedOf e (stepsOf R (samplesOf e))
+    (m : ruleOf (samplesAcross e) (g .simple) (g .outer) (g .limit) (g .inner) (g .threshold) ≡ R) where
+  kept : keptOf g (acrossOf p at step) ≡ movedOf e (stepsOf R (samplesAcross e))
   unfolding keptOf filterOf
   kept = rw (← f, m)
 
   eight : Bytes e
   eight = rw f (across-bytes p at step b)
 
-  moves : laidOf p at step (movedOf e (stepsOf R (samplesOf e))) 6 ≡ positionOf g at step p
+  moves : laidBack p at step (movedOf e (stepsOf R (samplesAcross e))) 6 ≡ positionOf g at step p
   unfolding positionOf
   moves = rw kept
 
   -- the rule has no step for sample k
   abbrev Unmoved : ℕ → Type 0
-  Unmoved k = getD (stepsOf R (samplesOf e)) k (pos 0) ≡ pos 0
+  Unmoved k = getD (stepsOf R (samplesAcross e)) k (pos 0) ≡ pos 0
 
-  stays : (k : ℕ) → k < 8 → Unmoved k → getD (movedOf e (stepsOf R (samplesOf e))) k 0 ≡ getD p (at + k * step) 0
+  stays : (k : ℕ) → k < 8 → Unmoved k → getD (movedOf e (stepsOf R (samplesAcross e))) k 0 ≡ getD p (at + k * step) 0
   stays k h z = still e _ k eight h z ∙ ap (λ (l : List ℕ). getD l k 0) f ∙ across-at p at step k h
 
   pub position-none : ((k : ℕ) → k < 8 → Unmoved k) → p ≡ positionOf g at step p
   position-none z = laid-none p at step _ some (λ k h. stays k h (z k h)) ∙ moves
 
-  module _ {out : List ℕ} (o : out ≡ movedOf e (stepsOf R (samplesOf e))) where
+  module _ {out : List ℕ} (o : out ≡ movedOf e (stepsOf R (samplesAcross e))) where
     pub position-two : Unmoved 1 → Unmoved 2 → Unmoved 5 → Unmoved 6 → two p at step out ≡ positionOf g at step p
     position-two z1 z2 z5 z6 =
         rw o (laid-two p at step _ some (stays 1 (omega arith) z1) (stays 2 (omega arith) z2) (stays 5 (omega arith) z5) (stays 6 (omega arith) z6) ∙ moves)
@@ -245,18 +245,18 @@ not-zero k e = eqb-false k 0 (falsely (eqb k 0) e)
 
 module _ {Φ : Change → Type 0} (z : Closed Φ) where
   module _ (g : Edge) (w x y n : ℕ) where
-    pub verticals-closed : ((j : ℕ) → j < n / 4 - 1 → Φ (verticalOf g w (x + 4 * j + 4) y n)) → Φ (verticalsOf g w x y n)
+    pub verticals-closed : ((j : ℕ) → j < n / 4 - 1 → Φ (verticalEdges g w (x + 4 * j + 4) y n)) → Φ (verticalsOf g w x y n)
     unfolding verticalsOf
     verticals-closed h = turns-closed z _ (n / 4 - 1) h
 
-    pub horizontals-closed : ((j : ℕ) → j < n / 4 - 1 → Φ (horizontalOf g w x (y + 4 * j + 4) n)) → Φ (horizontalsOf g w x y n)
+    pub horizontals-closed : ((j : ℕ) → j < n / 4 - 1 → Φ (horizontalEdges g w x (y + 4 * j + 4) n)) → Φ (horizontalsOf g w x y n)
     unfolding horizontalsOf
     horizontals-closed h = turns-closed z _ (n / 4 - 1) h
 
   pub square-closed : (simple : Bool) (t : Strength) (w n column row : ℕ)
-      → ((column ≡ 0 → ⊥) → Φ (verticalOf (outerEdge simple t) w (column * n) (row * n) n))
+      → ((column ≡ 0 → ⊥) → Φ (verticalEdges (outerEdge simple t) w (column * n) (row * n) n))
       → Φ (verticalsOf (innerEdge simple t) w (column * n) (row * n) n)
-      → ((row ≡ 0 → ⊥) → Φ (horizontalOf (outerEdge simple t) w (column * n) (row * n) n))
+      → ((row ≡ 0 → ⊥) → Φ (horizontalEdges (outerEdge simple t) w (column * n) (row * n) n))
       → Φ (horizontalsOf (innerEdge simple t) w (column * n) (row * n) n)
       → Φ (squareOf simple t w n column row)
   unfolding squareOf
@@ -279,18 +279,18 @@ unfolding sweepOf
 length-edge g at along step n = turns-closed even-closed _ n (λ i h. length-position g (at + i * along) step)
 
 module _ (g : Edge) (w x y n : ℕ) where
-  pub length-vertical : Even (verticalOf g w x y n)
-  unfolding verticalOf
+  pub length-vertical : Even (verticalEdges g w x y n)
+  unfolding verticalEdges
   length-vertical = length-edge g _ w 1 n
 
-  pub length-horizontal : Even (horizontalOf g w x y n)
-  unfolding horizontalOf
+  pub length-horizontal : Even (horizontalEdges g w x y n)
+  unfolding horizontalEdges
   length-horizontal = length-edge g _ 1 w n
 
-pub length-verticals : (g : Edge) (w x y n : ℕ) (k : ℕ) → Even (turns (λ (j : ℕ). verticalOf g w (x + 4 * j + 4) y n) k)
+pub length-verticals : (g : Edge) (w x y n : ℕ) (k : ℕ) → Even (turns (λ (j : ℕ). verticalEdges g w (x + 4 * j + 4) y n) k)
 length-verticals g w x y n k = turns-closed even-closed _ k (λ j h. length-vertical g w (x + 4 * j + 4) y n)
 
-pub length-horizontals : (g : Edge) (w x y n : ℕ) (k : ℕ) → Even (turns (λ (j : ℕ). horizontalOf g w x (y + 4 * j + 4) n) k)
+pub length-horizontals : (g : Edge) (w x y n : ℕ) (k : ℕ) → Even (turns (λ (j : ℕ). horizontalEdges g w x (y + 4 * j + 4) n) k)
 length-horizontals g w x y n k = turns-closed even-closed _ k (λ j h. length-horizontal g w x (y + 4 * j + 4) n)
 
 pub length-inner-v : (g : Edge) (w x y n : ℕ) → Even (verticalsOf g w x y n)
@@ -303,8 +303,8 @@ pub length-square : (simple : Bool) (t : Strength) (w n column row : ℕ) → Ev
 length-square simple t w n column row =
     square-closed even-closed simple t w n column row (λ e. length-vertical _ w _ _ n) (length-inner-v _ w _ _ n) (λ e. length-horizontal _ w _ _ n) (length-inner-h _ w _ _ n)
 
-pub length-block : (simple : Bool) (strengths : List ℕ) (n wide k : ℕ) → Even (blockOf simple strengths n wide k)
-unfolding blockOf
+pub length-block : (simple : Bool) (strengths : List ℕ) (n wide k : ℕ) → Even (macroblockEdges simple strengths n wide k)
+unfolding macroblockEdges
 length-block simple strengths n wide k = when-closed even-closed _ _ (λ e. length-square simple _ _ n _ _)
 
 pub length-plane : (simple : Bool) (strengths : List ℕ) (n wide m : ℕ) → Even (rasterOf simple strengths n wide m)
@@ -319,9 +319,9 @@ when-long b f p e h = rw e (length-when b f h p)
 
 -- ---- a square by its four parts
 pub square-is : (simple : Bool) (t : Strength) (w n column row : ℕ) (p : List ℕ) {a b c d : List ℕ}
-    → a ≡ when (not (eqb column 0)) (verticalOf (outerEdge simple t) w (column * n) (row * n) n) p
+    → a ≡ when (not (eqb column 0)) (verticalEdges (outerEdge simple t) w (column * n) (row * n) n) p
     → b ≡ when (eqb (t .inside) 1) (verticalsOf (innerEdge simple t) w (column * n) (row * n) n) a
-    → c ≡ when (not (eqb row 0)) (horizontalOf (outerEdge simple t) w (column * n) (row * n) n) b
+    → c ≡ when (not (eqb row 0)) (horizontalEdges (outerEdge simple t) w (column * n) (row * n) n) b
     → d ≡ when (eqb (t .inside) 1) (horizontalsOf (innerEdge simple t) w (column * n) (row * n) n) c
     → d ≡ squareOf simple t w n column row p
 unfolding squareOf
@@ -333,17 +333,17 @@ module _ (simple : Bool) (strengths : List ℕ) (n wide : ℕ) where
   unfolding rasterOf
   plane-none p = turns-none _ p
 
-  pub plane-next : (k : ℕ) (p : List ℕ) → blockOf simple strengths n wide k (rasterOf simple strengths n wide k p) ≡ rasterOf simple strengths n wide (k + 1) p
+  pub plane-next : (k : ℕ) (p : List ℕ) → macroblockEdges simple strengths n wide k (rasterOf simple strengths n wide k p) ≡ rasterOf simple strengths n wide (k + 1) p
   unfolding rasterOf
   plane-next k p = turns-next _ k p
 
-  pub block-yes : (k : ℕ) (p : List ℕ) {t : Strength} {q : List ℕ} → t ≡ strengthAt strengths k → (t .limit ≡ 0 → ⊥) → q ≡ squareOf simple t (wide * n) n (k % wide) (k / wide) p → q ≡ blockOf simple strengths n wide k p
-  unfolding blockOf
+  pub block-yes : (k : ℕ) (p : List ℕ) {t : Strength} {q : List ℕ} → t ≡ strengthAt strengths k → (t .limit ≡ 0 → ⊥) → q ≡ squareOf simple t (wide * n) n (k % wide) (k / wide) p → q ≡ macroblockEdges simple strengths n wide k p
+  unfolding macroblockEdges
   block-yes k p e h s = when-yes _ _ (ap not (ne-eqb _ 0 (rw e at h))) (rw e at s)
 
-  pub block-no : (k : ℕ) {t : Strength} {p q : List ℕ} → t ≡ strengthAt strengths k → t .limit ≡ 0 → q ≡ p → q ≡ blockOf simple strengths n wide k p
-  unfolding blockOf
+  pub block-no : (k : ℕ) {t : Strength} {p q : List ℕ} → t ≡ strengthAt strengths k → t .limit ≡ 0 → q ≡ p → q ≡ macroblockEdges simple strengths n wide k p
+  unfolding macroblockEdges
   block-no k e h s = when-no _ _ (ap not (eq-eqb _ 0 (rw e at h))) s
 
-  pub plane-turn : (k : ℕ) (p : List ℕ) {q r : List ℕ} → q ≡ rasterOf simple strengths n wide k p → r ≡ blockOf simple strengths n wide k q → r ≡ rasterOf simple strengths n wide (k + 1) p
+  pub plane-turn : (k : ℕ) (p : List ℕ) {q r : List ℕ} → q ≡ rasterOf simple strengths n wide k p → r ≡ macroblockEdges simple strengths n wide k q → r ≡ rasterOf simple strengths n wide (k + 1) p
   plane-turn k p e h = h ∙ rw e (plane-next k p)

@@ -18,7 +18,7 @@ use Rattle.lent.specs.Records.{strengthAt}
 use Rattle.planes.specs.Predict.{Size}
 use Rattle.planes.specs.Places.{size-some, next-row}
 use Rattle.deblock.specs.declared.edges.Edge.{Edge}
-use Rattle.deblock.specs.Deblock.{Change, turns, when, acrossOf, laidOf, keptOf, positionOf, sweepOf, verticalOf, horizontalOf, squareOf, blockOf, rasterOf}
+use Rattle.deblock.specs.Deblock.{Change, turns, when, acrossOf, laidBack, keptOf, positionOf, sweepOf, verticalEdges, horizontalEdges, squareOf, macroblockEdges, rasterOf}
 use Rattle.deblock.specs.DeblockLaws.{Closed, turns-closed, when-closed, verticals-closed, horizontals-closed, square-closed, laid-other, block-no}
 use Rattle.deblock.specs.Located.{size-eight, inner-few, past-first, column-in, row-in}
 
@@ -40,8 +40,8 @@ module _ {S : ℕ → Type 0} where
         | inr z ↦ getD-set-other p i j v 0 z ∙ t .same j h ∙ sym (getD-set-other q i j u 0 z)
       ]
 
-  twin-laid : {p q : List ℕ} (at step : ℕ) {e f : List ℕ} → e ≡ f → Twin S p q → (n : ℕ) → Twin S (laidOf p at step e n) (laidOf q at step f n)
-  unfolding laidOf
+  twin-laid : {p q : List ℕ} (at step : ℕ) {e f : List ℕ} → e ≡ f → Twin S p q → (n : ℕ) → Twin S (laidBack p at step e n) (laidBack q at step f n)
+  unfolding laidBack
   twin-laid at step w t zero = t
   twin-laid at step w t (suc n) = twin-set (at + suc n * step) (ap (λ (l : List ℕ). getD l (suc n) 0) w) (twin-laid at step w t n)
 
@@ -57,36 +57,36 @@ unfolding positionOf acrossOf
 position-on S g at step h p q t = twin-laid at step (ap (keptOf g) (build-same 8 _ _ (λ k l. t .same (at + k * step) (h k l)))) t 6
 
 -- ---- a change that moves nothing in the places S
-abbrev pub Off : (ℕ → Type 0) → Change → Type 0
-Off S f = (p : List ℕ) (i : ℕ) → S i → getD (f p) i 0 ≡ getD p i 0
+abbrev pub OffPlaces : (ℕ → Type 0) → Change → Type 0
+OffPlaces S f = (p : List ℕ) (i : ℕ) → S i → getD (f p) i 0 ≡ getD p i 0
 
-off-closed : (S : ℕ → Type 0) → Closed (Off S)
+off-closed : (S : ℕ → Type 0) → Closed (OffPlaces S)
 off-closed S = record { none = λ p i h. refl; then = λ f g h k p i l. k (f p) i l ∙ h p i l }
 
-position-off : (S : ℕ → Type 0) (g : Edge) (at step : ℕ) → ((k : ℕ) → 0 < k → k < 7 → S (at + k * step) → ⊥) → Off S (positionOf g at step)
+position-off : (S : ℕ → Type 0) (g : Edge) (at step : ℕ) → ((k : ℕ) → 0 < k → k < 7 → S (at + k * step) → ⊥) → OffPlaces S (positionOf g at step)
 unfolding positionOf
 position-off S g at step h p i s = laid-other p at step _ 6 i (λ k l o e. h k o (omega arith) (rw e at s))
 
 -- ---- THE LAW OF AN EDGE. Sample k of position j of an edge: p3, p2, p1, p0 and q0, q1, q2, q3 are 0 to 7
 module _ (g : Edge) (at along step n : ℕ) where
-  abbrev pub sampleOf : (j k : ℕ) → ℕ
-  sampleOf j k = at + j * along + k * step
+  abbrev pub samplePlace : (j k : ℕ) → ℕ
+  samplePlace j k = at + j * along + k * step
 
   -- an edge moves at most three samples on either side of it: no place that is none of these is moved
-  pub edge-moves-six : (p : List ℕ) (i : ℕ) → ((j k : ℕ) → j < n → 0 < k → k < 7 → i ≡ sampleOf j k → ⊥) → getD (sweepOf g at along step n p) i 0 ≡ getD p i 0
+  pub edge-moves-six : (p : List ℕ) (i : ℕ) → ((j k : ℕ) → j < n → 0 < k → k < 7 → i ≡ samplePlace j k → ⊥) → getD (sweepOf g at along step n p) i 0 ≡ getD p i 0
   unfolding sweepOf
   edge-moves-six p i h =
       turns-closed (off-closed (λ x. x ≡ i)) _ n (λ j l. position-off (λ x. x ≡ i) g (at + j * along) step (λ k o m e. h j k l o m (sym e))) p i refl
 
   -- and it looks at four on either side: those decide what becomes of them
-  pub edge-looks-at-eight : (p q : List ℕ) → length p ≡ length q → ((j k : ℕ) → j < n → k < 8 → getD p (sampleOf j k) 0 ≡ getD q (sampleOf j k) 0)
-      → (j k : ℕ) → j < n → k < 8 → getD (sweepOf g at along step n p) (sampleOf j k) 0 ≡ getD (sweepOf g at along step n q) (sampleOf j k) 0
+  pub edge-looks-at-eight : (p q : List ℕ) → length p ≡ length q → ((j k : ℕ) → j < n → k < 8 → getD p (samplePlace j k) 0 ≡ getD q (samplePlace j k) 0)
+      → (j k : ℕ) → j < n → k < 8 → getD (sweepOf g at along step n p) (samplePlace j k) 0 ≡ getD (sweepOf g at along step n q) (samplePlace j k) 0
   unfolding sweepOf
   edge-looks-at-eight p q l h j k a b =
-      turns-closed (on-closed Eight) _ n (λ i o. position-on Eight g (at + i * along) step (λ k m. (i, k, o, m, refl))) p q (record { long = l; same = found }) .same (sampleOf j k) (j, k, a, b, refl)
+      turns-closed (on-closed Eight) _ n (λ i o. position-on Eight g (at + i * along) step (λ k m. (i, k, o, m, refl))) p q (record { long = l; same = found }) .same (samplePlace j k) (j, k, a, b, refl)
     where
       Eight : ℕ → Type 0
-      Eight i = (j : ℕ) × (k : ℕ) × (j < n) × (k < 8) × (i ≡ sampleOf j k)
+      Eight i = (j : ℕ) × (k : ℕ) × (j < n) × (k < 8) × (i ≡ samplePlace j k)
 
       found : (i : ℕ) → Eight i → getD p i 0 ≡ getD q i 0
       found i (j, k, a, b, e) = rw e (h j k a b)
@@ -117,14 +117,14 @@ lies-spot {w} {C} {R} {T} {at} {step} l U k h a b = elim (l .way) [
 
 -- what holds of each position that lies so holds of a macroblock's edges
 module _ {Φ : Change → Type 0} (z : Closed Φ) (w C R T : ℕ) (one : (g : Edge) (at step : ℕ) → Lies w C R T at step → Φ (positionOf g at step)) where
-  vertical-local : (g : Edge) (x y n : ℕ) → 4 ≤ x → x + 4 ≤ C → y + n ≤ R → T ≤ y → Φ (verticalOf g w x y n)
-  unfolding verticalOf sweepOf
+  vertical-local : (g : Edge) (x y n : ℕ) → 4 ≤ x → x + 4 ≤ C → y + n ≤ R → T ≤ y → Φ (verticalEdges g w x y n)
+  unfolding verticalEdges sweepOf
   vertical-local g x y n a b c d =
       turns-closed z _ n
       (λ i h. one g (y * w + x - 4 + i * w) 1 (record { column = x - 4; row = y + i; first = omega (arith, add-mul y i w); way = inl (refl, omega arith, omega arith, omega arith) }))
 
-  horizontal-local : (g : Edge) (x y n : ℕ) → 4 ≤ y → y + 4 ≤ R → x + n ≤ C → T ≤ y - 3 → Φ (horizontalOf g w x y n)
-  unfolding horizontalOf sweepOf
+  horizontal-local : (g : Edge) (x y n : ℕ) → 4 ≤ y → y + 4 ≤ R → x + n ≤ C → T ≤ y - 3 → Φ (horizontalEdges g w x y n)
+  unfolding horizontalEdges sweepOf
   horizontal-local g x y n a b c d =
       turns-closed z _ n
       (λ i h. one g ((y - 4) * w + x + i * 1) w (record { column = x + i; row = y - 4; first = omega arith; way = inr (refl, omega arith, omega arith, omega arith) }))
@@ -139,8 +139,8 @@ module _ {Φ : Change → Type 0} (z : Closed Φ) (w C R T : ℕ) (one : (g : Ed
 
 module _ {Φ : Change → Type 0} (z : Closed Φ) (C R T : ℕ) (simple : Bool) (strengths : List ℕ) (n wide k : ℕ) where
   block-local : ((g : Edge) (at step : ℕ) → Lies (wide * n) C R T at step → Φ (positionOf g at step)) → Size n → k % wide * n + n ≤ C → k / wide * n + n ≤ R → T ≤ k / wide * n - 3
-      → Φ (blockOf simple strengths n wide k)
-  unfolding blockOf
+      → Φ (macroblockEdges simple strengths n wide k)
+  unfolding macroblockEdges
   block-local one s a b c = when-closed z _ _ (λ e. square-local z (wide * n) C R T one simple _ n (k % wide) (k / wide) s a b c)
 
 -- ---- a plane up to macroblock row P, and from there on
@@ -154,8 +154,8 @@ unfolding turns
 turns-same f g zero p h = refl
 turns-same f g (suc n) p h = h n (omega arith) (turns f n p) ∙ ap (g n) (turns-same f g n p (λ k l. h k (omega arith)))
 
-block-same : (simple : Bool) (s t : List ℕ) (n wide k : ℕ) → strengthAt s k ≡ strengthAt t k → (q : List ℕ) → blockOf simple s n wide k q ≡ blockOf simple t n wide k q
-unfolding blockOf
+block-same : (simple : Bool) (s t : List ℕ) (n wide k : ℕ) → strengthAt s k ≡ strengthAt t k → (q : List ℕ) → macroblockEdges simple s n wide k q ≡ macroblockEdges simple t n wide k q
+unfolding macroblockEdges
 block-same simple s t n wide k e q = ap (λ (x : Strength). when (not (eqb (x .limit) 0)) (squareOf simple x (wide * n) n (k % wide) (k / wide)) q) e
 
 raster-same : (simple : Bool) (s t : List ℕ) (n wide m : ℕ) (x : List ℕ) → ((k : ℕ) → k < m → strengthAt s k ≡ strengthAt t k) → rasterOf simple s n wide m x ≡ rasterOf simple t n wide m x
@@ -182,7 +182,7 @@ module _ (simple : Bool) {n wide high P : ℕ} (size : Size n) (some : 0 < wide)
   row-from : (k : ℕ) → P ≤ (wide * P + k) / wide
   row-from k = le-div-iff-mul-le some .1 (omega (arith, mul-comm wide P))
 
-  later-rows : (s : List ℕ) (b : ℕ) → Off Kept (turns (λ k. blockOf simple s n wide (wide * P + k)) b)
+  later-rows : (s : List ℕ) (b : ℕ) → OffPlaces Kept (turns (λ k. macroblockEdges simple s n wide (wide * P + k)) b)
   later-rows s b =
       turns-closed (off-closed Kept) _ b
       (λ k g. block-local (off-closed Kept) (wide * n) ((wide * P + k) / wide * n + n) (P * n - 3) simple s n wide (wide * P + k)
@@ -190,11 +190,11 @@ module _ (simple : Bool) {n wide high P : ℕ} (size : Size n) (some : 0 < wide)
       (λ j o m h. let q = lies-spot e (P * n - 3) j (omega arith) (omega arith) (omega arith) in omega (arith, q .place, mul-le-mul-right {m = P * n - 3} {n = q .row} (wide * n) (q .top))))
       size (column-in wide n (wide * P + k) some) (omega arith) (omega (arith, mul-le-mul-right {m = P} {n = (wide * P + k) / wide} n (row-from k))))
 
-  split : (s : List ℕ) (p : List ℕ) → rasterOf simple s n wide (wide * high) p ≡ turns (λ k. blockOf simple s n wide (wide * P + k)) (wide * high - wide * P) (rasterOf simple s n wide (wide * P) p)
+  split : (s : List ℕ) (p : List ℕ) → rasterOf simple s n wide (wide * high) p ≡ turns (λ k. macroblockEdges simple s n wide (wide * P + k)) (wide * high - wide * P) (rasterOf simple s n wide (wide * P) p)
   unfolding rasterOf
   split s p =
       let e : wide * high ≡ wide * P + (wide * high - wide * P) = omega (arith, mul-le-mul-right {m = P} {n = high} wide l, mul-comm wide P, mul-comm wide high) in
-      ap (λ (m : ℕ). turns (blockOf simple s n wide) m p) e ∙ turns-split (blockOf simple s n wide) (wide * P) (wide * high - wide * P) p
+      ap (λ (m : ℕ). turns (macroblockEdges simple s n wide) m p) e ∙ turns-split (macroblockEdges simple s n wide) (wide * P) (wide * high - wide * P) p
 
   -- THE LAW OF ROWS: two planes that agree in the macroblock rows above row P, with strengths that do, agree there after deblocking too, but
   -- for the lowest three sample rows
@@ -225,7 +225,7 @@ module _ (simple : Bool) (s : List ℕ) {n wide : ℕ} (size : Size n) (some : 0
   own = r / n * wide + c / n
 
   -- no macroblock moves a sample of a later one
-  earlier : (k : ℕ) → k < own → Off Here (blockOf simple s n wide k)
+  earlier : (k : ℕ) → k < own → OffPlaces Here (macroblockEdges simple s n wide k)
   earlier k h =
       block-local (off-closed Here) (k % wide * n + n) (k / wide * n + n) 0 simple s n wide k
       (λ g at step e. position-off Here g at step (λ j o m f. let q = lies-spot e 0 j (omega arith) (omega arith) (omega arith) in past q f))

@@ -27,7 +27,7 @@ pub record Level (len w x y n : ℕ) : Type 0 where
   pub some : 0 < w
 
 -- a plane of wide by high squares of n by n
-pub record Grid (len n wide high : ℕ) : Type 0 where
+pub record PlaneGrid (len n wide high : ℕ) : Type 0 where
   pub size : Size n
   pub across : wide * n ≤ 16384
   pub down : high * n ≤ 16384
@@ -35,7 +35,7 @@ pub record Grid (len n wide high : ℕ) : Type 0 where
 
 -- the same with strengths for each
 pub record Whole (len n wide high : ℕ) (strengths : List ℕ) : Type 0 where
-  pub grid : Grid len n wide high
+  pub grid : PlaneGrid len n wide high
   pub long : length strengths ≡ strengthWidth * (wide * high)
   pub limits : (k : ℕ) → k < wide * high → strengthAt strengths k .limit ≤ 189
 
@@ -90,7 +90,7 @@ module _ (wide n k : ℕ) (some : 0 < wide) where
       let below : k / wide < high = div-lt-iff-lt-mul some .1 (omega (arith, mul-comm wide high)) in
       omega (arith, mul-le-mul-right {m = k / wide + 1} {n = high} n (omega (arith, below)), add-mul (k / wide) 1 n, one-mul n)
 
-module _ {len n wide high : ℕ} (z : Grid len n wide high) (k : ℕ) (h : k < wide * high) where
+module _ {len n wide high : ℕ} (z : PlaneGrid len n wide high) (k : ℕ) (h : k < wide * high) where
   some : 0 < wide
   some = wide-some wide high k h
 

@@ -23,9 +23,9 @@ use Rattle.filter.specs.declared.strengths.Strength.{Strength}
 use Rattle.planes.specs.Predict.{Size}
 use Rattle.planes.specs.Places.{Square, by-size, next-row}
 use Rattle.deblock.specs.declared.edges.Edge.{Edge}
-use Rattle.deblock.specs.Deblock.{Change, turns, when, acrossOf, laidOf, keptOf, positionOf, sweepOf, verticalOf, horizontalOf, verticalsOf, horizontalsOf, outerEdge, innerEdge, squareOf, blockOf, rasterOf}
+use Rattle.deblock.specs.Deblock.{Change, turns, when, acrossOf, laidBack, keptOf, positionOf, sweepOf, verticalEdges, horizontalEdges, verticalsOf, horizontalsOf, outerEdge, innerEdge, squareOf, macroblockEdges, rasterOf}
 use Rattle.deblock.specs.Moves.{total, tap, line, reachOf, most}
-use Rattle.deblock.specs.Located.{Upright, Level, Grid, size-eight, upright-in, level-in, square-left, square-top, square-upright, square-level, past-first, grid-square}
+use Rattle.deblock.specs.Located.{Upright, Level, PlaneGrid, size-eight, upright-in, level-in, square-left, square-top, square-upright, square-level, past-first, grid-square}
 use Rattle.deblock.specs.DeblockLaws.{across-at, across-bytes, length-position, position-off, position-at, not-zero}
 
 -- ---- two samples that lie no further apart than d
@@ -100,10 +100,10 @@ number at step i (suc n) = elim (number at step i n) [
     same : (k m : ℕ) → k < suc m → m ≤ k → k ≡ m
     same k m h l = omega arith
 
-laid-bytes : (p : List ℕ) (at step : ℕ) (e : List ℕ) (n : ℕ) → Bytes p → Bytes e → Bytes (laidOf p at step e n)
-unfolding laidOf
+laid-bytes : (p : List ℕ) (at step : ℕ) (e : List ℕ) (n : ℕ) → Bytes p → Bytes e → Bytes (laidBack p at step e n)
+unfolding laidBack
 laid-bytes p at step e zero b c = b
-laid-bytes p at step e (suc n) b c = set-keeps (λ (v : ℕ). v < 256) (laidOf p at step e n) (at + suc n * step) (getD e (suc n) 0) 0 (c (suc n)) (laid-bytes p at step e n b c)
+laid-bytes p at step e (suc n) b c = set-keeps (λ (v : ℕ). v < 256) (laidBack p at step e n) (at + suc n * step) (getD e (suc n) 0) 0 (c (suc n)) (laid-bytes p at step e n b c)
 
 position-bytes : (g : Edge) (at step : ℕ) (p : List ℕ) → Bytes p → Bytes (positionOf g at step p)
 unfolding positionOf keptOf
@@ -194,8 +194,8 @@ tap-is g k u U e h = let z : k ≡ u + 4 - U = omega arith in ap (λ (m : ℕ). 
 
 module _ (len w x y : ℕ) (within : x < w) (g : Edge) where
   module _ {X Y n : ℕ} where
-    vertical-moves : Upright len w X Y n → Moves len (y * w + x) (total n (λ i. only y (tap (g .simple) (g .outer) X x) (Y + i))) (verticalOf g w X Y n)
-    unfolding verticalOf sweepOf
+    vertical-moves : Upright len w X Y n → Moves len (y * w + x) (total n (λ i. only y (tap (g .simple) (g .outer) X x) (Y + i))) (verticalEdges g w X Y n)
+    unfolding verticalEdges sweepOf
     vertical-moves u = moves-turns _ _ n (λ i h. position-moves g (Y * w + X - 4 + i * w) 1 (y * w + x) _ (omega arith) (omega (arith, upright-in u i h)) (most i h))
       where
         most : (i : ℕ) → i < n → (k : ℕ) → k < 8 → y * w + x ≡ Y * w + X - 4 + i * w + k * 1 → getD (farthest (g .simple) (g .outer)) k 0 ≤ only y (tap (g .simple) (g .outer) X x) (Y + i)
@@ -203,8 +203,8 @@ module _ (len w x y : ℕ) (within : x < w) (g : Edge) where
             let s = same-place {q = Y + i} {r = y} {a = X - 4 + k} {b = x} w (omega (arith, u .left, u .right)) within (omega (arith, add-mul Y i w, u .left)) in
             omega (arith, only-at y (tap (g .simple) (g .outer) X x) (Y + i) (s .0), tap-is g k x X (s .1) (u .left))
 
-    horizontal-moves : Level len w X Y n → Moves len (y * w + x) (total n (λ i. only x (tap (g .simple) (g .outer) Y y) (X + i))) (horizontalOf g w X Y n)
-    unfolding horizontalOf sweepOf
+    horizontal-moves : Level len w X Y n → Moves len (y * w + x) (total n (λ i. only x (tap (g .simple) (g .outer) Y y) (X + i))) (horizontalEdges g w X Y n)
+    unfolding horizontalEdges sweepOf
     horizontal-moves u = moves-turns _ _ n (λ i h. position-moves g ((Y - 4) * w + X + i * 1) w (y * w + x) _ (u .some) (omega (arith, level-in u i h)) (most i h))
       where
         most : (i : ℕ) → i < n → (k : ℕ) → k < 8 → y * w + x ≡ (Y - 4) * w + X + i * 1 + k * w → getD (farthest (g .simple) (g .outer)) k 0 ≤ only x (tap (g .simple) (g .outer) Y y) (X + i)
@@ -213,10 +213,10 @@ module _ (len w x y : ℕ) (within : x < w) (g : Edge) where
             omega (arith, only-at x (tap (g .simple) (g .outer) Y y) (X + i) (s .1), tap-is g k y Y (s .0) (u .above))
 
   -- an edge as long as a macroblock, by the macroblock that it belongs to
-  vertical-by : {X n : ℕ} (r : ℕ) → 0 < n → Upright len w X (r * n) n → Moves len (y * w + x) (only (y / n) (tap (g .simple) (g .outer) X x) r) (verticalOf g w X (r * n) n)
+  vertical-by : {X n : ℕ} (r : ℕ) → 0 < n → Upright len w X (r * n) n → Moves len (y * w + x) (only (y / n) (tap (g .simple) (g .outer) X x) r) (verticalEdges g w X (r * n) n)
   vertical-by {X} {n} r some u = moves-more (one-line n _ r y some) (vertical-moves u)
 
-  horizontal-by : {Y n : ℕ} (c : ℕ) → 0 < n → Level len w (c * n) Y n → Moves len (y * w + x) (only (x / n) (tap (g .simple) (g .outer) Y y) c) (horizontalOf g w (c * n) Y n)
+  horizontal-by : {Y n : ℕ} (c : ℕ) → 0 < n → Level len w (c * n) Y n → Moves len (y * w + x) (only (x / n) (tap (g .simple) (g .outer) Y y) c) (horizontalEdges g w (c * n) Y n)
   horizontal-by {Y} {n} c some u = moves-more (one-line n _ c x some) (horizontal-moves u)
 
 -- ---- sums of bounds
@@ -338,9 +338,9 @@ reach-is simple n x =
 abbrev bound : (simple : Bool) (n wide x y k : ℕ) → ℕ
 bound simple n wide x y k = only (y / n) (line simple n (k % wide) x) (k / wide) + only (x / n) (line simple n (k / wide) y) (k % wide)
 
-module _ (simple : Bool) (strengths : List ℕ) {len n wide high : ℕ} (z : Grid len n wide high) (x y : ℕ) (within : x < wide * n) where
-  block-moves : (k : ℕ) → k < wide * high → Moves len (y * (wide * n) + x) (bound simple n wide x y k) (blockOf simple strengths n wide k)
-  unfolding blockOf
+module _ (simple : Bool) (strengths : List ℕ) {len n wide high : ℕ} (z : PlaneGrid len n wide high) (x y : ℕ) (within : x < wide * n) where
+  block-moves : (k : ℕ) → k < wide * high → Moves len (y * (wide * n) + x) (bound simple n wide x y k) (macroblockEdges simple strengths n wide k)
+  unfolding macroblockEdges
   block-moves k h = moves-when _ (λ e. square-moves len (wide * n) x y within simple _ n (k % wide) (k / wide) (grid-square z k h) (z .size))
 
   few : total (wide * high) (bound simple n wide x y) ≤ reachOf simple n (x % n) + reachOf simple n (y % n)
@@ -381,7 +381,7 @@ module _ (simple : Bool) (strengths : List ℕ) {len n wide high : ℕ} (z : Gri
       × (getD p (y * (wide * n) + x) 0 ≤ getD (rasterOf simple strengths n wide (wide * high) p) (y * (wide * n) + x) 0 + (reachOf simple n (x % n) + reachOf simple n (y % n)))
   unfolding rasterOf
   plane-moves p b l =
-      let c = moves-more few (moves-turns (blockOf simple strengths n wide) (bound simple n wide x y) (wide * high) block-moves) .at p b l .close in
+      let c = moves-more few (moves-turns (macroblockEdges simple strengths n wide) (bound simple n wide x y) (wide * high) block-moves) .at p b l .close in
       (c .more, c .less)
 
 -- ---- the bounds as numbers
@@ -401,7 +401,7 @@ reach-most simple m z h = by-size (λ (n : ℕ). m < n → reachOf simple n m �
     sixteen false = refl
 
 -- so a sample moves by at most 54, and 32 in the simple kind
-pub sample-moves : (simple : Bool) (strengths : List ℕ) {len n wide high : ℕ} → Grid len n wide high → (x y : ℕ) → x < wide * n → (p : List ℕ) → Bytes p → length p ≡ len
+pub sample-moves : (simple : Bool) (strengths : List ℕ) {len n wide high : ℕ} → PlaneGrid len n wide high → (x y : ℕ) → x < wide * n → (p : List ℕ) → Bytes p → length p ≡ len
     → (getD (rasterOf simple strengths n wide (wide * high) p) (y * (wide * n) + x) 0 ≤ getD p (y * (wide * n) + x) 0 + 2 * most simple)
     × (getD p (y * (wide * n) + x) 0 ≤ getD (rasterOf simple strengths n wide (wide * high) p) (y * (wide * n) + x) 0 + 2 * most simple)
 sample-moves simple strengths {len} {n} {wide} {high} z x y within p b l =

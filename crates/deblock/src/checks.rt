@@ -6,10 +6,10 @@ use lent::sizes::luma_fine;
 use lent::sizes::strengths_fine;
 use tile::checks::sides_fine;
 ghost use mathlib.Core.Path.{_≡_};
-ghost use Rattle.deblock.specs.Deblock.{lengthsOf, limitsOf, refusalOf};
+ghost use Rattle.deblock.specs.Deblock.{deblockLengths, limitsOf, deblockRefusal};
 
 fn lengths_fine(w: usize, h: usize, y: usize, u: usize, v: usize, strengths: usize) -> bool
-    ensures { λ r. ⌜ r ≡ lengthsOf w h y u v strengths ⌝ }
+    ensures { λ r. ⌜ r ≡ deblockLengths w h y u v strengths ⌝ }
 {
     luma_fine(w, h, y)
         & chroma_fine(w, h, u)
@@ -32,7 +32,7 @@ fn limits_fine(strengths: &[u8]) -> bool
 
 // The number of the first check that fails, or 0.
 pub(crate) fn refusal(w: usize, h: usize, y: usize, u: usize, v: usize, strengths: &[u8]) -> u32
-    ensures { λ r. ⌜ r ≡ refusalOf w h y u v (now (strengths .entry)) ⌝ }
+    ensures { λ r. ⌜ r ≡ deblockRefusal w h y u v (now (strengths .entry)) ⌝ }
 {
     if !sides_fine(w, h) {
         return 1;

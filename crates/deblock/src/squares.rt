@@ -8,7 +8,7 @@ ghost use Prim.Native.Nat.{_*_, _≤_};
 ghost use lib.ListN.{length};
 ghost use Rattle.planes.specs.Predict.{Size};
 ghost use Rattle.planes.specs.Places.{Square};
-ghost use Rattle.deblock.specs.Deblock.{outerEdge, innerEdge, verticalOf, horizontalOf, verticalsOf, horizontalsOf, squareOf};
+ghost use Rattle.deblock.specs.Deblock.{outerEdge, innerEdge, verticalEdges, horizontalEdges, verticalsOf, horizontalsOf, squareOf};
 ghost use Rattle.deblock.specs.Deblock.{rasterOf};
 ghost use Rattle.deblock.specs.Located.{Upright, Level, Whole};
 
@@ -41,7 +41,7 @@ fn inner_of(simple: bool, t: Strength) -> Edge
 // The edge left of column x, in n rows from y on.
 fn vertical(p: &mut [u8], w: usize, x: usize, y: usize, n: usize, g: Edge)
     requires { ⌜ Upright (length (now p)) w x y n ⌝ }
-    ensures { λ _. ⌜ now (p .exit) ≡ verticalOf g w x y n (now (p .entry)) ⌝ }
+    ensures { λ _. ⌜ now (p .exit) ≡ verticalEdges g w x y n (now (p .entry)) ⌝ }
 {
     sweep(&mut p[..], y * w + x - 4, w, 1, n, g);
 }
@@ -49,7 +49,7 @@ fn vertical(p: &mut [u8], w: usize, x: usize, y: usize, n: usize, g: Edge)
 // The edge above row y, in n columns from x on.
 fn horizontal(p: &mut [u8], w: usize, x: usize, y: usize, n: usize, g: Edge)
     requires { ⌜ Level (length (now p)) w x y n ⌝ }
-    ensures { λ _. ⌜ now (p .exit) ≡ horizontalOf g w x y n (now (p .entry)) ⌝ }
+    ensures { λ _. ⌜ now (p .exit) ≡ horizontalEdges g w x y n (now (p .entry)) ⌝ }
 {
     sweep(&mut p[..], (y - 4) * w + x, 1, w, n, g);
 }

@@ -8,16 +8,16 @@ use lib.ListN.{getD}
 use Rattle.filter.specs.declared.answers.Rule.{Rule}
 use Rattle.filter.specs.declared.answers.Rule.the-variants.{EdgeFailed, Rough, Simple, HighVariance, MacroblockEdge, InnerEdge}
 use Rattle.filter.specs.declared.explain.Explanation.{Explanation}
-use Rattle.filter.specs.Kernel.{Samples, samplesOf, withinLimit, smooth, highVariance, ruleOf, stepsOf, movedOf}
+use Rattle.filter.specs.Kernel.{Samples, samplesAcross, withinLimit, smooth, highVariance, ruleOf, stepsOf, movedOf}
 
 -- What a rule does to eight samples, told.
 unfoldable pub toldOf : List ℕ → Rule → Explanation
 toldOf e r =
-    record { rule = r; before = e; after = movedOf e (stepsOf r (samplesOf e)); steps = stepsOf r (samplesOf e) }
+    record { rule = r; before = e; after = movedOf e (stepsOf r (samplesAcross e)); steps = stepsOf r (samplesAcross e) }
 
 -- The call: what the rule that acts does.
 unfoldable pub explainOf : List ℕ → (simple edge : Bool) (limit inner threshold : ℕ) → Explanation
-explainOf e simple edge limit inner threshold = toldOf e (ruleOf (samplesOf e) simple edge limit inner threshold)
+explainOf e simple edge limit inner threshold = toldOf e (ruleOf (samplesAcross e) simple edge limit inner threshold)
 
 -- ---- what each reason says of the samples
 

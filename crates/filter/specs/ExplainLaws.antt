@@ -13,7 +13,7 @@ use Rattle.numbers.specs.Clamp.{clipZ}
 use Rattle.filter.specs.declared.answers.Rule.{Rule}
 use Rattle.filter.specs.declared.answers.Rule.the-variants.{EdgeFailed, Rough, Simple, HighVariance, MacroblockEdge, InnerEdge}
 use Rattle.filter.specs.declared.explain.Explanation.{Explanation}
-use Rattle.filter.specs.Kernel.{Samples, samplesOf, withinLimit, firstFalse, smooth, roughAt, highVariance, ruleOf, stepsOf, movedOf, filterOf}
+use Rattle.filter.specs.Kernel.{Samples, samplesAcross, withinLimit, firstFalse, smooth, roughAt, highVariance, ruleOf, stepsOf, movedOf, filterOf}
 use Rattle.filter.specs.KernelLaws.{rule-edge-failed, rule-simple, rule-rough, rule-smooth, filter-at, steps-in}
 use Rattle.filter.specs.Explain.{toldOf, explainOf, smoothPairs, smoothPair, SmoothBefore, Reason}
 
@@ -114,24 +114,24 @@ module _ (e : Samples) (simple edge : Bool) (limit inner threshold : ℕ) where
 -- ---- what is told
 module _ (e : List ℕ) (simple edge : Bool) (limit inner threshold : ℕ) where
   -- as the code finds it
-  pub told : {r : Rule} {after : List ℕ} {steps : List ℤ} → r ≡ ruleOf (samplesOf e) simple edge limit inner threshold
-      → after ≡ movedOf e (stepsOf r (samplesOf e)) → steps ≡ stepsOf r (samplesOf e)
+  pub told : {r : Rule} {after : List ℕ} {steps : List ℤ} → r ≡ ruleOf (samplesAcross e) simple edge limit inner threshold
+      → after ≡ movedOf e (stepsOf r (samplesAcross e)) → steps ≡ stepsOf r (samplesAcross e)
       → record { rule = r; before = e; after = after; steps = steps } ≡ explainOf e simple edge limit inner threshold
   unfolding explainOf toldOf
   told {r} p q s = (λ i. record { rule = r; before = e; after = q i; steps = s i }) ∙ ap (toldOf e) p
 
   -- the rule that is named is the one by which the kernel's definition goes
-  pub named-rule : explainOf e simple edge limit inner threshold .rule ≡ ruleOf (samplesOf e) simple edge limit inner threshold
+  pub named-rule : explainOf e simple edge limit inner threshold .rule ≡ ruleOf (samplesAcross e) simple edge limit inner threshold
   unfolding explainOf toldOf
   named-rule = refl
 
   -- a rule is named exactly where its reason holds: no other tests led to it, and these lead to no other
   pub named-reason : (r : Rule)
-      → (explainOf e simple edge limit inner threshold .rule ≡ r → Reason (samplesOf e) simple edge limit inner threshold r)
-      × (Reason (samplesOf e) simple edge limit inner threshold r → explainOf e simple edge limit inner threshold .rule ≡ r)
+      → (explainOf e simple edge limit inner threshold .rule ≡ r → Reason (samplesAcross e) simple edge limit inner threshold r)
+      × (Reason (samplesAcross e) simple edge limit inner threshold r → explainOf e simple edge limit inner threshold .rule ≡ r)
   named-reason r = (
-    λ n. rw (sym named-rule ∙ n) at (reason-holds (samplesOf e) simple edge limit inner threshold),
-    λ h. named-rule ∙ reason-only (samplesOf e) simple edge limit inner threshold r h,
+    λ n. rw (sym named-rule ∙ n) at (reason-holds (samplesAcross e) simple edge limit inner threshold),
+    λ h. named-rule ∙ reason-only (samplesAcross e) simple edge limit inner threshold r h,
   )
 
   -- the samples before are those that were given, and those after are the kernel's
@@ -144,7 +144,7 @@ module _ (e : List ℕ) (simple edge : Bool) (limit inner threshold : ℕ) where
   told-after = refl
 
   -- the steps are those of the rule that is named
-  pub told-steps : explainOf e simple edge limit inner threshold .steps ≡ stepsOf (explainOf e simple edge limit inner threshold .rule) (samplesOf e)
+  pub told-steps : explainOf e simple edge limit inner threshold .steps ≡ stepsOf (explainOf e simple edge limit inner threshold .rule) (samplesAcross e)
   unfolding explainOf toldOf
   told-steps = refl
 
@@ -158,7 +158,7 @@ module _ (e : List ℕ) (simple edge : Bool) (limit inner threshold : ℕ) where
   -- and a step lies in -127..127
   pub told-in : Each (negsuc 126) (pos 127) (explainOf e simple edge limit inner threshold .steps)
   unfolding explainOf toldOf
-  told-in = steps-in (ruleOf (samplesOf e) simple edge limit inner threshold) (samplesOf e)
+  told-in = steps-in (ruleOf (samplesAcross e) simple edge limit inner threshold) (samplesAcross e)
 
 -- ---- every reason is named somewhere: limit 40, inner 5, threshold 2
 abbrev named : (simple edge : Bool) → (p3 p2 p1 p0 q0 q1 q2 q3 : ℕ) → Rule

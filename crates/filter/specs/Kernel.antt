@@ -32,8 +32,8 @@ eightOf f = record { p3 = f 0; p2 = f 1; p1 = f 2; p0 = f 3; q0 = f 4; q1 = f 5;
 abbrev pub Samples : Type 0
 Samples = Eight ℤ
 
-abbrev pub samplesOf : List ℕ → Samples
-samplesOf e = eightOf (λ i. pos (getD e i 0))
+abbrev pub samplesAcross : List ℕ → Samples
+samplesAcross e = eightOf (λ i. pos (getD e i 0))
 
 -- ---- which rule acts
 
@@ -136,7 +136,7 @@ movedOf e steps = build 8 (λ i. clipZ (pos (getD e i 0) +ℤ getD steps i (pos 
 -- The eight samples after the filter.
 unfoldable pub filterOf : List ℕ → (simple edge : Bool) (limit inner threshold : ℕ) → List ℕ
 filterOf e simple edge limit inner threshold =
-    movedOf e (stepsOf (ruleOf (samplesOf e) simple edge limit inner threshold) (samplesOf e))
+    movedOf e (stepsOf (ruleOf (samplesAcross e) simple edge limit inner threshold) (samplesAcross e))
 
 -- The kth of them; an index past the eight is refused.
 unfoldable pub pixelOf : List ℕ → (simple edge : Bool) (limit inner threshold : ℕ) (k : ℕ) → Pixel
@@ -144,11 +144,11 @@ pixelOf e simple edge limit inner threshold k =
     cond (ltb k 8) (Value (getD (filterOf e simple edge limit inner threshold) k 0)) Refused
 
 -- The answer's number: 0, and 9 for an index that is refused.
-abbrev pub numberOf : Pixel → ℕ
-numberOf (Value x) = 0
-numberOf Refused = 9
+abbrev pub pixelNumberOf : Pixel → ℕ
+pixelNumberOf (Value x) = 0
+pixelNumberOf Refused = 9
 
 -- The answer's value: 0 where it is refused.
-abbrev pub valuesOf : Pixel → ℕ
-valuesOf (Value x) = x
-valuesOf Refused = 0
+abbrev pub pixelValuesOf : Pixel → ℕ
+pixelValuesOf (Value x) = x
+pixelValuesOf Refused = 0

@@ -12,6 +12,7 @@ use lib.ListN.{length, getD}
 use lib.IntN.{ℤ, pos, negsuc, negℤ, _+ℤ_, _*ℤ_}
 use lib.Signed.{leZ}
 use mir.Syntax.{w32}
+pub use Rattle.numbers.specs.Lists.{Bytes}
 use Rattle.numbers.specs.Tests.{never, lt-or}
 use Rattle.numbers.specs.In.{In, Each}
 use Rattle.numbers.specs.Parts.{to-le, of-le, add-parts, up-neg, dn-neg, up-times, dn-times, shr-parts}
@@ -26,7 +27,7 @@ use Rattle.numbers.specs.Lists.{built, length-build, getD-build, getD-build-pas
 use Rattle.filter.specs.declared.answers.Rule.{Rule}
 use Rattle.filter.specs.declared.answers.Rule.the-variants.{EdgeFailed, Rough, Simple, HighVariance, MacroblockEdge, InnerEdge}
 use Rattle.filter.specs.declared.answers.Pixel.the-variants.{Value, Refused}
-use Rattle.filter.specs.Kernel.{Samples, samplesOf, withinLimit, firstFalse, roughAt, highVariance, ruleOf, across, tapped, eighth, part, half, sides, noSteps, commonSteps, macroblockSteps, innerSteps, stepsOf, movedOf, filterOf, pixelOf}
+use Rattle.filter.specs.Kernel.{Samples, samplesAcross, withinLimit, firstFalse, roughAt, highVariance, ruleOf, across, tapped, eighth, part, half, sides, noSteps, commonSteps, macroblockSteps, innerSteps, stepsOf, movedOf, filterOf, pixelOf}
 
 -- ---- the first test that fails
 pub first-none : 0 ≡ firstFalse []
@@ -85,17 +86,17 @@ part-in k {w} i =
     record { low = of-le (omega (arith, up-neg (pos k), dn-neg (pos k))); high = of-le (omega arith) }
 
 -- every step of every rule lies in -127..127, on the side where it is added as on the one where it is taken off
-abbrev Step : ℤ → Type 0
-Step z = In (negsuc 126) (pos 127) z
+abbrev StepIn : ℤ → Type 0
+StepIn z = In (negsuc 126) (pos 127) z
 
-less-in : {z : ℤ} → Step z → Step (negℤ z)
+less-in : {z : ℤ} → StepIn z → StepIn (negℤ z)
 less-in {z} i =
     record { low = of-le (omega (arith, to-le (i .high), up-neg z, dn-neg z)); high = of-le (omega (arith, to-le (i .low), up-neg z, dn-neg z)) }
 
-no-step : Step (pos 0)
+no-step : StepIn (pos 0)
 no-step = In-wider (inside (num (pos 0))) tt
 
-sides-in : {p2 p1 p0 q0 q1 q2 : ℤ} → Step p2 → Step p1 → Step p0 → Step q0 → Step q1 → Step q2 → Each (negsuc 126) (pos 127) (sides p2 p1 p0 q0 q1 q2)
+sides-in : {p2 p1 p0 q0 q1 q2 : ℤ} → StepIn p2 → StepIn p1 → StepIn p0 → StepIn q0 → StepIn q1 → StepIn q2 → Each (negsuc 126) (pos 127) (sides p2 p1 p0 q0 q1 q2)
 unfolding sides
 sides-in a b c d e f =
     each-∷ no-step (each-∷ a (each-∷ b (each-∷ c (each-∷ (less-in d) (each-∷ (less-in e) (each-∷ (less-in f) (each-∷ no-step (each-[] tt))))))))
@@ -112,13 +113,13 @@ pub macroblock-in : {w : ℤ} → In (negsuc 127) (pos 127) w → Each (negsuc 1
 unfolding macroblockSteps
 macroblock-in {w} i = sides-in (at 9 tt) (at 18 tt) (at 27 tt) (at 27 tt) (at 18 tt) (at 9 tt)
   where
-    at : (k : ℕ) → T (leZ (negsuc 126) (negℤ (pos k)) && leZ (pos k) (pos 127)) → Step (part k w)
+    at : (k : ℕ) → T (leZ (negsuc 126) (negℤ (pos k)) && leZ (pos k) (pos 127)) → StepIn (part k w)
     at k t = In-wider (part-in k i) t
 
 pub inner-in : (a : ℤ) → Each (negsuc 126) (pos 127) (innerSteps a)
 unfolding innerSteps
 inner-in a =
-    let h : Step (half (eighth (a +ℤ pos 4))) = In-wider (half-in (eighth-in _)) tt in
+    let h : StepIn (half (eighth (a +ℤ pos 4))) = In-wider (half-in (eighth-in _)) tt in
     sides-in no-step h (In-wider (eighth-in _) tt) (In-wider (eighth-in _) tt) h no-step
 
 pub steps-in : (r : Rule) (e : Samples) → Each (negsuc 126) (pos 127) (stepsOf r e)
@@ -131,10 +132,6 @@ steps-in MacroblockEdge e = macroblock-in (signed-in 127 (tapped e))
 steps-in InnerEdge e = inner-in (across e)
 
 -- ---- what is filtered
--- every sample is a byte
-abbrev pub Bytes : List ℕ → Type 0
-Bytes e = (i : ℕ) → getD e i 0 < 256
-
 -- a sample with no step stays, on either side
 pub clip-still : {x : ℕ} → x < 256 → clipZ (pos x +ℤ pos 0) ≡ x
 clip-still {x} h = rw (add-zero x) (upTo-same (omega arith))
@@ -156,7 +153,7 @@ outermost InnerEdge e = (refl, refl)
 
 module _ (e : List ℕ) (simple edge : Bool) (limit inner threshold : ℕ) where
   -- each of the eight is its sample with the rule's step added, clipped
-  pub filter-at : (k : ℕ) → k < 8 → getD (filterOf e simple edge limit inner threshold) k 0 ≡ clipZ (pos (getD e k 0) +ℤ getD (stepsOf (ruleOf (samplesOf e) simple edge limit inner threshold) (samplesOf e)) k (pos 0))
+  pub filter-at : (k : ℕ) → k < 8 → getD (filterOf e simple edge limit inner threshold) k 0 ≡ clipZ (pos (getD e k 0) +ℤ getD (stepsOf (ruleOf (samplesAcross e) simple edge limit inner threshold) (samplesAcross e)) k (pos 0))
   unfolding filterOf movedOf
   filter-at k h = getD-build 8 _ k 0 h
 
@@ -170,30 +167,30 @@ module _ (e : List ℕ) (simple edge : Bool) (limit inner threshold : ℕ) where
 
   pub filter-bytes : Bytes (filterOf e simple edge limit inner threshold)
   filter-bytes k = elim (lt-or k 8) [
-    | inl h ↦ rw (filter-at k h) (omega (arith, upTo-le 255 (pos (getD e k 0) +ℤ getD (stepsOf (ruleOf (samplesOf e) simple edge limit inner threshold) (samplesOf e)) k (pos 0))))
+    | inl h ↦ rw (filter-at k h) (omega (arith, upTo-le 255 (pos (getD e k 0) +ℤ getD (stepsOf (ruleOf (samplesAcross e) simple edge limit inner threshold) (samplesAcross e)) k (pos 0))))
     | inr h ↦ rw (filter-past k h) (lit< tt)
   ]
 
   pub outermost-stay : Bytes e → (getD (filterOf e simple edge limit inner threshold) 0 0 ≡ getD e 0 0) × (getD (filterOf e simple edge limit inner threshold) 7 0 ≡ getD e 7 0)
   outermost-stay b =
-      let o = outermost (ruleOf (samplesOf e) simple edge limit inner threshold) (samplesOf e) in (
+      let o = outermost (ruleOf (samplesAcross e) simple edge limit inner threshold) (samplesAcross e) in (
         filter-at 0 (lit< tt) ∙ rw (o .0) (clip-still (b 0)),
         filter-at 7 (lit< tt) ∙ rw (o .1) (clip-still (b 7)),
       )
 
   -- nothing changes where the edge test fails, nor where a pair is not smooth and the filter is not the simple one
   module _ (l : length e ≡ 8) (b : Bytes e) where
-    pub edge-failed-stays : withinLimit (samplesOf e) limit ≡ false → filterOf e simple edge limit inner threshold ≡ e
+    pub edge-failed-stays : withinLimit (samplesAcross e) limit ≡ false → filterOf e simple edge limit inner threshold ≡ e
     unfolding filterOf stepsOf
-    edge-failed-stays w = rw (rule-edge-failed (samplesOf e) simple edge limit inner threshold w) (moved-none e l b)
+    edge-failed-stays w = rw (rule-edge-failed (samplesAcross e) simple edge limit inner threshold w) (moved-none e l b)
 
-    pub rough-stays : simple ≡ false → roughAt (samplesOf e) inner < 6 → filterOf e simple edge limit inner threshold ≡ e
+    pub rough-stays : simple ≡ false → roughAt (samplesAcross e) inner < 6 → filterOf e simple edge limit inner threshold ≡ e
     unfolding filterOf stepsOf
     rough-stays s r =
-        test (withinLimit (samplesOf e) limit) refl
+        test (withinLimit (samplesAcross e) limit) refl
       where
-        test : (t : Bool) → withinLimit (samplesOf e) limit ≡ t → filterOf e simple edge limit inner threshold ≡ e
-        test true w = rw (rule-rough (samplesOf e) simple edge limit inner threshold w s r) (moved-none e l b)
+        test : (t : Bool) → withinLimit (samplesAcross e) limit ≡ t → filterOf e simple edge limit inner threshold ≡ e
+        test true w = rw (rule-rough (samplesAcross e) simple edge limit inner threshold w s r) (moved-none e l b)
         test false w = edge-failed-stays w
 
   -- `pixel` answers the kth of what `filter` gives

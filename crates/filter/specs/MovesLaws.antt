@@ -15,7 +15,7 @@ use Rattle.numbers.specs.ClampLaws.{clamp-cases, signed-in, upTo-is}
 use Rattle.numbers.specs.Lists.{build}
 use Rattle.filter.specs.declared.answers.Rule.{Rule}
 use Rattle.filter.specs.declared.answers.Rule.the-variants.{EdgeFailed, Rough, Simple, HighVariance, MacroblockEdge, InnerEdge}
-use Rattle.filter.specs.Kernel.{Samples, samplesOf, apart, withinLimit, firstFalse, smooth, roughAt, highVariance, ruleOf, across, tapped, eighth, part, half, sides, noSteps, commonSteps, macroblockSteps, innerSteps, stepsOf, movedOf, filterOf}
+use Rattle.filter.specs.Kernel.{Samples, samplesAcross, apart, withinLimit, firstFalse, smooth, roughAt, highVariance, ruleOf, across, tapped, eighth, part, half, sides, noSteps, commonSteps, macroblockSteps, innerSteps, stepsOf, movedOf, filterOf}
 use Rattle.filter.specs.KernelLaws.{Bytes, eighth-in, half-in, part-in, moved-none, filter-at, steps-by-tests}
 use Rattle.filter.specs.Moves.{bounds, farthest, movesOf, cliff}
 
@@ -119,7 +119,7 @@ clip-nearer {x} {n} {d} h s =
 pub moves-at-most : (e : List ℕ) (simple edge : Bool) (limit inner threshold k : ℕ) → Bytes e → k < 8
     → apart (pos (getD (filterOf e simple edge limit inner threshold) k 0)) (pos (getD e k 0)) ≤ getD (farthest simple edge) k 0
 moves-at-most e simple edge limit inner threshold k b h =
-    rw (filter-at e simple edge limit inner threshold k h) (clip-nearer (b k) (steps-within (samplesOf e) simple edge limit inner threshold .at k))
+    rw (filter-at e simple edge limit inner threshold k h) (clip-nearer (b k) (steps-within (samplesAcross e) simple edge limit inner threshold .at k))
 
 -- ---- every bound is reached, and by one edge, with the limits of the strongest level and no sharpness: 189, 63 and 2
 pub farthest-reached : (simple edge : Bool) → movesOf cliff (filterOf cliff simple edge 189 63 2) ≡ farthest simple edge
@@ -156,7 +156,7 @@ pub level-stays : (e : List ℕ) (simple edge : Bool) (limit inner threshold : �
     → getD e 3 0 ≡ getD e 4 0 → getD e 2 0 ≡ getD e 5 0 → filterOf e simple edge limit inner threshold ≡ e
 unfolding filterOf
 level-stays e simple edge limit inner threshold l b near next =
-    let s = samplesOf e in
+    let s = samplesAcross e in
     let a = level-across s (ap pos near) in
     rw (level-steps (ruleOf s simple edge limit inner threshold) s a (level-tapped s a (ap pos next))) (moved-none e l b)
 

@@ -17,7 +17,7 @@ use Rattle.numbers.specs.Clamp.{clampZ, clipZ, signedTo, signedByteZ}
 use Rattle.numbers.specs.ClampLaws.{clamp-cases, clamp-same, clamp-low, clamp-high, upTo-abs, signed-in}
 use Rattle.numbers.specs.Lists.{build-listed, _∷≡_}
 use Rattle.filter.specs.Kernel as kernel
-use Rattle.filter.specs.Kernel.{samplesOf, across, tapped, eighth, part, half, sides, noSteps, commonSteps, macroblockSteps, innerSteps, movedOf, filterOf}
+use Rattle.filter.specs.Kernel.{samplesAcross, across, tapped, eighth, part, half, sides, noSteps, commonSteps, macroblockSteps, innerSteps, movedOf, filterOf}
 use Rattle.filter.specs.KernelLaws.{Bytes, clip-still, first-past, steps-by-tests, part-in, edge-test-same}
 use Rattle.filter.specs.Rfc15
 
@@ -99,17 +99,17 @@ halved a b limit =
     same-test (a * 2 + b / 2) limit (4 * a + b) (2 * limit + 1) (λ h. t .1 (omega arith)) (λ h. omega (arith, t .0 h))
 
 module _ (e : List ℕ) where
-  edge-rfc : (limit : ℕ) → Rfc15.edgeTest limit (Rfc15.segmentOf e) ≡ kernel.withinLimit (samplesOf e) limit
+  edge-rfc : (limit : ℕ) → Rfc15.edgeTest limit (Rfc15.segmentOf e) ≡ kernel.withinLimit (samplesAcross e) limit
   unfolding Rfc15.edgeTest kernel.withinLimit
   edge-rfc limit =
       rw (differ-is (getD e 3 0) (getD e 4 0), differ-is (getD e 2 0) (getD e 5 0))
       (halved (kernel.apart (pos (getD e 3 0)) (pos (getD e 4 0))) (kernel.apart (pos (getD e 2 0)) (pos (getD e 5 0))) limit)
 
-  hev-rfc : (threshold : ℕ) → Rfc15.hev threshold (Rfc15.segmentOf e) ≡ kernel.highVariance (samplesOf e) threshold
+  hev-rfc : (threshold : ℕ) → Rfc15.hev threshold (Rfc15.segmentOf e) ≡ kernel.highVariance (samplesAcross e) threshold
   unfolding Rfc15.hev kernel.highVariance
   hev-rfc threshold = simp differ-is
 
-  yes-rfc : (inner limit : ℕ) → Rfc15.filterYes inner limit (Rfc15.segmentOf e) ≡ kernel.withinLimit (samplesOf e) limit && not (ltb (kernel.roughAt (samplesOf e) inner) 6)
+  yes-rfc : (inner limit : ℕ) → Rfc15.filterYes inner limit (Rfc15.segmentOf e) ≡ kernel.withinLimit (samplesAcross e) limit && not (ltb (kernel.roughAt (samplesAcross e) inner) 6)
   unfolding Rfc15.filterYes kernel.smooth kernel.roughAt
   yes-rfc inner limit = ap₂ _&&_ (edge-rfc limit) (simp differ-is (first-past _ _ _ _ _ _))
 
@@ -122,13 +122,13 @@ module _ (e : List ℕ) (b : Bytes e) where
   abbrev s : Rfc15.Segment
   s = Rfc15.segmentOf e
 
-  tapped-rfc : signedByteZ (Rfc15.u2s (getD e 2 0) -ℤ Rfc15.u2s (getD e 5 0)) +ℤ pos 3 *ℤ (Rfc15.u2s (getD e 4 0) -ℤ Rfc15.u2s (getD e 3 0)) ≡ tapped (samplesOf e)
+  tapped-rfc : signedByteZ (Rfc15.u2s (getD e 2 0) -ℤ Rfc15.u2s (getD e 5 0)) +ℤ pos 3 *ℤ (Rfc15.u2s (getD e 4 0) -ℤ Rfc15.u2s (getD e 3 0)) ≡ tapped (samplesAcross e)
   unfolding tapped across
   tapped-rfc =
-      let x = samplesOf e in
+      let x = samplesAcross e in
       rw (u2s-minus (getD e 2 0) (getD e 5 0), u2s-minus (getD e 4 0) (getD e 3 0)) (+ℤ-comm (signedByteZ (x .p1 -ℤ x .q1)) (pos 3 *ℤ (x .q0 -ℤ x .p0)))
 
-  across-rfc : pos 0 +ℤ pos 3 *ℤ (Rfc15.u2s (getD e 4 0) -ℤ Rfc15.u2s (getD e 3 0)) ≡ across (samplesOf e)
+  across-rfc : pos 0 +ℤ pos 3 *ℤ (Rfc15.u2s (getD e 4 0) -ℤ Rfc15.u2s (getD e 3 0)) ≡ across (samplesAcross e)
   unfolding across
   across-rfc = rw (u2s-minus (getD e 4 0) (getD e 3 0)) (+ℤ-idl _)
 
@@ -143,14 +143,14 @@ module _ (e : List ℕ) (b : Bytes e) where
   unfolding movedOf noSteps sides
   none-rfc = build-listed 8 _ ∙ (still 0 ∷≡ still 1 ∷≡ still 2 ∷≡ still 3 ∷≡ still 4 ∷≡ still 5 ∷≡ still 6 ∷≡ still 7 ∷≡ refl)
 
-  common-rfc : movedOf e (commonSteps (tapped (samplesOf e))) ≡ Rfc15.pixelsOf (Rfc15.adjusted s (Rfc15.commonAdjust true s))
+  common-rfc : movedOf e (commonSteps (tapped (samplesAcross e))) ≡ Rfc15.pixelsOf (Rfc15.adjusted s (Rfc15.commonAdjust true s))
   unfolding movedOf commonSteps sides Rfc15.commonAdjust
   common-rfc =
       let t = toward tapped-rfc in
       build-listed 8 _
       ∙ (still 0 ∷≡ still 1 ∷≡ still 2 ∷≡ step-rfc (getD e 3 0) (t .0) ∷≡ step-rfc (getD e 4 0) (ap negℤ (t .1)) ∷≡ still 5 ∷≡ still 6 ∷≡ still 7 ∷≡ refl)
 
-  inner-rfc : movedOf e (innerSteps (across (samplesOf e))) ≡ Rfc15.pixelsOf (Rfc15.subblockAct false s)
+  inner-rfc : movedOf e (innerSteps (across (samplesAcross e))) ≡ Rfc15.pixelsOf (Rfc15.subblockAct false s)
   unfolding movedOf innerSteps sides half Rfc15.subblockAct Rfc15.commonAdjust
   inner-rfc =
       let t = toward across-rfc in
@@ -163,7 +163,7 @@ module _ (e : List ℕ) (b : Bytes e) where
   portion : (k : ℕ) {x a : ℤ} → k ≤ 127 → x ≡ a → signedByteZ (part k (signedByteZ x)) ≡ part k (signedByteZ a)
   portion k {x} {a} h p = rw p (part-rfc k a h)
 
-  macroblock-rfc : movedOf e (macroblockSteps (signedByteZ (tapped (samplesOf e)))) ≡ Rfc15.pixelsOf (Rfc15.mbAct false s)
+  macroblock-rfc : movedOf e (macroblockSteps (signedByteZ (tapped (samplesAcross e)))) ≡ Rfc15.pixelsOf (Rfc15.mbAct false s)
   unfolding movedOf macroblockSteps sides part Rfc15.mbAct
   macroblock-rfc =
       let near = portion 27 (lit≤ tt) tapped-rfc in
@@ -175,7 +175,7 @@ module _ (e : List ℕ) (b : Bytes e) where
 
   -- ---- and the whole: by the tests w (edge), r (a pair is rough) and h (high variance)
   by-tests : (w simple r h edge : Bool)
-      → movedOf e (cond (not w || not simple && r) noSteps (cond (simple || h) (commonSteps (tapped (samplesOf e))) (cond edge (macroblockSteps (signedByteZ (tapped (samplesOf e)))) (innerSteps (across (samplesOf e))))))
+      → movedOf e (cond (not w || not simple && r) noSteps (cond (simple || h) (commonSteps (tapped (samplesAcross e))) (cond edge (macroblockSteps (signedByteZ (tapped (samplesAcross e)))) (innerSteps (across (samplesAcross e))))))
       ≡ Rfc15.pixelsOf (cond simple (cond w (Rfc15.adjusted s (Rfc15.commonAdjust true s)) s) (cond edge (cond (w && not r) (Rfc15.mbAct h s) s) (cond (w && not r) (Rfc15.subblockAct h s) s)))
   unfolding Rfc15.mbAct Rfc15.subblockAct
   by-tests false true r h edge = none-rfc
@@ -192,6 +192,6 @@ module _ (e : List ℕ) (b : Bytes e) where
   pub filter-rfc : (simple edge : Bool) (limit inner threshold : ℕ) → filterOf e simple edge limit inner threshold ≡ Rfc15.rfcFilter e simple edge limit inner threshold
   unfolding filterOf Rfc15.rfcFilter Rfc15.simpleSegment Rfc15.mbFilter Rfc15.subblockFilter
   filter-rfc simple edge limit inner threshold =
-      let x = samplesOf e in
+      let x = samplesAcross e in
       rw (steps-by-tests x simple edge limit inner threshold, edge-rfc e limit, yes-rfc e inner limit, hev-rfc e threshold)
       (by-tests (kernel.withinLimit x limit) simple (ltb (kernel.roughAt x inner) 6) (kernel.highVariance x threshold) edge)

@@ -7,7 +7,7 @@ use lib.ListN.{getD}
 use lib.IntN.{ℤ, pos, negsuc, _+ℤ_, _-ℤ_, _*ℤ_}
 use lib.Signed.{ltZ, leZ, quotZ}
 use Rattle.numbers.specs.Clamp.{clipZ}
-use Rattle.filter.specs.Kernel.{Samples, samplesOf}
+use Rattle.filter.specs.Kernel.{Samples, samplesAcross}
 
 unfoldable pub absolute : ℤ → ℤ
 absolute v = cond (ltZ v (pos 0)) (pos 0 -ℤ v) v
@@ -34,7 +34,7 @@ hev e threshold = ltZ (pos threshold) (absolute (e .p1 -ℤ e .p0)) || ltZ (pos 
 -- Its three branches that move something, each for the kth of the samples e.
 unfoldable pub simpleSample : List ℕ → (k : ℕ) → ℕ
 simpleSample e k =
-    let s = samplesOf e in
+    let s = samplesAcross e in
     let a = pos 3 *ℤ (s .q0 -ℤ s .p0) +ℤ bounded (s .p1 -ℤ s .q1) (negsuc 127) (pos 127) in
     let a1 = bounded (divided (a +ℤ pos 4) 8) (negsuc 15) (pos 15) in
     let a2 = bounded (divided (a +ℤ pos 3) 8) (negsuc 15) (pos 15) in
@@ -42,7 +42,7 @@ simpleSample e k =
 
 unfoldable pub edgeSample : List ℕ → (k : ℕ) → ℕ
 edgeSample e k =
-    let s = samplesOf e in
+    let s = samplesAcross e in
     let a = bounded (pos 3 *ℤ (s .q0 -ℤ s .p0) +ℤ bounded (s .p1 -ℤ s .q1) (negsuc 127) (pos 127)) (negsuc 127) (pos 127) in
     let a1 = divided (pos 27 *ℤ a +ℤ pos 63) 128 in
     let a2 = divided (pos 18 *ℤ a +ℤ pos 63) 128 in
@@ -56,7 +56,7 @@ edgeSample e k =
 
 unfoldable pub innerSample : List ℕ → (k : ℕ) → ℕ
 innerSample e k =
-    let s = samplesOf e in
+    let s = samplesAcross e in
     let a = pos 3 *ℤ (s .q0 -ℤ s .p0) in
     let a1 = bounded (divided (a +ℤ pos 4) 8) (negsuc 15) (pos 15) in
     let a2 = bounded (divided (a +ℤ pos 3) 8) (negsuc 15) (pos 15) in
@@ -69,6 +69,6 @@ innerSample e k =
 -- The kth sample after the filter.
 unfoldable pub sample : List ℕ → (simple edge : Bool) (limit inner threshold : ℕ) (k : ℕ) → ℕ
 sample e simple edge limit inner threshold k =
-    let s = samplesOf e in
+    let s = samplesAcross e in
     cond (not (ok s limit) || not simple && not (smooth s inner)) (getD e k 0)
     (cond (simple || hev s threshold) (simpleSample e k) (cond edge (edgeSample e k) (innerSample e k)))

@@ -22,7 +22,7 @@ use Rattle.numbers.specs.Floor.{divided2-source, divided8-source, divided128-so
 use Rattle.numbers.specs.Clamp.{clampZ, clipZ, signedTo, signedByteZ}
 use Rattle.numbers.specs.ClampLaws.{clamp-tests, signed-in}
 use Rattle.filter.specs.Kernel as kernel
-use Rattle.filter.specs.Kernel.{Samples, samplesOf, across, tapped, eighth, part, half, sides, noSteps, commonSteps, macroblockSteps, innerSteps, filterOf}
+use Rattle.filter.specs.Kernel.{Samples, samplesAcross, across, tapped, eighth, part, half, sides, noSteps, commonSteps, macroblockSteps, innerSteps, filterOf}
 use Rattle.filter.specs.KernelLaws.{Bytes, clip-still, filter-at, first-past, steps-by-tests, eighth-in}
 use Rattle.filter.specs.Source.{absolute, bounded, divided, ok, smooth, hev, simpleSample, edgeSample, innerSample, sample}
 
@@ -76,11 +76,11 @@ module _ (e : List ℕ) (b : Bytes e) where
   byte : (k : ℕ) → In (pos 0) (pos 255) (pos (getD e k 0))
   byte k = unsigned-below (omega (arith, b k))
 
-  pub across-in : In (negsuc 764) (pos 765) (across (samplesOf e))
+  pub across-in : In (negsuc 764) (pos 765) (across (samplesAcross e))
   unfolding across
   across-in = inside (know w32 (known (plainly (byte 3)) ∷ known (plainly (byte 4)) ∷ []) (3 ⊙ (v 1 ⊖ v 0)) tt)
 
-  pub tapped-in : In (negsuc 892) (pos 892) (tapped (samplesOf e))
+  pub tapped-in : In (negsuc 892) (pos 892) (tapped (samplesAcross e))
   unfolding tapped
   tapped-in = inside (know w32 (known (plainly across-in) ∷ known (plainly (signed-in 127 _)) ∷ []) (v 0 ⊕ v 1) tt)
 
@@ -101,32 +101,32 @@ module _ (e : List ℕ) (b : Bytes e) where
   unfolding noSteps sides
   none-source = cases8 (Moved (λ i. getD e i 0) noSteps) (stays 0) (stays 1) (stays 2) (stays 3) (stays 4) (stays 5) (stays 6) (stays 7)
 
-  simple-source : (k : ℕ) → k < 8 → Moved (simpleSample e) (commonSteps (tapped (samplesOf e))) k
+  simple-source : (k : ℕ) → k < 8 → Moved (simpleSample e) (commonSteps (tapped (samplesAcross e))) k
   unfolding simpleSample commonSteps sides
   simple-source =
-      let t = tapped-source (samplesOf e) in
-      cases8 (Moved (simpleSample e) (commonSteps (tapped (samplesOf e)))) (stays 0) (stays 1) (stays 2)
+      let t = tapped-source (samplesAcross e) in
+      cases8 (Moved (simpleSample e) (commonSteps (tapped (samplesAcross e)))) (stays 0) (stays 1) (stays 2)
       (added 3 (eighth-source 3 t (far tapped-in (v 0 ⊕ lit (pos 3)) tt tt))) (taken 4 (eighth-source 4 t (far tapped-in (v 0 ⊕ lit (pos 4)) tt tt)))
       (stays 5) (stays 6) (stays 7)
 
-  edge-source : (k : ℕ) → k < 8 → Moved (edgeSample e) (macroblockSteps (signedByteZ (tapped (samplesOf e)))) k
+  edge-source : (k : ℕ) → k < 8 → Moved (edgeSample e) (macroblockSteps (signedByteZ (tapped (samplesAcross e)))) k
   unfolding edgeSample macroblockSteps sides
   edge-source =
-      let t = bounded-source _ (negsuc 127) (pos 127) ∙ ap (λ (z : ℤ). signedByteZ z) (tapped-source (samplesOf e)) in
-      let w = signed-in 127 (tapped (samplesOf e)) in
+      let t = bounded-source _ (negsuc 127) (pos 127) ∙ ap (λ (z : ℤ). signedByteZ z) (tapped-source (samplesAcross e)) in
+      let w = signed-in 127 (tapped (samplesAcross e)) in
       let near = part-source 27 t (far w (27 ⊙ v 0 ⊕ lit (pos 63)) tt tt) in
       let next = part-source 18 t (far w (18 ⊙ v 0 ⊕ lit (pos 63)) tt tt) in
       let last = part-source 9 t (far w (9 ⊙ v 0 ⊕ lit (pos 63)) tt tt) in
-      cases8 (Moved (edgeSample e) (macroblockSteps (signedByteZ (tapped (samplesOf e))))) (stays 0)
+      cases8 (Moved (edgeSample e) (macroblockSteps (signedByteZ (tapped (samplesAcross e))))) (stays 0)
       (added 1 last) (added 2 next) (added 3 near) (taken 4 near) (taken 5 next) (taken 6 last) (stays 7)
 
-  inner-source : (k : ℕ) → k < 8 → Moved (innerSample e) (innerSteps (across (samplesOf e))) k
+  inner-source : (k : ℕ) → k < 8 → Moved (innerSample e) (innerSteps (across (samplesAcross e))) k
   unfolding innerSample across innerSteps sides half
   inner-source =
-      let near = eighth-source 4 {x = across (samplesOf e)} refl (far across-in (v 0 ⊕ lit (pos 4)) tt tt) in
+      let near = eighth-source 4 {x = across (samplesAcross e)} refl (far across-in (v 0 ⊕ lit (pos 4)) tt tt) in
       let next = ap (λ (z : ℤ). divided (z +ℤ pos 1) 2) near ∙ divided-source _ (far (eighth-in _) (v 0 ⊕ lit (pos 1)) tt tt) .0 in
-      cases8 (Moved (innerSample e) (innerSteps (across (samplesOf e)))) (stays 0) (stays 1)
-      (added 2 next) (added 3 (eighth-source 3 {x = across (samplesOf e)} refl (far across-in (v 0 ⊕ lit (pos 3)) tt tt))) (taken 4 near) (taken 5 next) (stays 6) (stays 7)
+      cases8 (Moved (innerSample e) (innerSteps (across (samplesAcross e)))) (stays 0) (stays 1)
+      (added 2 next) (added 3 (eighth-source 3 {x = across (samplesAcross e)} refl (far across-in (v 0 ⊕ lit (pos 3)) tt tt))) (taken 4 near) (taken 5 next) (stays 6) (stays 7)
 
 -- ---- and the whole
 branches : {A : Type 0} (t u m : Bool) {a b c d : ℕ} {w x y z : A} (f : A → ℕ) → a ≡ f w → b ≡ f x → c ≡ f y → d ≡ f z → cond t a (cond u b (cond m c d)) ≡ f (cond t w (cond u x (cond m y z)))
@@ -144,7 +144,7 @@ pub sample-source : (e : List ℕ) (simple edge : Bool) (limit inner threshold k
     → sample e simple edge limit inner threshold k ≡ getD (filterOf e simple edge limit inner threshold) k 0
 unfolding sample
 sample-source e simple edge limit inner threshold k b h =
-    let s = samplesOf e in
+    let s = samplesAcross e in
     rw (ok-source s limit, smooth-source s inner, not-not (ltb (kernel.roughAt s inner) 6), hev-source s threshold)
     (branches (not (kernel.withinLimit s limit) || not simple && ltb (kernel.roughAt s inner) 6) (simple || kernel.highVariance s threshold) edge
     (λ (l : List ℤ). clipZ (pos (getD e k 0) +ℤ getD l k (pos 0))) (none-source e b k h) (simple-source e b k h) (edge-source e b k h) (inner-source e b k h)

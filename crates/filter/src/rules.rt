@@ -4,7 +4,7 @@ use super::samples::minus;
 ghost use mathlib.Core.Path.{_≡_};
 ghost use lib.IntN.{pos, negsuc, natAbs};
 ghost use Rattle.numbers.specs.In.{In};
-ghost use Rattle.filter.specs.Kernel.{samplesOf, apart, withinLimit, smooth, roughAt, highVariance, ruleOf};
+ghost use Rattle.filter.specs.Kernel.{samplesAcross, apart, withinLimit, smooth, roughAt, highVariance, ruleOf};
 
 fn abs(v: i32) -> i32
     requires { ⌜ In (negsuc 254) (pos 255) v ⌝ }
@@ -24,7 +24,7 @@ fn distance(a: u8, b: u8) -> i32
 
 // The edge test.
 fn within_limit(e: &[u8; 8], limit: u8) -> bool
-    ensures { λ r. ⌜ r ≡ withinLimit (samplesOf (now (e .entry))) limit ⌝ }
+    ensures { λ r. ⌜ r ≡ withinLimit (samplesAcross (now (e .entry))) limit ⌝ }
 {
     4 * distance(e[3], e[4]) + distance(e[2], e[5]) <= 2 * limit as i32 + 1
 }
@@ -38,7 +38,7 @@ fn smooth(a: u8, b: u8, inner: u8) -> bool
 
 // The first pair of neighbours that is not smooth, 6 where all are. No pair after it is looked at.
 fn rough(e: &[u8; 8], inner: u8) -> u8
-    ensures { λ r. ⌜ r ≡ roughAt (samplesOf (now (e .entry))) inner ⌝ }
+    ensures { λ r. ⌜ r ≡ roughAt (samplesAcross (now (e .entry))) inner ⌝ }
 {
     if !smooth(e[0], e[1], inner) {
         return 0;
@@ -63,14 +63,14 @@ fn rough(e: &[u8; 8], inner: u8) -> u8
 
 // Whether the two samples next to the edge, on either side, differ by more than threshold.
 fn high_variance(e: &[u8; 8], threshold: u8) -> bool
-    ensures { λ r. ⌜ r ≡ highVariance (samplesOf (now (e .entry))) threshold ⌝ }
+    ensures { λ r. ⌜ r ≡ highVariance (samplesAcross (now (e .entry))) threshold ⌝ }
 {
     (distance(e[2], e[3]) > threshold as i32) | (distance(e[5], e[4]) > threshold as i32)
 }
 
 // The rule that acts: each test is made once, and none that the answer does not need.
 pub fn rule(e: &[u8; 8], simple: bool, edge: bool, limit: u8, inner: u8, threshold: u8) -> Rule
-    ensures { λ r. ⌜ r ≡ ruleOf (samplesOf (now (e .entry))) simple edge limit inner threshold ⌝ }
+    ensures { λ r. ⌜ r ≡ ruleOf (samplesAcross (now (e .entry))) simple edge limit inner threshold ⌝ }
 {
     if !within_limit(e, limit) {
         return Rule::EdgeFailed;

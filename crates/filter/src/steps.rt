@@ -8,12 +8,12 @@ ghost use mathlib.Core.Path.{_≡_};
 ghost use lib.IntN.{pos, negsuc};
 ghost use Rattle.numbers.specs.In.{In, Each};
 ghost use Rattle.numbers.specs.Clamp.{signedByteZ};
-ghost use Rattle.filter.specs.Kernel.{samplesOf, across, tapped, eighth, sides, noSteps, commonSteps, macroblockSteps, innerSteps};
+ghost use Rattle.filter.specs.Kernel.{samplesAcross, across, tapped, eighth, sides, noSteps, commonSteps, macroblockSteps, innerSteps};
 ghost use Rattle.filter.specs.Kernel.{stepsOf, movedOf};
 
 // Three times the step across the edge.
 fn across(e: &[u8; 8]) -> i32
-    ensures { λ r. ⌜ r ≡ across (samplesOf (now (e .entry))) ⌝ }
+    ensures { λ r. ⌜ r ≡ across (samplesAcross (now (e .entry))) ⌝ }
     ensures { λ r. ⌜ In (negsuc 764) (pos 765) r ⌝ }
 {
     3 * minus(e[4], e[3])
@@ -21,7 +21,7 @@ fn across(e: &[u8; 8]) -> i32
 
 // The same with the outer taps.
 fn tapped(e: &[u8; 8]) -> i32
-    ensures { λ r. ⌜ r ≡ tapped (samplesOf (now (e .entry))) ⌝ }
+    ensures { λ r. ⌜ r ≡ tapped (samplesAcross (now (e .entry))) ⌝ }
     ensures { λ r. ⌜ In (negsuc 892) (pos 892) r ⌝ }
 {
     across(e) + signed_byte(minus(e[2], e[5]))
@@ -94,21 +94,21 @@ fn unmoved(e: &[u8; 8]) -> [u8; 8]
 }
 
 fn common(e: &[u8; 8]) -> [u8; 8]
-    ensures { λ r. ⌜ r ≡ movedOf (now (e .entry)) (commonSteps (tapped (samplesOf (now (e .entry))))) ⌝ }
+    ensures { λ r. ⌜ r ≡ movedOf (now (e .entry)) (commonSteps (tapped (samplesAcross (now (e .entry))))) ⌝ }
 {
     let s = common_steps(tapped(e));
     moved(e, &s)
 }
 
 fn macroblock(e: &[u8; 8]) -> [u8; 8]
-    ensures { λ r. ⌜ r ≡ movedOf (now (e .entry)) (macroblockSteps (signedByteZ (tapped (samplesOf (now (e .entry)))))) ⌝ }
+    ensures { λ r. ⌜ r ≡ movedOf (now (e .entry)) (macroblockSteps (signedByteZ (tapped (samplesAcross (now (e .entry)))))) ⌝ }
 {
     let s = macroblock_steps(signed_byte(tapped(e)));
     moved(e, &s)
 }
 
 fn inner(e: &[u8; 8]) -> [u8; 8]
-    ensures { λ r. ⌜ r ≡ movedOf (now (e .entry)) (innerSteps (across (samplesOf (now (e .entry))))) ⌝ }
+    ensures { λ r. ⌜ r ≡ movedOf (now (e .entry)) (innerSteps (across (samplesAcross (now (e .entry))))) ⌝ }
 {
     let s = inner_steps(across(e));
     moved(e, &s)
@@ -116,7 +116,7 @@ fn inner(e: &[u8; 8]) -> [u8; 8]
 
 // What the rule does. Each arm moves the samples by itself, so that the compiler sees which steps are 0.
 pub fn acted(e: &[u8; 8], rule: Rule) -> [u8; 8]
-    ensures { λ r. ⌜ r ≡ movedOf (now (e .entry)) (stepsOf rule (samplesOf (now (e .entry)))) ⌝ }
+    ensures { λ r. ⌜ r ≡ movedOf (now (e .entry)) (stepsOf rule (samplesAcross (now (e .entry)))) ⌝ }
 {
     match rule {
         Rule::EdgeFailed => unmoved(e),
@@ -130,7 +130,7 @@ pub fn acted(e: &[u8; 8], rule: Rule) -> [u8; 8]
 
 // What the rule adds to each sample, before the sum is clipped.
 pub fn added(e: &[u8; 8], rule: Rule) -> [i32; 8]
-    ensures { λ r. ⌜ r ≡ stepsOf rule (samplesOf (now (e .entry))) ⌝ }
+    ensures { λ r. ⌜ r ≡ stepsOf rule (samplesAcross (now (e .entry))) ⌝ }
 {
     match rule {
         Rule::EdgeFailed => sides(0, 0, 0, 0, 0, 0),

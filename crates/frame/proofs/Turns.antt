@@ -10,7 +10,7 @@ use Rattle.reader.specs.declared.boolean.Reader.{Reader}
 use Rattle.frame.specs.Header.{prob, probsFrom, probs}
 use Rattle.frame.specs.Tables.{defaultProbs, updateProbs}
 use Rattle.tile.specs.declared.Span.{Span}
-use Rattle.frame.specs.Places.{sizedOf, startOf, spanOf, tokenSpans}
+use Rattle.frame.specs.Places.{partitionSize, partitionStart, partitionSpan, tokenSpans}
 use Rattle.reader.specs.Reads.{Reads}
 use Rattle.reader.specs.ReadsLaws.{reads-then, reads-done}
 
@@ -43,24 +43,24 @@ module _ {s : List ℕ} {r₀ r : Reader} {i : ℕ} {table : List ℕ} (g : Goin
 
 -- ---- the token partitions: partition i starts at `at`
 pub record Placing (b : List ℕ) (table count : ℕ) (tokens : List Span) (at i : ℕ) : Type 0 where
-  pub cut : Filled tokens 8 (λ k. spanOf b table count k (startOf b table count k)) i
-  pub here : at ≡ startOf b table count i
+  pub cut : Filled tokens 8 (λ k. partitionSpan b table count k (partitionStart b table count k)) i
+  pub here : at ≡ partitionStart b table count i
   pub small : at < 1000021 + 16777216 * i
 
 pub placing-start : {b : List ℕ} {table count at : ℕ} {tokens : List Span} → length tokens ≡ 8 → at ≡ table + 3 * (count - 1) → table < 1000000 → count ≤ 8 → Placing b table count tokens at 0
-unfolding startOf
+unfolding partitionStart
 placing-start {tokens} e g h k = record { cut = filled-none tokens 8 _ e; here = g; small = omega arith }
 
 module _ {b : List ℕ} {table count at i : ℕ} {tokens : List Span} (p : Placing b table count tokens at i) where
-  pub placing-next : i < 8 → {x : Span} {z : ℕ} → x ≡ spanOf b table count i at → z ≡ sizedOf b table count i → z < 16777216 → Placing b table count (set tokens i x) (at + z) (i + 1)
-  unfolding startOf
+  pub placing-next : i < 8 → {x : Span} {z : ℕ} → x ≡ partitionSpan b table count i at → z ≡ partitionSize b table count i → z < 16777216 → Placing b table count (set tokens i x) (at + z) (i + 1)
+  unfolding partitionStart
   placing-next l {x} {z} e g k =
       record {
-        cut = filled-next x l (e ∙ ap (spanOf b table count i) (p .here)) (p .cut);
+        cut = filled-next x l (e ∙ ap (partitionSpan b table count i) (p .here)) (p .cut);
         here = rw (add-one, p .here, g);
         small = omega (arith, p .small);
       }
 
-  pub placing-end : 8 ≤ i → (tokens ≡ tokenSpans b table count) × (at ≡ startOf b table count 8)
+  pub placing-end : 8 ≤ i → (tokens ≡ tokenSpans b table count) × (at ≡ partitionStart b table count 8)
   unfolding tokenSpans
-  placing-end l = let e : i ≡ 8 = omega (arith, p .cut .upto) in (filled-all l (p .cut), p .here ∙ ap (startOf b table count) e)
+  placing-end l = let e : i ≡ 8 = omega (arith, p .cut .upto) in (filled-all l (p .cut), p .here ∙ ap (partitionStart b table count) e)

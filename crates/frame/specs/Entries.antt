@@ -13,7 +13,7 @@ use Rattle.frame.specs.declared.fields.Segments.{Segments}
 use Rattle.frame.specs.declared.fields.Filter.{Filter}
 use Rattle.frame.specs.declared.fields.Quantizers.{Quantizers}
 use Rattle.frame.specs.declared.fields.Header.{Header}
-use Rattle.frame.specs.Header.{none}
+use Rattle.frame.specs.Header.{noValue}
 use Rattle.header.specs.Entries as Name
 
 -- a coded number as a number: its magnitude, negative where its sign is not 0
@@ -29,9 +29,9 @@ abbrev pub plain : ℕ → Signed
 plain n = record { sign = 0; size = n }
 
 -- numbers stored one after the other, each at its entry
-abbrev pub stored : List (ℕ × Signed) → List Signed → List Signed
-stored [] l = l
-stored (e ∷ rest) l = stored rest (set l (e .0) (e .1))
+abbrev pub storedEntries : List (ℕ × Signed) → List Signed → List Signed
+storedEntries [] l = l
+storedEntries (e ∷ rest) l = storedEntries rest (set l (e .0) (e .1))
 
 -- ---- the entries before the coefficient probabilities
 -- one for each segment
@@ -44,10 +44,10 @@ threeFrom i t = (i, plain (t .a)) ∷ (i + 1, plain (t .b)) ∷ (i + 2, plain (t
 
 unfoldable pub withSegments : Segments → List Signed → List Signed
 withSegments g l =
-    stored (threeFrom Name.mapProbability (g .probs))
-    (stored (fourFrom Name.segmentLevel (g .features .levels))
-    (stored (fourFrom Name.segmentIndex (g .features .quantizers))
-    (stored
+    storedEntries (threeFrom Name.mapProbability (g .probs))
+    (storedEntries (fourFrom Name.segmentLevel (g .features .levels))
+    (storedEntries (fourFrom Name.segmentIndex (g .features .quantizers))
+    (storedEntries
     ((Name.segmentsOn, plain (g .on))
     ∷ (Name.mapOn, plain (g .map))
     ∷ (Name.segmentsAbsolute, plain (g .features .absolute))
@@ -56,7 +56,7 @@ withSegments g l =
 
 unfoldable pub withFilter : Filter → List Signed → List Signed
 withFilter f =
-    stored
+    storedEntries
     ((Name.frameLevel, plain (f .level))
     ∷ (Name.sharpness, plain (f .sharpness))
     ∷ (Name.deltasOn, plain (f .on))
@@ -66,7 +66,7 @@ withFilter f =
 
 unfoldable pub withQuantizers : Quantizers → List Signed → List Signed
 withQuantizers q =
-    stored
+    storedEntries
     ((Name.baseIndex, plain (q .base))
     ∷ (Name.ydcDelta, q .ydc)
     ∷ (Name.y2dcDelta, q .y2dc)
@@ -76,13 +76,13 @@ withQuantizers q =
     ∷ [])
 
 unfoldable pub numbers : Header → List Signed
-numbers h = withQuantizers (h .quantizers) (withFilter (h .filter) (withSegments (h .segments) (replicate Name.coefficientProbability none)))
+numbers h = withQuantizers (h .quantizers) (withFilter (h .filter) (withSegments (h .segments) (replicate Name.coefficientProbability noValue)))
 
 -- ---- all of them: those, the coefficient probabilities, whether macroblocks may be skipped and the probability of that
 unfoldable pub numberAt : List Signed → List ℕ → ℕ → ℕ → ℕ → Signed
 numberAt first probs skip chance i =
     elim (ltb i Name.coefficientProbability) [
-      | true ↦ getD first i none
+      | true ↦ getD first i noValue
       | false ↦ elim (ltb i Name.skipsOn) [
         | true ↦ plain (getD probs (i - Name.coefficientProbability) 0)
         | false ↦ elim (ltb i Name.skipProbability) [ true ↦ plain skip | false ↦ plain chance ]

@@ -23,9 +23,9 @@ use Rattle.frame.specs.declared.fields.Segments.{Segments}
 use Rattle.frame.specs.declared.fields.Filter.{Filter}
 use Rattle.frame.specs.declared.fields.Quantizers.{Quantizers}
 use Rattle.frame.specs.declared.fields.Header.{Header}
-use Rattle.frame.specs.Header.{none}
-use Rattle.frame.specs.Fine.{Small, FineFour, FineThree, FineSegments, FineFilter, FineQuantizers, Fine}
-use Rattle.frame.specs.Entries.{negative, valueOf, plain, stored, fourFrom, threeFrom, withSegments, withFilter, withQuantizers, numbers, numberAt, entries}
+use Rattle.frame.specs.Header.{noValue}
+use Rattle.frame.specs.Fine.{Small, FineFour, FineThree, FineSegments, FineFilter, FineQuantizers, FineTaken}
+use Rattle.frame.specs.Entries.{negative, valueOf, plain, storedEntries, fourFrom, threeFrom, withSegments, withFilter, withQuantizers, numbers, numberAt, entries}
 
 -- as the code makes it
 pub value-plain : (sign size : ℕ) → sign ≡ 0 → pos size ≡ negative sign size
@@ -51,16 +51,16 @@ data Smalls : List (ℕ × Signed) → Type 0 where
   _▹_ : {e : ℕ × Signed} {es : List (ℕ × Signed)} → Small (e .1) → Smalls es → Smalls (e ∷ es)
 
 record AllSmall (l : List Signed) : Type 0 where
-  at : (i : ℕ) → Small (getD l i none)
+  at : (i : ℕ) → Small (getD l i noValue)
 
-stored-small : {es : List (ℕ × Signed)} (l : List Signed) → Smalls es → AllSmall l → AllSmall (stored es l)
+stored-small : {es : List (ℕ × Signed)} (l : List Signed) → Smalls es → AllSmall l → AllSmall (storedEntries es l)
 stored-small l nil y = y
-stored-small l (_▹_ {e} p q) y = stored-small (set l (e .0) (e .1)) q (record { at = set-keeps Small l (e .0) (e .1) none p (y .at) })
+stored-small l (_▹_ {e} p q) y = stored-small (set l (e .0) (e .1)) q (record { at = set-keeps Small l (e .0) (e .1) noValue p (y .at) })
 
-four-small : (i : ℕ) {f : Four} (l : List Signed) → FineFour f → AllSmall l → AllSmall (stored (fourFrom i f) l)
+four-small : (i : ℕ) {f : Four} (l : List Signed) → FineFour f → AllSmall l → AllSmall (storedEntries (fourFrom i f) l)
 four-small i l f y = stored-small l (f .a ▹ f .b ▹ f .c ▹ f .d ▹ nil) y
 
-three-small : (i : ℕ) {t : Three} (l : List Signed) → FineThree t → AllSmall l → AllSmall (stored (threeFrom i t) l)
+three-small : (i : ℕ) {t : Three} (l : List Signed) → FineThree t → AllSmall l → AllSmall (storedEntries (threeFrom i t) l)
 three-small i l t y = stored-small l (t .a ▹ t .b ▹ t .c ▹ nil) y
 
 segments-small : (g : Segments) (l : List Signed) → FineSegments g → AllSmall l → AllSmall (withSegments g l)
@@ -79,14 +79,14 @@ quantizers-small : (g : Quantizers) (l : List Signed) → FineQuantizers g → A
 unfolding withQuantizers
 quantizers-small g l f y = stored-small l (f .base ▹ f .ydc ▹ f .y2dc ▹ f .y2ac ▹ f .uvdc ▹ f .uvac ▹ nil) y
 
-numbers-small : (h : Header) → Fine h → AllSmall (numbers h)
+numbers-small : (h : Header) → FineTaken h → AllSmall (numbers h)
 unfolding numbers
 numbers-small h f =
     quantizers-small (h .quantizers) _ (f .quantizers)
     (filter-small (h .filter) _ (f .filter)
-    (segments-small (h .segments) _ (f .segments) (record { at = λ i. rw (getD-constant 38 i none) (lit< tt) })))
+    (segments-small (h .segments) _ (f .segments) (record { at = λ i. rw (getD-constant 38 i noValue) (lit< tt) })))
 
-pub number-small : (h : Header) → Fine h → (i : ℕ) → Small (numberAt (numbers h) (h .probs) (h .skip) (h .chance) i)
+pub number-small : (h : Header) → FineTaken h → (i : ℕ) → Small (numberAt (numbers h) (h .probs) (h .skip) (h .chance) i)
 unfolding numberAt
 number-small h f i =
     ⊎-elim
@@ -101,7 +101,7 @@ number-small h f i =
     (lt-or i 38)
 
 -- what the code stores at i
-pub value-stored : (h : Header) → Fine h → (i : ℕ) {first : List Signed} {n : Signed} {r : ℤ} → first ≡ numbers h → n ≡ numberAt first (h .probs) (h .skip) (h .chance) i → r ≡ valueOf n → round w32 r ≡ valueOf (numberAt (numbers h) (h .probs) (h .skip) (h .chance) i)
+pub value-stored : (h : Header) → FineTaken h → (i : ℕ) {first : List Signed} {n : Signed} {r : ℤ} → first ≡ numbers h → n ≡ numberAt first (h .probs) (h .skip) (h .chance) i → r ≡ valueOf n → round w32 r ≡ valueOf (numberAt (numbers h) (h .probs) (h .skip) (h .chance) i)
 value-stored h f i e g k =
     answered w32 (k ∙ ap valueOf (g ∙ ap (λ l. numberAt l (h .probs) (h .skip) (h .chance) i) e)) (value-in (numberAt (numbers h) (h .probs) (h .skip) (h .chance) i) (number-small h f i)) tt .eq
 
@@ -110,7 +110,7 @@ module _ (h : Header) where
   unfolding entries
   entries-length = length-build 1096 _
 
-  pub entries-each : Fine h → Each (negsuc 254) (pos 255) (entries h)
+  pub entries-each : FineTaken h → Each (negsuc 254) (pos 255) (entries h)
   unfolding entries
   entries-each f =
       record {

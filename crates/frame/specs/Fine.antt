@@ -55,7 +55,7 @@ pub record FineQuantizers (q : Quantizers) : Type 0 where
   pub uvdc : Small (q .uvdc)
   pub uvac : Small (q .uvac)
 
-pub record Fine (h : Header) : Type 0 where
+pub record FineTaken (h : Header) : Type 0 where
   pub segments : FineSegments (h .segments)
   pub filter : FineFilter (h .filter)
   pub partitions : h .partitions < 4

@@ -27,13 +27,13 @@ when zero a m = done a
 when (suc n) a m = m
 
 -- a number with its sign: a flag whether it is given, its n bits, its sign; zero where it is not given
-abbrev pub none : Signed
-none = record { sign = 0; size = 0 }
+abbrev pub noValue : Signed
+noValue = record { sign = 0; size = 0 }
 
 unfoldable pub signed : ℕ → Reading Signed
 signed n = do
   given ← literal 1  -- .._update, .._flag, .._present
-  when given none (do
+  when given noValue (do
     size ← literal n  -- .._value, .._magnitude
     sign ← literal 1  -- .._sign
     done (record { sign = sign; size = size }))
@@ -48,7 +48,7 @@ four n = do
 
 -- ---- update_segmentation() (section 9.3)
 abbrev pub noFour : Four
-noFour = record { a = none; b = none; c = none; d = none }
+noFour = record { a = noValue; b = noValue; c = noValue; d = noValue }
 
 abbrev pub noFeatures : Features
 noFeatures = record { absolute = 0; quantizers = noFour; levels = noFour }
@@ -94,7 +94,7 @@ segments = do
 
 -- ---- filter_type, loop_filter_level, sharpness_level, mb_lf_adjustments() (section 9.4)
 abbrev pub noDeltas : Deltas
-noDeltas = record { intra = none; small = none }
+noDeltas = record { intra = noValue; small = noValue }
 
 -- all eight are read; a key frame uses the first of each four, that of the intra frame and that of B_PRED
 unfoldable pub deltas : Reading Deltas

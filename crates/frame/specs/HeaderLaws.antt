@@ -17,9 +17,9 @@ use Rattle.reader.specs.ReadsLaws.{reads-done}
 use Rattle.reader.specs.Reading.{Reading, done, ask, symbol, Within, ends, asks}
 use Rattle.reader.specs.ReadingLaws.{within-bind, within-more, within-weaken, within-symbol}
 use Rattle.reader.specs.ExtraLaws.{extra-within}
-use Rattle.frame.specs.Fine.{Small, FineFour, FineThree, FineFeatures, FineSegments, FineDeltas, FineFilter, FineQuantizers, Fine}
+use Rattle.frame.specs.Fine.{Small, FineFour, FineThree, FineFeatures, FineSegments, FineDeltas, FineFilter, FineQuantizers, FineTaken}
 use Rattle.frame.specs.Tables.{defaultProbs, updateProbs}
-use Rattle.frame.specs.Header.{literal, when, none, signed, four, noFour, noFeatures, features, mapProb, noProbs, mapProbs, noSegments, update, segments, noDeltas, deltas, deltasUpdate, filter, quantizers, chosen, prob, probsFrom, probs, header}
+use Rattle.frame.specs.Header.{literal, when, noValue, signed, four, noFour, noFeatures, features, mapProb, noProbs, mapProbs, noSegments, update, segments, noDeltas, deltas, deltasUpdate, filter, quantizers, chosen, prob, probsFrom, probs, header}
 
 -- ---- what a flag announces, in reading without a stop
 module _ {A : Type 0} (a : A) (m : Reading A) {s : List ℕ} {r : Reader} where
@@ -53,7 +53,7 @@ when-within (suc n) a p w = w
 signed-within : (n : ℕ) → n ≤ 8 → Within Small (1 + (n + 1)) (signed n)
 unfolding signed
 signed-within n h =
-    within-bind {k = n + 1} (byte-within 1 (lit≤ tt)) (λ g t. when-within g none (lit< tt) (
+    within-bind {k = n + 1} (byte-within 1 (lit≤ tt)) (λ g t. when-within g noValue (lit< tt) (
     within-bind {k = 1} (byte-within n h) (λ size l.
     within-bind {k = 0} (byte-within 1 (lit≤ tt)) (λ sign t. ends l))))
 
@@ -170,7 +170,7 @@ unfolding probs
 probs-within = probs-from-within 1056 0 defaultProbs default-bytes
 
 -- ---- THE LAW of the coded header
-pub header-within : Within Fine 9730 header
+pub header-within : Within FineTaken 9730 header
 unfolding header
 header-within =
     within-bind {k = 9729} (byte-within 1 (lit≤ tt)) (λ x t.

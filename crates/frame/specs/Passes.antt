@@ -9,7 +9,7 @@ use Rattle.numbers.specs.In.{Each}
 use Rattle.header.specs.Entries.{entryCount}
 use Rattle.tile.specs.Checks.{Sides, Counted, Cut}
 use Rattle.frame.specs.declared.take.Taken.{Taken}
-use Rattle.frame.specs.Take.{refusedOf, nothing}
+use Rattle.frame.specs.Take.{refusedAnswer, nothingTaken}
 
 -- a side covers the true size, by less than 16 more
 pub record Covers (true side : ℕ) : Type 0 where
@@ -30,10 +30,10 @@ pub record Passes (b : List ℕ) (t : Taken) : Type 0 where
 -- a refusal gives its number and zeros, and the number is 12, 13 or 14
 pub record Refused (t : Taken) : Type 0 where
   pub number : (t .answer .number ≡ 12) ⊎ (t .answer .number ≡ 13) ⊎ (t .answer .number ≡ 14)
-  pub zeros : t ≡ nothing (t .answer .number)
+  pub zeros : t ≡ nothingTaken (t .answer .number)
 
 -- with the entries lent: the number may be 9 too, and the entries are as they were
 pub record Kept (old : List ℤ) (t : Taken) : Type 0 where
   pub number : (t .answer .number ≡ 9) ⊎ (t .answer .number ≡ 12) ⊎ (t .answer .number ≡ 13) ⊎ (t .answer .number ≡ 14)
-  pub zeros : t .answer ≡ refusedOf (t .answer .number)
+  pub zeros : t .answer ≡ refusedAnswer (t .answer .number)
   pub unchanged : t .header ≡ old

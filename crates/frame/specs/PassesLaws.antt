@@ -17,18 +17,18 @@ use Rattle.reader.specs.declared.boolean.Reader.{Reader}
 use Rattle.reader.specs.Boolean.{Given, given, missing, firstReader}
 use Rattle.reader.specs.BooleanLaws.{Bytes, first-valid}
 use Rattle.reader.specs.ReadingLaws.{Ended, run-valid}
-use Rattle.tile.specs.Partitions.{noSpan, partOf}
+use Rattle.tile.specs.Partitions.{noSpan, contentsOf}
 use Rattle.tile.specs.PartitionsLaws.{part-bytes, span-at}
 use Rattle.tile.specs.Checks.{Side, Counted, Inside}
 use Rattle.frame.specs.declared.fields.Header.{Header}
 use Rattle.frame.specs.declared.take.Taken.{Taken}
-use Rattle.frame.specs.Fine.{Fine}
+use Rattle.frame.specs.Fine.{FineTaken}
 use Rattle.frame.specs.HeaderLaws.{header-within}
-use Rattle.frame.specs.Tag.{sizeOf, widthOf, heightOf, roundedOf, startCodeOf, versionOf, interOf, goodOf}
-use Rattle.frame.specs.Places.{partitionCount, startOf, lengthOf, spanOf, tokenSpans, tokensInside}
+use Rattle.frame.specs.Tag.{firstSize, widthOf, heightOf, roundedOf, startCodeOf, versionOf, interOf, tagFine}
+use Rattle.frame.specs.Places.{partitionCount, partitionStart, lengthOf, partitionSpan, tokenSpans, tokensInside}
 use Rattle.frame.specs.PlacesLaws.{span-is}
 use Rattle.frame.specs.EntriesLaws.{entries-length, entries-each}
-use Rattle.frame.specs.Take.{nothing, firstOf, tableOf, tileOf, wholeOf, placedOf, codedOf, givenHeader, takenOf, intoOf}
+use Rattle.frame.specs.Take.{nothingTaken, firstOf, sizesPlace, tileOf, wholeOf, partitionsPlaced, codedOf, givenHeader, takenOf, intoOf}
 use Rattle.frame.specs.TakeLaws.{take-tag, take-first, take-short, take-coded}
 use Rattle.frame.specs.Passes.{Covers, Passes, Refused, Kept}
 
@@ -37,36 +37,36 @@ abbrev Number : ℕ → Type 0
 Number n = (n ≡ 12) ⊎ (n ≡ 13) ⊎ (n ≡ 14)
 
 data Way (b : List ℕ) : Taken → Type 0 where
-  refused : (n : ℕ) → Number n → Way b (nothing n)
-  whole : (h : Header) (r : Reader) → goodOf b ≡ true → tableOf b ≤ length b → givenHeader b ≡ given h r → tokensInside b (tableOf b) (partitionCount (h .partitions)) ≡ true → Way b (wholeOf b h r)
+  refused : (n : ℕ) → Number n → Way b (nothingTaken n)
+  whole : (h : Header) (r : Reader) → tagFine b ≡ true → sizesPlace b ≤ length b → givenHeader b ≡ given h r → tokensInside b (sizesPlace b) (partitionCount (h .partitions)) ≡ true → Way b (wholeOf b h r)
 
 module _ (b : List ℕ) where
-  no-way : (n : ℕ) {t : Taken} → Number n → nothing n ≡ t → Way b t
-  no-way n k e = let w : Way b (nothing n) = refused n k in rw e at w
+  no-way : (n : ℕ) {t : Taken} → Number n → nothingTaken n ≡ t → Way b t
+  no-way n k e = let w : Way b (nothingTaken n) = refused n k in rw e at w
 
   way : Way b (takenOf b)
-  unfolding placedOf givenHeader
-  way = tag (goodOf b) refl
+  unfolding partitionsPlaced givenHeader
+  way = tag (tagFine b) refl
     where
-      placed : (h : Header) (r : Reader) → goodOf b ≡ true → tableOf b ≤ length b → givenHeader b ≡ given h r → (v : Bool) → tokensInside b (tableOf b) (partitionCount (h .partitions)) ≡ v → Way b (placedOf b h r)
-      placed h r e l g true i = rw (i, placedOf) (whole h r e l g i)
-      placed h r e l g false i = rw (i, placedOf) (refused 13 (inr (inl refl)))
+      placed : (h : Header) (r : Reader) → tagFine b ≡ true → sizesPlace b ≤ length b → givenHeader b ≡ given h r → (v : Bool) → tokensInside b (sizesPlace b) (partitionCount (h .partitions)) ≡ v → Way b (partitionsPlaced b h r)
+      placed h r e l g true i = rw (i, partitionsPlaced) (whole h r e l g i)
+      placed h r e l g false i = rw (i, partitionsPlaced) (refused 13 (inr (inl refl)))
 
-      coded : goodOf b ≡ true → tableOf b ≤ length b → (x : Given Header) → givenHeader b ≡ x → Way b (codedOf b x)
-      coded e l (given h r) g = placed h r e l g (tokensInside b (tableOf b) (partitionCount (h .partitions))) refl
+      coded : tagFine b ≡ true → sizesPlace b ≤ length b → (x : Given Header) → givenHeader b ≡ x → Way b (codedOf b x)
+      coded e l (given h r) g = placed h r e l g (tokensInside b (sizesPlace b) (partitionCount (h .partitions))) refl
       coded e l missing g = refused 14 (inr (inr refl))
 
-      inside : goodOf b ≡ true → tableOf b ≤ length b → Way b (takenOf b)
+      inside : tagFine b ≡ true → sizesPlace b ≤ length b → Way b (takenOf b)
       inside e l =
-          let f = le-leb (tableOf b) (length b) l in
+          let f = le-leb (sizesPlace b) (length b) l in
           ⊎-elim
           (λ k. no-way 14 (inr (inr refl)) (take-short b e refl f k))
           (λ k. rw (take-coded b e refl f k refl) at (coded e l (givenHeader b) refl))
-          (lt-or (sizeOf b) 2)
+          (lt-or (firstSize b) 2)
 
-      tag : (v : Bool) → goodOf b ≡ v → Way b (takenOf b)
+      tag : (v : Bool) → tagFine b ≡ v → Way b (takenOf b)
       tag false e = no-way 12 (inl refl) (take-tag b e)
-      tag true e = ⊎-elim (λ k. no-way 13 (inr (inl refl)) (take-first b e refl (lt-leb (tableOf b) (length b) k))) (λ k. inside e k) (lt-or (length b) (tableOf b))
+      tag true e = ⊎-elim (λ k. no-way 13 (inr (inl refl)) (take-first b e refl (lt-leb (sizesPlace b) (length b) k))) (λ k. inside e k) (lt-or (length b) (sizesPlace b))
 
 -- ---- what was tried says of the whole
 rounded-side : (n : ℕ) → 1 ≤ n → n < 16384 → Side (roundedOf n)
@@ -75,13 +75,13 @@ rounded-side n h l = record { least = omega arith; most = omega arith; whole = o
 rounded-covers : (n : ℕ) → Covers n (roundedOf n)
 rounded-covers n = record { whole = omega arith; tight = omega arith }
 
-module _ (b : List ℕ) (e : goodOf b ≡ true) where
+module _ (b : List ℕ) (e : tagFine b ≡ true) where
   tag-width : 1 ≤ widthOf b
-  unfolding goodOf
+  unfolding tagFine
   tag-width = leb-true 1 (widthOf b) (both-right (leb 10 (length b) && eqb (interOf b) 0 && startCodeOf b && leb (versionOf b) 3) _ (both-left _ (leb 1 (heightOf b)) e))
 
   tag-height : 1 ≤ heightOf b
-  unfolding goodOf
+  unfolding tagFine
   tag-height = leb-true 1 (heightOf b) (both-right (leb 10 (length b) && eqb (interOf b) 0 && startCodeOf b && leb (versionOf b) 3 && leb 1 (widthOf b)) _ e)
 
 counted : (p : ℕ) → p < 4 → Counted (partitionCount p)
@@ -92,25 +92,25 @@ counted (suc (suc (suc zero))) h = record { least = lit≤ tt; most = lit≤ tt 
 counted (suc (suc (suc (suc n)))) h = absurd (omega arith)
 
 module _ (b : List ℕ) (table count : ℕ) (h : tokensInside b table count ≡ true) (m : count ≤ 8) where
-  token-at : (i : ℕ) → i < count → getD (tokenSpans b table count) i noSpan ≡ record { start = startOf b table count i; len = lengthOf b table count i (startOf b table count i) }
+  token-at : (i : ℕ) → i < count → getD (tokenSpans b table count) i noSpan ≡ record { start = partitionStart b table count i; len = lengthOf b table count i (partitionStart b table count i) }
   unfolding tokenSpans
-  token-at i l = getD-build 8 (λ i. spanOf b table count i (startOf b table count i)) i noSpan (omega arith) ∙ span-is b table count i _ l
+  token-at i l = getD-build 8 (λ i. partitionSpan b table count i (partitionStart b table count i)) i noSpan (omega arith) ∙ span-is b table count i _ l
 
   token-inside : (i : ℕ) → i < count → Inside (length b) (getD (tokenSpans b table count) i noSpan)
   unfolding tokensInside
   token-inside i l =
       rw (token-at i l)
       (record {
-        fits = leb-true (startOf b table count i + lengthOf b table count i (startOf b table count i)) (length b)
-            (all-below (λ i. leb (startOf b table count i + lengthOf b table count i (startOf b table count i)) (length b)) count (both-right (leb (table + 3 * (count - 1)) (length b)) _ h) i l);
+        fits = leb-true (partitionStart b table count i + lengthOf b table count i (partitionStart b table count i)) (length b)
+            (all-below (λ i. leb (partitionStart b table count i + lengthOf b table count i (partitionStart b table count i)) (length b)) count (both-right (leb (table + 3 * (count - 1)) (length b)) _ h) i l);
       })
 
-whole-passes : (b : List ℕ) → Bytes b → (h : Header) (r : Reader) → goodOf b ≡ true → tableOf b ≤ length b → givenHeader b ≡ given h r → tokensInside b (tableOf b) (partitionCount (h .partitions)) ≡ true → Passes b (wholeOf b h r)
+whole-passes : (b : List ℕ) → Bytes b → (h : Header) (r : Reader) → tagFine b ≡ true → sizesPlace b ≤ length b → givenHeader b ≡ given h r → tokensInside b (sizesPlace b) (partitionCount (h .partitions)) ≡ true → Passes b (wholeOf b h r)
 unfolding wholeOf givenHeader
 whole-passes b y h r e l g i =
-    let s : List ℕ = partOf b (firstOf b) in
+    let s : List ℕ = contentsOf b (firstOf b) in
     let z : Bytes s = part-bytes b (firstOf b) y in
-    let d : Ended Fine s (firstReader s) h r = run-valid header-within z (first-valid s z) g in
+    let d : Ended FineTaken s (firstReader s) h r = run-valid header-within z (first-valid s z) g in
     let n : ℕ = partitionCount (h .partitions) in
     let c : Counted n = counted (h .partitions) (d .value .partitions) in
     record {
@@ -120,7 +120,7 @@ whole-passes b y h r e l g i =
       long = entries-length h;
       cut = record {
         first = record { fits = l };
-        tokens = λ j q. rw (span-at (tileOf b h r) j (omega (arith, c .most))) (token-inside b (tableOf b) n i (c .most) j q);
+        tokens = λ j q. rw (span-at (tileOf b h r) j (omega (arith, c .most))) (token-inside b (sizesPlace b) n i (c .most) j q);
         reader = d .valid;
       };
       width = rounded-covers (widthOf b);
@@ -129,7 +129,7 @@ whole-passes b y h r e l g i =
 
 -- ---- THE LAWS: what is taken of any bytes passes; what is not taken is refused
 pub taken-is-fine : (b : List ℕ) → Bytes b → takenOf b .answer .number ≡ 0 → Passes b (takenOf b)
-unfolding nothing
+unfolding nothingTaken
 taken-is-fine b y z = go (way b) z
   where
     go : {t : Taken} → Way b t → t .answer .number ≡ 0 → Passes b t
@@ -137,7 +137,7 @@ taken-is-fine b y z = go (way b) z
     go (whole h r g l f i) e = whole-passes b y h r g l f i
 
 pub taken-or-refused : (b : List ℕ) → (takenOf b .answer .number ≡ 0) ⊎ Refused (takenOf b)
-unfolding nothing wholeOf
+unfolding nothingTaken wholeOf
 taken-or-refused b = go (way b)
   where
     go : {t : Taken} → Way b t → (t .answer .number ≡ 0) ⊎ Refused t
@@ -146,7 +146,7 @@ taken-or-refused b = go (way b)
 
 -- the same of the call that is lent the entries
 pub into-or-kept : (b : List ℕ) (old : List ℤ) → ((takenOf b .answer .number ≡ 0) × (intoOf b old ≡ takenOf b)) ⊎ Kept old (intoOf b old)
-unfolding intoOf nothing
+unfolding intoOf nothingTaken
 into-or-kept b old = long (eqb (length old) 1096) refl
   where
     taken : eqb (length old) 1096 ≡ true → (v : Bool) → eqb (takenOf b .answer .number) 0 ≡ v → (takenOf b .answer .number ≡ 0) ⊎ Refused (takenOf b) → ((takenOf b .answer .number ≡ 0) × (intoOf b old ≡ takenOf b)) ⊎ Kept old (intoOf b old)
@@ -160,9 +160,9 @@ into-or-kept b old = long (eqb (length old) 1096) refl
 
 -- taken or not, there are eight spans
 pub tokens-eight : (b : List ℕ) → length (takenOf b .answer .tile .tokens) ≡ 8
-unfolding nothing wholeOf tokenSpans
+unfolding nothingTaken wholeOf tokenSpans
 tokens-eight b = go (way b)
   where
     go : {t : Taken} → Way b t → length (t .answer .tile .tokens) ≡ 8
     go (refused n k) = refl
-    go (whole h r g l f i) = length-build 8 (λ i. spanOf b (tableOf b) (partitionCount (h .partitions)) i (startOf b (tableOf b) (partitionCount (h .partitions)) i))
+    go (whole h r g l f i) = length-build 8 (λ i. partitionSpan b (sizesPlace b) (partitionCount (h .partitions)) i (partitionStart b (sizesPlace b) (partitionCount (h .partitions)) i))

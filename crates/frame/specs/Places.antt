@@ -17,27 +17,27 @@ partitionCount partitions = 2 ^ partitions
 
 module _ (b : List ℕ) (table count : ℕ) where
   -- partition_size of partition i; the last has none in the table
-  unfoldable pub sizedOf : ℕ → ℕ
-  sizedOf i = elim (ltb (i + 1) count) [ true ↦ threeAt b (table + 3 * i) | false ↦ 0 ]
+  unfoldable pub partitionSize : ℕ → ℕ
+  partitionSize i = elim (ltb (i + 1) count) [ true ↦ threeAt b (table + 3 * i) | false ↦ 0 ]
 
   -- where partition i starts: the first after the table, each other where the one before it ends
-  unfoldable pub startOf : ℕ → ℕ
-  startOf zero = table + 3 * (count - 1)
-  startOf (suc i) = startOf i + sizedOf i
+  unfoldable pub partitionStart : ℕ → ℕ
+  partitionStart zero = table + 3 * (count - 1)
+  partitionStart (suc i) = partitionStart i + partitionSize i
 
   -- how long partition i is that starts at `at`: the last goes up to the end
   unfoldable pub lengthOf : ℕ → ℕ → ℕ
   lengthOf i at = elim (ltb (i + 1) count) [ true ↦ threeAt b (table + 3 * i) | false ↦ length b - at ]
 
   -- partition i, were its start at `at`; past the count there is none
-  unfoldable pub spanOf : ℕ → ℕ → Span
-  spanOf i at = elim (ltb i count) [ true ↦ record { start = at; len = lengthOf i at } | false ↦ noSpan ]
+  unfoldable pub partitionSpan : ℕ → ℕ → Span
+  partitionSpan i at = elim (ltb i count) [ true ↦ record { start = at; len = lengthOf i at } | false ↦ noSpan ]
 
   unfoldable pub tokenSpans : List Span
-  tokenSpans = build 8 (λ i. spanOf i (startOf i))
+  tokenSpans = build 8 (λ i. partitionSpan i (partitionStart i))
 
   -- what the second 13 refuses: the sizes past the end, or a token partition
   unfoldable pub tokensInside : Bool
   tokensInside =
       leb (table + 3 * (count - 1)) (length b)
-      && allBelow count (λ i. leb (startOf i + lengthOf i (startOf i)) (length b))
+      && allBelow count (λ i. leb (partitionStart i + lengthOf i (partitionStart i)) (length b))

@@ -14,17 +14,17 @@ use Rattle.numbers.specs.Tables.{allBelow, all-below}
 use Rattle.frame.specs.Tag.{threeAt}
 use Rattle.tile.specs.declared.Span.{Span}
 use Rattle.tile.specs.Partitions.{noSpan}
-use Rattle.frame.specs.Places.{sizedOf, startOf, lengthOf, spanOf, tokensInside}
+use Rattle.frame.specs.Places.{partitionSize, partitionStart, lengthOf, partitionSpan, tokensInside}
 
 module _ (b : List ℕ) (table count : ℕ) where
-  sized-none : (i : ℕ) → count ≤ i + 1 → sizedOf b table count i ≡ 0
-  unfolding sizedOf
-  sized-none i h = rw (le-ltb (i + 1) count h, sizedOf)
+  sized-none : (i : ℕ) → count ≤ i + 1 → partitionSize b table count i ≡ 0
+  unfolding partitionSize
+  sized-none i h = rw (le-ltb (i + 1) count h, partitionSize)
 
   -- each but the last is as long as the table says
-  length-sized : (i at : ℕ) → i + 1 < count → lengthOf b table count i at ≡ sizedOf b table count i
-  unfolding sizedOf lengthOf
-  length-sized i at h = rw (lt-ltb (i + 1) count h, sizedOf, lengthOf)
+  length-sized : (i at : ℕ) → i + 1 < count → lengthOf b table count i at ≡ partitionSize b table count i
+  unfolding partitionSize lengthOf
+  length-sized i at h = rw (lt-ltb (i + 1) count h, partitionSize, lengthOf)
 
   length-last : (i at : ℕ) → count ≤ i + 1 → lengthOf b table count i at ≡ length b - at
   unfolding lengthOf
@@ -32,65 +32,65 @@ module _ (b : List ℕ) (table count : ℕ) where
 
   -- a partition as the code cuts it: none past the count, else one of those two lengths
   module _ (i at : ℕ) where
-    pub span-none : count ≤ i → noSpan ≡ spanOf b table count i at
-    unfolding spanOf
-    span-none h = rw (le-ltb i count h, spanOf)
+    pub span-none : count ≤ i → noSpan ≡ partitionSpan b table count i at
+    unfolding partitionSpan
+    span-none h = rw (le-ltb i count h, partitionSpan)
 
-    pub span-is : i < count → spanOf b table count i at ≡ record { start = at; len = lengthOf b table count i at }
-    unfolding spanOf
-    span-is h = rw (lt-ltb i count h, spanOf)
+    pub span-is : i < count → partitionSpan b table count i at ≡ record { start = at; len = lengthOf b table count i at }
+    unfolding partitionSpan
+    span-is h = rw (lt-ltb i count h, partitionSpan)
 
-    pub span-sized : i + 1 < count → {n : ℕ} → n ≡ threeAt b (table + 3 * i) → record { start = at; len = n } ≡ spanOf b table count i at
+    pub span-sized : i + 1 < count → {n : ℕ} → n ≡ threeAt b (table + 3 * i) → record { start = at; len = n } ≡ partitionSpan b table count i at
     unfolding lengthOf
     span-sized h e = rw (e, ← lengthOf-sized) (sym (span-is (omega arith)))
       where
         lengthOf-sized : lengthOf b table count i at ≡ threeAt b (table + 3 * i)
         lengthOf-sized = rw (lt-ltb (i + 1) count h, lengthOf)
 
-    pub span-last : i < count → count ≤ i + 1 → {n : ℕ} → n ≡ length b - at → record { start = at; len = n } ≡ spanOf b table count i at
+    pub span-last : i < count → count ≤ i + 1 → {n : ℕ} → n ≡ length b - at → record { start = at; len = n } ≡ partitionSpan b table count i at
     span-last h g e = rw (e, ← length-last i at g) (sym (span-is h))
 
-  place-next : (i : ℕ) → startOf b table count (suc i) ≡ startOf b table count i + sizedOf b table count i
-  unfolding startOf
+  place-next : (i : ℕ) → partitionStart b table count (suc i) ≡ partitionStart b table count i + partitionSize b table count i
+  unfolding partitionStart
   place-next i = refl
 
   -- no place is before an earlier one
-  place-up : (i k : ℕ) → startOf b table count i ≤ startOf b table count (i + k)
+  place-up : (i k : ℕ) → partitionStart b table count i ≤ partitionStart b table count (i + k)
   place-up i zero = rw (add-zero i) (omega arith)
   place-up i (suc k) = rw (add-suc i k) (omega (arith, place-up i k, place-next (i + k)))
 
   -- from the last on they stay
-  place-stays : (i k : ℕ) → count ≤ i + 1 → startOf b table count (i + k) ≡ startOf b table count i
-  place-stays i zero h = ap (startOf b table count) (add-zero i)
-  place-stays i (suc k) h = ap (startOf b table count) (add-suc i k) ∙ omega (arith, place-stays i k h, place-next (i + k), sized-none (i + k) (omega arith))
+  place-stays : (i k : ℕ) → count ≤ i + 1 → partitionStart b table count (i + k) ≡ partitionStart b table count i
+  place-stays i zero h = ap (partitionStart b table count) (add-zero i)
+  place-stays i (suc k) h = ap (partitionStart b table count) (add-suc i k) ∙ omega (arith, place-stays i k h, place-next (i + k), sized-none (i + k) (omega arith))
 
   module _ (h : count ≤ 8) where
-    to-eight : (i : ℕ) → i ≤ 8 → startOf b table count i ≤ startOf b table count 8
+    to-eight : (i : ℕ) → i ≤ 8 → partitionStart b table count i ≤ partitionStart b table count 8
     to-eight i l =
         let e : i + (8 - i) ≡ 8 = omega arith in
         rw e at (place-up i (8 - i))
 
-    module _ (g : startOf b table count 8 ≤ length b) where
-      one-inside : (i : ℕ) → i < count → leb (startOf b table count i + lengthOf b table count i (startOf b table count i)) (length b) ≡ true
-      one-inside i l = le-leb (startOf b table count i + lengthOf b table count i (startOf b table count i)) (length b) (⊎-elim
-          (λ k. rw (length-sized i (startOf b table count i) k) (omega (arith, place-next i, to-eight (suc i) (omega arith))))
-          (λ k. rw (length-last i (startOf b table count i) k) (omega (arith, to-eight i (omega arith))))
+    module _ (g : partitionStart b table count 8 ≤ length b) where
+      one-inside : (i : ℕ) → i < count → leb (partitionStart b table count i + lengthOf b table count i (partitionStart b table count i)) (length b) ≡ true
+      one-inside i l = le-leb (partitionStart b table count i + lengthOf b table count i (partitionStart b table count i)) (length b) (⊎-elim
+          (λ k. rw (length-sized i (partitionStart b table count i) k) (omega (arith, place-next i, to-eight (suc i) (omega arith))))
+          (λ k. rw (length-last i (partitionStart b table count i) k) (omega (arith, to-eight i (omega arith))))
           (lt-or (i + 1) count))
 
-      below : (n : ℕ) → n ≤ count → allBelow n (λ i. leb (startOf b table count i + lengthOf b table count i (startOf b table count i)) (length b)) ≡ true
+      below : (n : ℕ) → n ≤ count → allBelow n (λ i. leb (partitionStart b table count i + lengthOf b table count i (partitionStart b table count i)) (length b)) ≡ true
       below zero l = refl
       below (suc n) l = both-true (one-inside n (omega arith)) (below n (omega arith))
 
       pub inside-all : tokensInside b table count ≡ true
-      unfolding tokensInside startOf
+      unfolding tokensInside partitionStart
       inside-all = both-true (le-leb (table + 3 * (count - 1)) (length b) (omega (arith, to-eight 0 (omega arith)))) (below count (omega arith))
 
-    pub inside-not : 1 ≤ count → length b < startOf b table count 8 → tokensInside b table count ≡ false
+    pub inside-not : 1 ≤ count → length b < partitionStart b table count 8 → tokensInside b table count ≡ false
     unfolding tokensInside
     inside-not k g = sym (not-so (tokensInside b table count) (λ e.
         let last : ℕ = count - 1 in
-        let t = all-below (λ i. leb (startOf b table count i + lengthOf b table count i (startOf b table count i)) (length b)) count (both-right (leb (table + 3 * (count - 1)) (length b)) _ e) last (omega arith) in
-        let u = leb-true (startOf b table count last + lengthOf b table count last (startOf b table count last)) (length b) t in
+        let t = all-below (λ i. leb (partitionStart b table count i + lengthOf b table count i (partitionStart b table count i)) (length b)) count (both-right (leb (table + 3 * (count - 1)) (length b)) _ e) last (omega arith) in
+        let u = leb-true (partitionStart b table count last + lengthOf b table count last (partitionStart b table count last)) (length b) t in
         let v : last + (8 - last) ≡ 8 = omega arith in
-        let w : startOf b table count 8 ≡ startOf b table count last = rw v at (place-stays last (8 - last) (omega arith)) in
+        let w : partitionStart b table count 8 ≡ partitionStart b table count last = rw v at (place-stays last (8 - last) (omega arith)) in
         omega (arith, u, w)))

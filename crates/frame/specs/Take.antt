@@ -12,11 +12,11 @@ use Rattle.frame.specs.declared.fields.Header.{Header}
 use Rattle.header.specs.Entries.{entryCount}
 use Rattle.tile.specs.declared.Span.{Span}
 use Rattle.tile.specs.declared.Tile.{Tile}
-use Rattle.tile.specs.Partitions.{noSpan, partOf}
+use Rattle.tile.specs.Partitions.{noSpan, contentsOf}
 use Rattle.frame.specs.declared.take.Answer.{Answer}
 use Rattle.frame.specs.declared.take.Taken.{Taken}
 use Rattle.frame.specs.Header.{header}
-use Rattle.frame.specs.Tag.{sizeOf, widthOf, heightOf, goodOf, roundedOf}
+use Rattle.frame.specs.Tag.{firstSize, widthOf, heightOf, tagFine, roundedOf}
 use Rattle.frame.specs.Places.{partitionCount, tokenSpans, tokensInside}
 use Rattle.frame.specs.Entries.{entries}
 
@@ -24,26 +24,26 @@ use Rattle.frame.specs.Entries.{entries}
 abbrev pub noTile : Tile
 noTile = record { first = noSpan; tokens = replicate 8 noSpan; reader = noReader; count = 0; width = 0; height = 0 }
 
-abbrev pub refusedOf : ℕ → Answer
-refusedOf number = record { number = number; tile = noTile; shown = record { width = 0; height = 0 }; simple = false }
+abbrev pub refusedAnswer : ℕ → Answer
+refusedAnswer number = record { number = number; tile = noTile; shown = record { width = 0; height = 0 }; simple = false }
 
-unfoldable pub nothing : ℕ → Taken
-nothing number = record { answer = refusedOf number; header = replicate entryCount (pos 0) }
+unfoldable pub nothingTaken : ℕ → Taken
+nothingTaken number = record { answer = refusedAnswer number; header = replicate entryCount (pos 0) }
 
 -- ---- what is taken of a frame whose coded header is h, the reader after it r
 -- the first partition: after ten bytes, as long as the tag says
 abbrev pub firstOf : List ℕ → Span
-firstOf b = record { start = 10; len = sizeOf b }
+firstOf b = record { start = 10; len = firstSize b }
 
 -- where it ends stand the sizes of the token partitions
-abbrev pub tableOf : List ℕ → ℕ
-tableOf b = 10 + sizeOf b
+abbrev pub sizesPlace : List ℕ → ℕ
+sizesPlace b = 10 + firstSize b
 
 abbrev pub tileOf : List ℕ → Header → Reader → Tile
 tileOf b h r =
     record {
       first = firstOf b;
-      tokens = tokenSpans b (tableOf b) (partitionCount (h .partitions));
+      tokens = tokenSpans b (sizesPlace b) (partitionCount (h .partitions));
       reader = r;
       count = partitionCount (h .partitions);
       width = roundedOf (widthOf b);
@@ -65,26 +65,26 @@ wholeOf b h r = record { answer = answerOf b h r; header = entries h }
 
 -- ---- the refusals in order
 -- 13: the sizes of the token partitions, or one of them, past the end
-unfoldable pub placedOf : List ℕ → Header → Reader → Taken
-placedOf b h r = elim (tokensInside b (tableOf b) (partitionCount (h .partitions))) [ true ↦ wholeOf b h r | false ↦ nothing 13 ]
+unfoldable pub partitionsPlaced : List ℕ → Header → Reader → Taken
+partitionsPlaced b h r = elim (tokensInside b (sizesPlace b) (partitionCount (h .partitions))) [ true ↦ wholeOf b h r | false ↦ nothingTaken 13 ]
 
 -- 14: the coded header ran out
 abbrev pub codedOf : List ℕ → Given Header → Taken
-codedOf b (given h r) = placedOf b h r
-codedOf b missing = nothing 14
+codedOf b (given h r) = partitionsPlaced b h r
+codedOf b missing = nothingTaken 14
 
 -- what the coded header is, read from the first partition
 unfoldable pub givenHeader : List ℕ → Given Header
-givenHeader b = run header (partOf b (firstOf b)) (firstReader (partOf b (firstOf b)))
+givenHeader b = run header (contentsOf b (firstOf b)) (firstReader (contentsOf b (firstOf b)))
 
 -- 12: the tag, start code or sizes; 13: the first partition past the end; 14: it has under two bytes
 unfoldable pub takenOf : List ℕ → Taken
 takenOf b =
-    elim (goodOf b) [
-      | false ↦ nothing 12
-      | true ↦ elim (leb (tableOf b) (length b)) [
-        | false ↦ nothing 13
-        | true ↦ elim (ltb (sizeOf b) 2) [ true ↦ nothing 14 | false ↦ codedOf b (givenHeader b) ]
+    elim (tagFine b) [
+      | false ↦ nothingTaken 12
+      | true ↦ elim (leb (sizesPlace b) (length b)) [
+        | false ↦ nothingTaken 13
+        | true ↦ elim (ltb (firstSize b) 2) [ true ↦ nothingTaken 14 | false ↦ codedOf b (givenHeader b) ]
       ]
     ]
 
@@ -92,7 +92,7 @@ takenOf b =
 unfoldable pub intoOf : List ℕ → List ℤ → Taken
 intoOf b old =
     elim (eqb (length old) entryCount) [
-      | false ↦ record { answer = refusedOf 9; header = old }
+      | false ↦ record { answer = refusedAnswer 9; header = old }
       | true ↦ elim (eqb (takenOf b .answer .number) 0) [
         | true ↦ takenOf b
         | false ↦ record { answer = takenOf b .answer; header = old }

@@ -15,58 +15,58 @@ use Rattle.reader.specs.Reading.{run}
 use Rattle.reader.specs.ReadingLaws.{run-valid}
 use Rattle.frame.specs.declared.fields.Header.{Header}
 use Rattle.tile.specs.declared.Span.{Span}
-use Rattle.tile.specs.Partitions.{partOf}
+use Rattle.tile.specs.Partitions.{contentsOf}
 use Rattle.frame.specs.declared.take.Answer.{Answer}
 use Rattle.frame.specs.declared.take.Taken.{Taken}
 use Rattle.frame.specs.Header.{header}
-use Rattle.frame.specs.Tag.{sizeOf, widthOf, heightOf, roundedOf, goodOf}
-use Rattle.frame.specs.Places.{partitionCount, startOf, tokenSpans, tokensInside}
-use Rattle.frame.specs.Fine.{Fine}
+use Rattle.frame.specs.Tag.{firstSize, widthOf, heightOf, roundedOf, tagFine}
+use Rattle.frame.specs.Places.{partitionCount, partitionStart, tokenSpans, tokensInside}
+use Rattle.frame.specs.Fine.{FineTaken}
 use Rattle.frame.specs.HeaderLaws.{header-within}
 use Rattle.frame.specs.Entries.{entries}
 use Rattle.reader.specs.Reads.{Reads}
 use Rattle.frame.specs.PlacesLaws.{inside-all, inside-not}
-use Rattle.frame.specs.Take.{refusedOf, nothing, firstOf, tableOf, wholeOf, placedOf, codedOf, givenHeader, takenOf, intoOf}
+use Rattle.frame.specs.Take.{refusedAnswer, nothingTaken, firstOf, sizesPlace, wholeOf, partitionsPlaced, codedOf, givenHeader, takenOf, intoOf}
 
 module _ (b : List ℕ) where
-  pub take-tag : goodOf b ≡ false → nothing 12 ≡ takenOf b
+  pub take-tag : tagFine b ≡ false → nothingTaken 12 ≡ takenOf b
   unfolding takenOf
   take-tag e = rw (e, takenOf)
 
   -- after it the code has the size of the first partition, and has tried whether that lies inside
-  module _ (e : goodOf b ≡ true) {size : ℕ} (z : size ≡ sizeOf b) where
-    pub take-first : leb (10 + size) (length b) ≡ false → nothing 13 ≡ takenOf b
+  module _ (e : tagFine b ≡ true) {size : ℕ} (z : size ≡ firstSize b) where
+    pub take-first : leb (10 + size) (length b) ≡ false → nothingTaken 13 ≡ takenOf b
     unfolding takenOf
-    take-first h = let f : leb (tableOf b) (length b) ≡ false = rw z at h in rw (e, f, takenOf)
+    take-first h = let f : leb (sizesPlace b) (length b) ≡ false = rw z at h in rw (e, f, takenOf)
 
     module _ (h : leb (10 + size) (length b) ≡ true) where
-      inside : leb (tableOf b) (length b) ≡ true
+      inside : leb (sizesPlace b) (length b) ≡ true
       inside = rw z at h
 
-      pub take-short : size < 2 → nothing 14 ≡ takenOf b
+      pub take-short : size < 2 → nothingTaken 14 ≡ takenOf b
       unfolding takenOf
-      take-short l = rw (e, inside, lt-ltb (sizeOf b) 2 (rw z at l), takenOf)
+      take-short l = rw (e, inside, lt-ltb (firstSize b) 2 (rw z at l), takenOf)
 
-      pub take-coded : 2 ≤ size → {s : List ℕ} → s ≡ partOf b (record { start = 10; len = size }) → codedOf b (run header s (firstReader s)) ≡ takenOf b
+      pub take-coded : 2 ≤ size → {s : List ℕ} → s ≡ contentsOf b (record { start = 10; len = size }) → codedOf b (run header s (firstReader s)) ≡ takenOf b
       unfolding takenOf givenHeader
       take-coded l {s} f =
-          let g : s ≡ partOf b (firstOf b) = rw z at f in
-          let k : codedOf b (givenHeader b) ≡ takenOf b = rw (e, inside, le-ltb (sizeOf b) 2 (rw z at l), takenOf) in
+          let g : s ≡ contentsOf b (firstOf b) = rw z at f in
+          let k : codedOf b (givenHeader b) ≡ takenOf b = rw (e, inside, le-ltb (firstSize b) 2 (rw z at l), takenOf) in
           ap (λ (s : List ℕ). codedOf b (run header s (firstReader s))) g ∙ k
 
   -- the token partitions
   module _ (h : Header) (r : Reader) (l : 1 ≤ partitionCount (h .partitions)) (m : partitionCount (h .partitions) ≤ 8) where
-    pub placed-not : length b < startOf b (tableOf b) (partitionCount (h .partitions)) 8 → nothing 13 ≡ placedOf b h r
-    unfolding placedOf
-    placed-not g = rw (inside-not b (tableOf b) (partitionCount (h .partitions)) m l g, placedOf)
+    pub placed-not : length b < partitionStart b (sizesPlace b) (partitionCount (h .partitions)) 8 → nothingTaken 13 ≡ partitionsPlaced b h r
+    unfolding partitionsPlaced
+    placed-not g = rw (inside-not b (sizesPlace b) (partitionCount (h .partitions)) m l g, partitionsPlaced)
 
-    pub placed-all : startOf b (tableOf b) (partitionCount (h .partitions)) 8 ≤ length b → wholeOf b h r ≡ placedOf b h r
-    unfolding placedOf
-    placed-all g = rw (inside-all b (tableOf b) (partitionCount (h .partitions)) m g, placedOf)
+    pub placed-all : partitionStart b (sizesPlace b) (partitionCount (h .partitions)) 8 ≤ length b → wholeOf b h r ≡ partitionsPlaced b h r
+    unfolding partitionsPlaced
+    placed-all g = rw (inside-all b (sizesPlace b) (partitionCount (h .partitions)) m g, partitionsPlaced)
 
   -- the same of what the code has: the size, the count and the last start
-  module _ (h : Header) (r : Reader) {size n last : ℕ} (e : size ≡ sizeOf b) (f : n ≡ partitionCount (h .partitions)) (l : 1 ≤ n) (m : n ≤ 8) (g : last ≡ startOf b (10 + size) n 8) where
-    pub refused-places : length b < last → nothing 13 ≡ placedOf b h r
+  module _ (h : Header) (r : Reader) {size n last : ℕ} (e : size ≡ firstSize b) (f : n ≡ partitionCount (h .partitions)) (l : 1 ≤ n) (m : n ≤ 8) (g : last ≡ partitionStart b (10 + size) n 8) where
+    pub refused-places : length b < last → nothingTaken 13 ≡ partitionsPlaced b h r
     refused-places k = placed-not h r (rw f at l) (rw f at m) (rw (g, e, f) at k)
 
     pub taken-whole : {w t a d : ℕ} {tokens : List Span} {es : List ℤ} → a ≡ widthOf b → d ≡ heightOf b → w ≡ roundedOf a → t ≡ roundedOf d → tokens ≡ tokenSpans b (10 + size) n → es ≡ entries h → last ≤ length b
@@ -78,13 +78,13 @@ module _ (b : List ℕ) where
             simple = not (eqb (h .filter .kind) 0);
           };
           header = es;
-        } ≡ placedOf b h r
+        } ≡ partitionsPlaced b h r
     unfolding wholeOf
     taken-whole pa pd pw pt ps pe k = rw (pw, pt, pa, pd, ps, pe, f, e) (placed-all h r (rw f at l) (rw f at m) (rw (g, e, f) at k))
 
 -- with the entries lent
 module _ (b : List ℕ) (old : List ℤ) where
-  pub into-length : {a : Answer} → a ≡ refusedOf 9 → (length old ≡ 1096 → ⊥) → record { answer = a; header = old } ≡ intoOf b old
+  pub into-length : {a : Answer} → a ≡ refusedAnswer 9 → (length old ≡ 1096 → ⊥) → record { answer = a; header = old } ≡ intoOf b old
   unfolding intoOf
   into-length e h = rw (e, ne-eqb _ _ h, intoOf)
 
@@ -104,15 +104,15 @@ module _ (b s : List ℕ) (y : Bytes s) {r q : Reader} {h : Header} (e : r ≡ f
   start-valid : validOf s r ≡ true
   start-valid = rw e (valid-test s (firstReader s) (first-valid s y))
 
-  pub read-missing : validOf s q ≡ false → nothing 14 ≡ codedOf b (run header s (firstReader s))
+  pub read-missing : validOf s q ≡ false → nothingTaken 14 ≡ codedOf b (run header s (firstReader s))
   read-missing f = sym (ap (codedOf b) (ap (run header s) (sym e) ∙ x .stopped start-valid f))
 
   module _ (f : validOf s q ≡ true) where
     given-is : run header s r ≡ given h q
     given-is = x .went start-valid f
 
-    pub read-given : placedOf b h q ≡ codedOf b (run header s (firstReader s))
+    pub read-given : partitionsPlaced b h q ≡ codedOf b (run header s (firstReader s))
     read-given = sym (ap (codedOf b) (ap (run header s) (sym e) ∙ given-is))
 
-    pub read-fine : Fine h
+    pub read-fine : FineTaken h
     read-fine = run-valid header-within y (valid-fact s r start-valid) given-is .value

@@ -9,8 +9,8 @@ use crate::fields::Three;
 use header::entries;
 ghost use mathlib.Core.Path.{_≡_};
 ghost use Prim.Native.Nat.{_<_};
-ghost use Rattle.frame.specs.Fine.{Fine};
-ghost use Rattle.frame.specs.Entries.{valueOf, stored, fourFrom, threeFrom, withSegments, withFilter, withQuantizers};
+ghost use Rattle.frame.specs.Fine.{FineTaken};
+ghost use Rattle.frame.specs.Entries.{valueOf, storedEntries, fourFrom, threeFrom, withSegments, withFilter, withQuantizers};
 ghost use Rattle.frame.specs.Entries.{numbers, numberAt, entries};
 
 // A coded number as a number.
@@ -28,7 +28,7 @@ fn value(x: Signed) -> i32
 // Four numbers, and three, from entry i on.
 fn four_from(l: [Signed; 38], i: usize, f: Four) -> [Signed; 38]
     requires { ⌜ i < 35 ⌝ }
-    ensures { λ r. ⌜ r ≡ stored (fourFrom i f) l ⌝ }
+    ensures { λ r. ⌜ r ≡ storedEntries (fourFrom i f) l ⌝ }
 {
     let a = f.a;
     let b = f.b;
@@ -44,7 +44,7 @@ fn four_from(l: [Signed; 38], i: usize, f: Four) -> [Signed; 38]
 
 fn three_from(l: [Signed; 38], i: usize, t: Three) -> [Signed; 38]
     requires { ⌜ i < 36 ⌝ }
-    ensures { λ r. ⌜ r ≡ stored (threeFrom i t) l ⌝ }
+    ensures { λ r. ⌜ r ≡ storedEntries (threeFrom i t) l ⌝ }
 {
     let mut out = l;
     out[i] = Signed { sign: 0, size: t.a };
@@ -158,7 +158,7 @@ fn number_at(first: [Signed; 38], probs: &[u32; 1056], skip: u32, chance: u32, i
 }
 
 pub(crate) fn entries(h: Header) -> [i32; 1096]
-    requires { ⌜ Fine h ⌝ }
+    requires { ⌜ FineTaken h ⌝ }
     ensures { λ r. ⌜ r ≡ entries h ⌝ }
 {
     let first = numbers(h);

@@ -4,7 +4,7 @@ use crate::tag::three;
 use tile::Span;
 ghost use mathlib.Core.Path.{_≡_};
 ghost use Prim.Native.Nat.{_<_, _≤_, _-_};
-ghost use Rattle.frame.specs.Places.{partitionCount, sizedOf, startOf, spanOf, tokenSpans};
+ghost use Rattle.frame.specs.Places.{partitionCount, partitionSize, partitionStart, partitionSpan, tokenSpans};
 
 // `last` is where the last one starts.
 pub(crate) struct Found {
@@ -32,7 +32,7 @@ pub(crate) fn count(partitions: u32) -> usize
 // The size of partition i that stands in the table; none of the last.
 fn sized(b: &[u8], table: usize, count: usize, i: usize) -> usize
     requires { ⌜ (table < 1000000) × (i < 8) ⌝ }
-    ensures { λ r. ⌜ (r ≡ sizedOf (now (b .entry)) table count i) × (r < 16777216) ⌝ }
+    ensures { λ r. ⌜ (r ≡ partitionSize (now (b .entry)) table count i) × (r < 16777216) ⌝ }
 {
     if i + 1 < count {
         return three(b, table + 3 * i);
@@ -53,7 +53,7 @@ fn rest(n: usize, at: usize) -> usize
 // Partition i, which starts at `at`.
 fn cut(b: &[u8], table: usize, count: usize, i: usize, at: usize) -> Span
     requires { ⌜ (table < 1000000) × (i < 8) ⌝ }
-    ensures { λ r. ⌜ r ≡ spanOf (now (b .entry)) table count i at ⌝ }
+    ensures { λ r. ⌜ r ≡ partitionSpan (now (b .entry)) table count i at ⌝ }
 {
     if count <= i {
         return Span { start: 0, len: 0 };
@@ -73,7 +73,7 @@ fn cut(b: &[u8], table: usize, count: usize, i: usize, at: usize) -> Span
 pub(crate) fn places(b: &[u8], table: usize, count: usize) -> Found
     requires { ⌜ (table < 1000000) × (1 ≤ count) × (count ≤ 8) ⌝ }
     ensures { λ r. ⌜ (r .tokens ≡ tokenSpans (now (b .entry)) table count)
-        × (r .last ≡ startOf (now (b .entry)) table count 8) ⌝ }
+        × (r .last ≡ partitionStart (now (b .entry)) table count 8) ⌝ }
 {
     let mut tokens = [Span { start: 0, len: 0 }; 8];
     let mut at = table + 3 * (count - 1);

@@ -2,7 +2,7 @@
 ghost use mathlib.Core.Path.{_≡_};
 ghost use Prim.Native.Nat.{_<_, _+_};
 ghost use lib.ListN.{getD};
-ghost use Rattle.frame.specs.Tag.{twoAt, threeAt, sizeOf, widthOf, heightOf, goodOf, roundedOf};
+ghost use Rattle.frame.specs.Tag.{twoAt, threeAt, firstSize, widthOf, heightOf, tagFine, roundedOf};
 
 fn wide(x: u8) -> usize
     ensures { λ r. ⌜ (r ≡ x) × (r < 256) ⌝ }
@@ -37,7 +37,7 @@ pub(crate) fn three(b: &[u8], i: usize) -> usize
 
 // The size of the first partition, and the true sizes.
 pub(crate) fn size(b: &[u8]) -> usize
-    ensures { λ r. ⌜ (r ≡ sizeOf (now (b .entry))) × (r < 524288) ⌝ }
+    ensures { λ r. ⌜ (r ≡ firstSize (now (b .entry))) × (r < 524288) ⌝ }
 {
     three(b, 0) / 32
 }
@@ -56,7 +56,7 @@ pub(crate) fn height(b: &[u8]) -> usize
 
 // A key frame's tag, start code and sizes: what 12 refuses.
 pub(crate) fn good(b: &[u8]) -> bool
-    ensures { λ r. ⌜ r ≡ goodOf (now (b .entry)) ⌝ }
+    ensures { λ r. ⌜ r ≡ tagFine (now (b .entry)) ⌝ }
 {
     let tag = three(b, 0);
     let first = byte(b, 3);

@@ -20,8 +20,8 @@ ghost use mathlib.Core.Path.{_≡_};
 ghost use Rattle.reader.specs.Boolean.{firstReader};
 ghost use Rattle.reader.specs.Reading.{run};
 ghost use Rattle.frame.specs.Header.{header};
-ghost use Rattle.frame.specs.Fine.{Fine};
-ghost use Rattle.frame.specs.Take.{refusedOf, nothing, placedOf, codedOf, takenOf};
+ghost use Rattle.frame.specs.Fine.{FineTaken};
+ghost use Rattle.frame.specs.Take.{refusedAnswer, nothingTaken, partitionsPlaced, codedOf, takenOf};
 
 pub struct Size {
     pub width: usize,
@@ -44,7 +44,7 @@ pub struct Taken {
 }
 
 pub(crate) fn refused(number: u32) -> Answer
-    ensures { λ r. ⌜ r ≡ refusedOf number ⌝ }
+    ensures { λ r. ⌜ r ≡ refusedAnswer number ⌝ }
 {
     Answer {
         number: number,
@@ -65,7 +65,7 @@ pub(crate) fn refused(number: u32) -> Answer
 }
 
 fn nothing(number: u32) -> Taken
-    ensures { λ r. ⌜ r ≡ nothing number ⌝ }
+    ensures { λ r. ⌜ r ≡ nothingTaken number ⌝ }
 {
     Taken {
         answer: refused(number),
@@ -75,8 +75,8 @@ fn nothing(number: u32) -> Taken
 
 // After the coded header: the token partitions.
 fn placed(b: &[u8], h: Header, reader: Reader) -> Taken
-    requires { ⌜ Fine h ⌝ }
-    ensures { λ r. ⌜ r ≡ placedOf (now (b .entry)) h reader ⌝ }
+    requires { ⌜ FineTaken h ⌝ }
+    ensures { λ r. ⌜ r ≡ partitionsPlaced (now (b .entry)) h reader ⌝ }
 {
     let size = size(b);
     let n = count(h.partitions);

@@ -13,8 +13,8 @@ use Rattle.header.specs.declared.quantizers.Factors.{Factors}
 use Rattle.header.specs.declared.frame.Announced.{Announced}
 use Rattle.header.specs.declared.frame.Frame.{Frame}
 use Rattle.header.specs.declared.frame.Framed.{Framed}
-use Rattle.header.specs.declared.frame.Taken.{Taken}
-use Rattle.header.specs.declared.frame.Taken.the-variants as T
+use Rattle.numbers.specs.declared.Checked.{Checked}
+use Rattle.numbers.specs.declared.Checked.the-variants as T
 
 abbrev pub levelsOf : List ℤ → Bool → List ℕ
 levelsOf h small = levelOf h 0 small ∷ levelOf h 1 small ∷ levelOf h 2 small ∷ levelOf h 3 small ∷ []
@@ -65,7 +65,3 @@ framedOf h =
       | true ↦ record { answer = T.Done; frame = frameOf h }
       | false ↦ record { answer = T.Refused; frame = noFrame }
     ]
-
-abbrev pub takenNumberOf : Taken → ℕ
-takenNumberOf T.Done = 0
-takenNumberOf T.Refused = 9

@@ -16,7 +16,7 @@ use Rattle.header.specs.Levels.{levelOf}
 use Rattle.header.specs.LevelsLaws.{level-in}
 use Rattle.header.specs.declared.frame.Announced.{Announced}
 use Rattle.header.specs.declared.frame.Frame.{Frame}
-use Rattle.header.specs.declared.frame.Taken.the-variants as T
+use Rattle.numbers.specs.declared.Checked.the-variants as T
 use Rattle.header.specs.Frame.{levelsOf, announcedOf, noAnnounced, frameOf, noFrame, factorsAt, levelAt, framedOf}
 
 -- ---- the parts together

@@ -2,6 +2,7 @@ pub mod Entries
 pub mod Header
 pub mod HeaderLaws
 pub mod Own
+pub mod OwnLaws
 pub mod Quantizers
 pub mod QuantizersLaws
 pub mod Levels

@@ -10,6 +10,7 @@ use crate::entries::probability_at;
 use crate::levels::leveled;
 use crate::quantizers::Factors;
 use crate::quantizers::six;
+use numbers::Checked;
 use numbers::clamp_to;
 ghost use mathlib.Core.Path.{_≡_};
 ghost use lib.IntN.{pos, negsuc};
@@ -38,13 +39,8 @@ pub struct Frame {
     pub announced: Announced,
 }
 
-pub enum Taken {
-    Done,
-    Refused,
-}
-
 pub struct Framed {
-    pub answer: Taken,
+    pub answer: Checked,
     pub frame: Frame,
 }
 
@@ -133,12 +129,12 @@ pub fn take(h: &[i32]) -> Framed
 {
     if !header_fine(h) {
         return Framed {
-            answer: Taken::Refused,
+            answer: Checked::Refused,
             frame: none(),
         };
     }
     Framed {
-        answer: Taken::Done,
+        answer: Checked::Done,
         frame: made(h),
     }
 }

@@ -14,29 +14,29 @@ use Rattle.lent.specs.Memory.{Memory}
 use Rattle.picture.specs.Checks.{Call}
 use Rattle.picture.specs.Picture.{Ended, numberOf, valuesOf, pictureOf}
 
-pub record Called : Type 0 where
+pub record PictureCalled : Type 0 where
   pub number : ℕ
   pub finished : ℕ
   pub mem : Memory
 
-abbrev pub toCalled : Ended → Called
-toCalled e = record { number = numberOf (e .answer); finished = valuesOf (e .answer); mem = e .mem }
+abbrev pub toPictureCalled : Ended → PictureCalled
+toPictureCalled e = record { number = numberOf (e .answer); finished = valuesOf (e .answer); mem = e .mem }
 
-abbrev pub calledNumbers : (number finished : ℕ) → Memory → Called
+abbrev pub calledNumbers : (number finished : ℕ) → Memory → PictureCalled
 calledNumbers number finished mem = record { number = number; finished = finished; mem = mem }
 
 -- the spans of the eight token partitions, from their starts and lengths
-abbrev pub spanOf : (starts lengths : List ℕ) → ℕ → Span
-spanOf starts lengths i = record { start = getD starts i 0; len = getD lengths i 0 }
+abbrev pub spanFrom : (starts lengths : List ℕ) → ℕ → Span
+spanFrom starts lengths i = record { start = getD starts i 0; len = getD lengths i 0 }
 
-abbrev pub spansOf : (starts lengths : List ℕ) → List Span
-spansOf starts lengths = listed 8 (spanOf starts lengths)
+abbrev pub spansFrom : (starts lengths : List ℕ) → List Span
+spansFrom starts lengths = listed 8 (spanFrom starts lengths)
 
 -- eight starts and eight lengths, else 9
-unfoldable pub calledOf : (starts lengths : List ℕ) → Call → Memory → Called
+unfoldable pub calledOf : (starts lengths : List ℕ) → Call → Memory → PictureCalled
 calledOf starts lengths c m =
     elim (eqb (length starts) 8 && eqb (length lengths) 8) [
-      | true ↦ toCalled (pictureOf c m)
+      | true ↦ toPictureCalled (pictureOf c m)
       | false ↦ calledNumbers 9 0 m
     ]
 
@@ -50,7 +50,7 @@ pub record DeblockCalled : Type 0 where
   pub planes : Planes
 
 abbrev pub toDeblockCalled : Outcome → DeblockCalled
-toDeblockCalled o = record { number = Deblock.numberOf (o .answer); planes = o .planes }
+toDeblockCalled o = record { number = Deblock.deblockNumberOf (o .answer); planes = o .planes }
 
 unfoldable pub deblockCalledOf : Planes → (strengths : List ℕ) → (w h simple : ℕ) → DeblockCalled
 deblockCalledOf d strengths w h simple = toDeblockCalled (deblockOf d strengths w h (flagOf simple))

@@ -18,7 +18,7 @@ use Rattle.macroblock.specs.Macroblock.{Planes}
 use Rattle.deblock.specs.declared.Deblocked.{Deblocked}
 use Rattle.deblock.specs.Deblock as Deblock
 use Rattle.deblock.specs.Deblock.{Outcome, deblockOf}
-use Rattle.hookbarley.specs.Calls.{toCalled, calledNumbers, calledOf, DeblockCalled, toDeblockCalled, deblockCalledOf, Filtered, flagOf, filteredOf}
+use Rattle.hookbarley.specs.Calls.{toPictureCalled, calledNumbers, calledOf, DeblockCalled, toDeblockCalled, deblockCalledOf, Filtered, flagOf, filteredOf}
 
 module _ (starts lengths : List ℕ) (c : Call) (m : Memory) where
   pub called-starts : (length starts ≡ 8 → ⊥) → calledNumbers 9 0 m ≡ calledOf starts lengths c m
@@ -33,8 +33,8 @@ module _ (starts lengths : List ℕ) (c : Call) (m : Memory) where
       → calledNumbers n k q ≡ calledOf starts lengths c m
   unfolding calledOf
   called-picture d e {n} {k} {d = x} {q} f g h =
-      let z : calledOf starts lengths c m ≡ toCalled (pictureOf c m) = rw (eq-eqb _ _ d, eq-eqb _ _ e, calledOf) in
-      (λ i. calledNumbers (f i) (g i) q) ∙ ap toCalled h ∙ sym z
+      let z : calledOf starts lengths c m ≡ toPictureCalled (pictureOf c m) = rw (eq-eqb _ _ d, eq-eqb _ _ e, calledOf) in
+      (λ i. calledNumbers (f i) (g i) q) ∙ ap toPictureCalled h ∙ sym z
 
 -- the same with the spans as the code made them
 abbrev pub withTokens : Call → List Span → Call
@@ -44,7 +44,7 @@ pub called-found : (starts lengths : List ℕ) (c : Call) (m : Memory) → lengt
     → {s : List Span} → s ≡ c .tile .tokens → endedOf d q ≡ pictureOf (withTokens c s) m → calledNumbers n k q ≡ calledOf starts lengths c m
 called-found starts lengths c m d e f g p h = called-picture starts lengths c m d e f g (h ∙ (λ i. pictureOf (withTokens c (p i)) m))
 
-pub deblock-called : (d : Planes) (s : List ℕ) (w h simple : ℕ) {n : ℕ} {a : Deblocked} {p : Planes} → n ≡ Deblock.numberOf a
+pub deblock-called : (d : Planes) (s : List ℕ) (w h simple : ℕ) {n : ℕ} {a : Deblocked} {p : Planes} → n ≡ Deblock.deblockNumberOf a
     → _≡_ {A = Outcome} (record { answer = a; planes = p }) (deblockOf d s w h (flagOf simple)) → record { number = n; planes = p } ≡ deblockCalledOf d s w h simple
 unfolding deblockCalledOf
 deblock-called d s w h simple {n} {a} {p} e f = ap (λ (k : ℕ). record { number = k; planes = p }) e ∙ ap toDeblockCalled f

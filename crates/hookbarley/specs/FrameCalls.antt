@@ -12,7 +12,7 @@ use Rattle.tile.specs.Partitions.{noSpan}
 use Rattle.frame.specs.declared.take.Answer.{Answer}
 use Rattle.frame.specs.declared.take.Taken.{Taken}
 use Rattle.frame.specs.Take.{intoOf}
-use Rattle.hookbarley.specs.Calls.{spansOf}
+use Rattle.hookbarley.specs.Calls.{spansFrom}
 
 -- sides, true sizes, filter kind, count, the first partition, eight starts, eight lengths, the reader
 abbrev pub numbersOf : Answer → List ℕ
@@ -36,11 +36,11 @@ frameCalledOf b header tile =
     elim (eqb (length tile) 28) [ true ↦ toFrameCalled (intoOf b header) | false ↦ record { number = 9; header = header; tile = tile } ]
 
 -- the tile that hookbarley_decode makes of these numbers, handed over one by one
-abbrev pub tileOf : List ℕ → Tile
-tileOf n =
+abbrev pub tileOfNumbers : List ℕ → Tile
+tileOfNumbers n =
     record {
       first = record { start = getD n 6 0; len = getD n 7 0 };
-      tokens = spansOf (take 8 (drop 8 n)) (take 8 (drop 16 n));
+      tokens = spansFrom (take 8 (drop 8 n)) (take 8 (drop 16 n));
       reader = record { at = getD n 24 0; range = getD n 25 0; shifts = getD n 26 0; window = getD n 27 0 };
       count = getD n 5 0;
       width = getD n 0 0;

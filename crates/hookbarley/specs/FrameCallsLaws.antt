@@ -14,7 +14,7 @@ use Rattle.frame.specs.declared.take.Answer.{Answer}
 use Rattle.frame.specs.declared.take.Taken.{Taken}
 use Rattle.frame.specs.Take.{takenOf, intoOf}
 use Rattle.frame.specs.PassesLaws.{tokens-eight}
-use Rattle.hookbarley.specs.FrameCalls.{numbersOf, FrameCalled, toFrameCalled, frameCalledOf, tileOf}
+use Rattle.hookbarley.specs.FrameCalls.{numbersOf, FrameCalled, toFrameCalled, frameCalledOf, tileOfNumbers}
 
 module _ (b : List ℕ) (header : List ℤ) (tile : List ℕ) where
   pub frame-refused : (length tile ≡ 28 → ⊥) → record { number = 9; header = header; tile = tile } ≡ frameCalledOf b header tile
@@ -32,7 +32,7 @@ module _ (b : List ℕ) (header : List ℤ) (tile : List ℕ) where
 eight-spans : (l : List Span) → length l ≡ 8 → listed 8 (λ i. getD l i noSpan) ≡ l
 eight-spans l e = sym (build-listed 8 (λ i. getD l i noSpan)) ∙ sym (built l 8 (λ i. getD l i noSpan) noSpan e (λ i h. refl))
 
-pub handed-over : (b : List ℕ) → tileOf (numbersOf (takenOf b .answer)) ≡ takenOf b .answer .tile
+pub handed-over : (b : List ℕ) → tileOfNumbers (numbersOf (takenOf b .answer)) ≡ takenOf b .answer .tile
 handed-over b =
     let t : Tile = takenOf b .answer .tile in
     ap (λ (l : List Span). record { first = t .first; tokens = l; reader = t .reader; count = t .count; width = t .width; height = t .height }) (eight-spans (t .tokens) (tokens-eight b))

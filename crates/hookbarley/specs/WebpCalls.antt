@@ -2,7 +2,7 @@
 use Prim.Native.Nat.{ℕ}
 use mathlib.Core.List.{List}
 use Rattle.webp.specs.declared.read.Found.{Found}
-use Rattle.webp.specs.Webp.{findOf, foundNumberOf, foundStartOf, foundLengthOf, Ended, wrapOf, wrappedNumberOf, wrappedLengthOf}
+use Rattle.webp.specs.Webp.{findOf, foundNumberOf, foundStartOf, foundLengthOf, WriteEnded, wrapOf, wrappedNumberOf, wrappedLengthOf}
 
 pub record WebpFound : Type 0 where
   pub number : ℕ
@@ -20,7 +20,7 @@ pub record WebpWrapped : Type 0 where
   pub written : ℕ
   pub out : List ℕ
 
-abbrev pub toWrapped : Ended → WebpWrapped
+abbrev pub toWrapped : WriteEnded → WebpWrapped
 toWrapped e = record { number = wrappedNumberOf (e .answer); written = wrappedLengthOf (e .answer); out = e .out }
 
 unfoldable pub webpWrappedOf : List ℕ → List ℕ → WebpWrapped

@@ -2,12 +2,12 @@
 use deblock::Deblocked;
 use deblock::deblock;
 ghost use mathlib.Core.Path.{_≡_};
-ghost use Rattle.deblock.specs.Deblock.{numberOf};
+ghost use Rattle.deblock.specs.Deblock.{deblockNumberOf};
 ghost use Rattle.macroblock.specs.Macroblock.{planesOf};
 ghost use Rattle.hookbarley.specs.Calls.{DeblockCalled, deblockCalledOf};
 
 fn number_of(d: Deblocked) -> u32
-    ensures { λ r. ⌜ r ≡ numberOf d ⌝ }
+    ensures { λ r. ⌜ r ≡ deblockNumberOf d ⌝ }
 {
     match d {
         Deblocked::Done => 0,

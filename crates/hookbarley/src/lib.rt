@@ -17,11 +17,11 @@ ghost use Prim.Native.Nat.{_<_};
 ghost use lib.ListN.{length};
 ghost use Rattle.lent.specs.Memory.{memoryOf};
 ghost use Rattle.picture.specs.Checks.{callOf};
-ghost use Rattle.hookbarley.specs.Calls.{calledNumbers, calledOf, spanOf, spansOf, Filtered, filteredOf};
+ghost use Rattle.hookbarley.specs.Calls.{calledNumbers, calledOf, spanFrom, spansFrom, Filtered, filteredOf};
 
 fn span_at(starts: &[usize], lengths: &[usize], i: usize) -> Span
     requires { ⌜ (length (now starts) ≡ 8) × (length (now lengths) ≡ 8) × (i < 8) ⌝ }
-    ensures { λ r. ⌜ r ≡ spanOf (now (starts .entry)) (now (lengths .entry)) i ⌝ }
+    ensures { λ r. ⌜ r ≡ spanFrom (now (starts .entry)) (now (lengths .entry)) i ⌝ }
 {
     Span {
         start: starts[i],
@@ -31,7 +31,7 @@ fn span_at(starts: &[usize], lengths: &[usize], i: usize) -> Span
 
 fn eight_spans(starts: &[usize], lengths: &[usize]) -> [Span; 8]
     requires { ⌜ (length (now starts) ≡ 8) × (length (now lengths) ≡ 8) ⌝ }
-    ensures { λ r. ⌜ r ≡ spansOf (now (starts .entry)) (now (lengths .entry)) ⌝ }
+    ensures { λ r. ⌜ r ≡ spansFrom (now (starts .entry)) (now (lengths .entry)) ⌝ }
 {
     [
         span_at(starts, lengths, 0),
@@ -76,7 +76,7 @@ pub extern "C" fn hookbarley_decode(
         (callOf (now (bytes .entry))
         (record {
           first = record { start = start; len = len };
-          tokens = spansOf (now (starts .entry)) (now (lengths .entry));
+          tokens = spansFrom (now (starts .entry)) (now (lengths .entry));
           reader = record { at = at; range = range; shifts = shifts; window = window };
           count = count;
           width = width;

@@ -13,7 +13,7 @@ use Rattle.numbers.specs.Runs.{copied}
 use Rattle.modes.specs.declared.contexts.Context.{Context}
 use Rattle.modes.specs.Contexts.{emptyContext, contextFine, Shaped}
 use Rattle.lent.specs.declared.columns.ColumnRecord.{ColumnRecord}
-use Rattle.lent.specs.declared.records.Kept.the-variants as K
+use Rattle.numbers.specs.declared.Checked.the-variants as K
 use Rattle.lent.specs.Records.{recordsIn, columnWidth, columnRecord, contextIn, columnAt, columnSet, columnFound, Columns}
 use Rattle.lent.specs.RecordsLaws.{copied-middle, bytes-are, record-back, record-other, record-set-length, record-zeros, read-good}
 

@@ -16,7 +16,7 @@ use Rattle.modes.specs.Modes.{zeros, Macroblock}
 use Rattle.modes.specs.ModesLaws.{InRange}
 use Rattle.modes.specs.Answers.{kindsOf}
 use Rattle.lent.specs.declared.macroblocks.StrengthRecord.{StrengthRecord}
-use Rattle.lent.specs.declared.records.Kept.the-variants as K
+use Rattle.numbers.specs.declared.Checked.the-variants as K
 use Rattle.lent.specs.Records.{recordsIn, modeWidth, modeRecord, isOn, kindsIn, modesIn, kindsAt, modesAt, modeSet, kindsFine, modeFound, strengthWidth, strengthRecord, strengthIn, strengthAt, strengthSet, strengthFound}
 use Rattle.lent.specs.RecordsLaws.{copied-middle, bytes-are, record-back, record-other, record-set-length, read-good}
 

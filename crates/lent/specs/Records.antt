@@ -14,8 +14,8 @@ use Rattle.modes.specs.declared.answers.Kinds.{Kinds}
 use Rattle.modes.specs.declared.contexts.Context.{Context}
 use Rattle.modes.specs.Answers.{eachBelow}
 use Rattle.modes.specs.Contexts.{contextFine}
-use Rattle.lent.specs.declared.records.Kept.{Kept}
-use Rattle.lent.specs.declared.records.Kept.the-variants as K
+use Rattle.numbers.specs.declared.Checked.{Checked}
+use Rattle.numbers.specs.declared.Checked.the-variants as K
 use Rattle.lent.specs.declared.columns.ColumnRecord.{ColumnRecord}
 use Rattle.lent.specs.declared.macroblocks.ModeRecord.{ModeRecord}
 use Rattle.lent.specs.declared.macroblocks.StrengthRecord.{StrengthRecord}
@@ -39,7 +39,7 @@ bytesOf from n b = listed n (λ j. getD b (from + j) 0)
 -- ---- what the calls answer
 -- writing: refused, and nothing changed, where there is no such record, or what is to be written is not in range
 pub record Written : Type 0 where
-  pub answer : Kept
+  pub answer : Checked
   pub mem : List ℕ
 
 unfoldable pub recordWritten : (width : ℕ) → List ℕ → ℕ → (fine : Bool) → List ℕ → Written
@@ -51,7 +51,7 @@ recordWritten width mem i fine bytes =
 
 -- reading: refused, and zeros, where there is no such record
 pub record Taken : Type 0 where
-  pub answer : Kept
+  pub answer : Checked
   pub bytes : List ℕ
 
 unfoldable pub recordFound : (width : ℕ) → List ℕ → ℕ → Taken
@@ -144,8 +144,3 @@ strengthWritten mem i t = recordWritten strengthWidth mem i (strengthFine t) (st
 
 abbrev pub strengthFound : List ℕ → ℕ → StrengthRecord
 strengthFound mem i = record { answer = recordFound strengthWidth mem i .answer; strength = strengthIn (recordFound strengthWidth mem i .bytes) }
-
--- ---- the answer as a number
-abbrev pub keptNumberOf : Kept → ℕ
-keptNumberOf K.Done = 0
-keptNumberOf K.Refused = 9

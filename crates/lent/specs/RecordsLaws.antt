@@ -14,7 +14,7 @@ use Rattle.numbers.specs.Tests.{lt-or, both-true, both-false}
 use Rattle.numbers.specs.Lists.{length-build, getD-build, built, build-same, build-listed, getD-constant}
 use Rattle.numbers.specs.Runs.{copied, Off, length-copied, copied-in, copied-off}
 use Rattle.lent.specs.Records.{recordAt, recordSet, recordsIn, bytesOf, Written, recordWritten, recordFound}
-use Rattle.lent.specs.declared.records.Kept.the-variants as K
+use Rattle.numbers.specs.declared.Checked.the-variants as K
 
 -- ---- a record, byte by byte
 module _ (w : ℕ) (mem : List ℕ) (i : ℕ) where

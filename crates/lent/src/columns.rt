@@ -1,10 +1,10 @@
 // The record of a macroblock column: the context that the macroblock above leaves. Four modes, nine flags. Only this file knows.
-use crate::records::Kept;
 use crate::records::read;
 use crate::records::store;
 use crate::records::write;
 use modes::contexts::Context;
 use modes::contexts::context_fine;
+use numbers::Checked;
 ghost use mathlib.Core.Path.{_≡_};
 ghost use Rattle.lent.specs.Records.{Written, columnRecord, columnWritten, columnFound};
 
@@ -12,7 +12,7 @@ pub const COLUMN_WIDTH: usize = 13;
 
 // A column's context as it was found; the empty one where it is refused.
 pub struct ColumnRecord {
-    pub answer: Kept,
+    pub answer: Checked,
     pub context: Context,
 }
 
@@ -28,7 +28,7 @@ fn record_of(c: Context) -> [u8; COLUMN_WIDTH]
 }
 
 // Writes the context of column x.
-pub fn write_column(mem: &mut [u8], x: usize, c: Context) -> Kept
+pub fn write_column(mem: &mut [u8], x: usize, c: Context) -> Checked
     ensures { λ q. ⌜ _≡_ {A = Written} (record { answer = q; mem = now (mem .exit) }) (columnWritten (now (mem .entry)) x c) ⌝ }
 {
     let bytes = record_of(c);

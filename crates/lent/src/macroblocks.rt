@@ -1,6 +1,5 @@
 // The records of a macroblock. In mode memory: segment, skip, small, sixteen luma modes, chroma. In strength memory: limit, inner,
 // threshold, inside. Only this file knows.
-use crate::records::Kept;
 use crate::records::read;
 use crate::records::store;
 use crate::records::write;
@@ -8,6 +7,7 @@ use filter::strengths::Strength;
 use filter::strengths::strength_fine;
 use modes::answers::Kinds;
 use modes::contexts::each_below;
+use numbers::Checked;
 ghost use mathlib.Core.Path.{_≡_};
 ghost use Rattle.numbers.specs.Flags.{bitOf};
 ghost use Rattle.lent.specs.Records.{Written, modeRecord, kindsFine, modeWritten, modeFound, strengthWritten, strengthFound};
@@ -18,14 +18,14 @@ pub const STRENGTH_WIDTH: usize = 4;
 
 // A macroblock's modes as they were found; zeros where they are refused.
 pub struct ModeRecord {
-    pub answer: Kept,
+    pub answer: Checked,
     pub kinds: Kinds,
     pub modes: [u8; 16],
 }
 
 // A macroblock's strengths as they were found; zeros where they are refused.
 pub struct StrengthRecord {
-    pub answer: Kept,
+    pub answer: Checked,
     pub strength: Strength,
 }
 
@@ -55,7 +55,7 @@ fn kinds_fine(k: Kinds) -> bool
 }
 
 // Writes the modes of macroblock i.
-pub fn write_mode_record(mem: &mut [u8], i: usize, kinds: Kinds, modes: &[u8; 16]) -> Kept
+pub fn write_mode_record(mem: &mut [u8], i: usize, kinds: Kinds, modes: &[u8; 16]) -> Checked
     ensures { λ q. ⌜ _≡_ {A = Written} (record { answer = q; mem = now (mem .exit) })
         (modeWritten (now (mem .entry)) i kinds (now (modes .entry))) ⌝ }
 {
@@ -99,7 +99,7 @@ pub fn read_mode_record(mem: &[u8], i: usize) -> ModeRecord
 }
 
 // Writes the strengths of macroblock i.
-pub fn write_strength(mem: &mut [u8], i: usize, t: Strength) -> Kept
+pub fn write_strength(mem: &mut [u8], i: usize, t: Strength) -> Checked
     ensures { λ q. ⌜ _≡_ {A = Written} (record { answer = q; mem = now (mem .exit) }) (strengthWritten (now (mem .entry)) i t) ⌝ }
 {
     let bytes = [t.limit, t.inner, t.threshold, t.inside];

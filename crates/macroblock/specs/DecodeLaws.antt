@@ -25,7 +25,7 @@ use Rattle.macroblock.specs.declared.arguments.Around.{Around}
 use Rattle.macroblock.specs.declared.whole.Outcome.{Outcome}
 use Rattle.macroblock.specs.declared.whole.Finish.the-variants as F
 use Rattle.header.specs.Frame.{levelAt}
-use Rattle.macroblock.specs.Macroblock.{Planes, Step, finished, no-modes, no-tokens, Called, toCalled, levelsFine, readyOf, laidOf, stepOf, decodeOf, nothing, finishNumberOf}
+use Rattle.macroblock.specs.Macroblock.{Planes, Step, finished, no-modes, no-tokens, MacroblockCalled, toMacroblockCalled, levelsFine, readyOf, placeFine, stepOf, macroblockCallOf, noOutcome, finishNumberOf}
 use Rattle.macroblock.specs.MacroblockLaws.{Laid, Ready}
 
 -- ---- levels
@@ -125,27 +125,27 @@ module _ (y u v : ℕ) (place : Place) where
   abbrev row : ℕ
   row = place .row
 
-  pub laid-column : w / 16 ≤ column → false ≡ laidOf y u v place
-  unfolding laidOf
+  pub laid-column : w / 16 ≤ column → false ≡ placeFine y u v place
+  unfolding placeFine
   laid-column h = rw (le-ltb column (w / 16) h)
 
-  pub laid-wide : 16384 < w → false ≡ laidOf y u v place
-  unfolding laidOf
+  pub laid-wide : 16384 < w → false ≡ placeFine y u v place
+  unfolding placeFine
   laid-wide h = sym (both-false (ltb column (w / 16)) (rw (lt-leb w 16384 h)))
 
-  pub laid-high : 1024 < y / w / 16 → false ≡ laidOf y u v place
-  unfolding laidOf
+  pub laid-high : 1024 < y / w / 16 → false ≡ placeFine y u v place
+  unfolding placeFine
   laid-high h = sym (both-false (ltb column (w / 16)) (rw (both-false (leb w 16384) (lt-leb (y / w / 16) 1024 h))))
 
   pub laid-rest : column < w / 16 → w ≤ 16384 → y / w / 16 ≤ 1024 → {luma chroma : ℕ} → luma ≡ y / w / 16 * 16 * w → chroma ≡ y / w / 16 * 8 * (w / 2)
-      → (eqb (w % 16) 0 && ltb row (y / w / 16)) && (eqb y luma && (eqb u chroma && eqb v chroma)) ≡ laidOf y u v place
-  unfolding laidOf
+      → (eqb (w % 16) 0 && ltb row (y / w / 16)) && (eqb y luma && (eqb u chroma && eqb v chroma)) ≡ placeFine y u v place
+  unfolding placeFine
   laid-rest a b c e f = rw (lt-ltb column (w / 16) a, le-leb w 16384 b, le-leb (y / w / 16) 1024 c, e, f)
 
 -- and what it says
 module _ (place : Place) (p : Planes) where
-  pub laid-out : laidOf (length (p .y)) (length (p .u)) (length (p .v)) place ≡ true → Laid place p
-  unfolding laidOf
+  pub laid-out : placeFine (length (p .y)) (length (p .u)) (length (p .v)) place ≡ true → Laid place p
+  unfolding placeFine
   laid-out e =
       let w = place .width in
       let column = place .column in
@@ -174,8 +174,8 @@ module _ (place : Place) (p : Planes) where
         red = eqb-true _ _ (both-right (eqb (length (p .u)) chroma) _ two);
       }
 
-  pub laid-test : Laid place p → laidOf (length (p .y)) (length (p .u)) (length (p .v)) place ≡ true
-  unfolding laidOf
+  pub laid-test : Laid place p → placeFine (length (p .y)) (length (p .u)) (length (p .v)) place ≡ true
+  unfolding placeFine
   laid-test g =
       let w = place .width in
       let column = place .column in
@@ -189,13 +189,13 @@ module _ (place : Place) (p : Planes) where
       (both-true (eq-eqb _ _ (g .luma)) (both-true (eq-eqb _ _ (g .blue)) (eq-eqb _ _ (g .red)))))))
 
 -- ---- an answer that finishes nothing
-abbrev pub Unfinished : Called → Type 0
+abbrev pub Unfinished : MacroblockCalled → Type 0
 Unfinished c = finishNumberOf (c .answer .answer) ≡ 0 → ⊥
 
-abbrev pub Untouched : Planes → Called → Type 0
-Untouched p c = c ≡ record { answer = nothing (c .answer .answer); planes = p }
+abbrev pub Untouched : Planes → MacroblockCalled → Type 0
+Untouched p c = c ≡ record { answer = noOutcome (c .answer .answer); planes = p }
 
-step-kept : (p : Planes) (g : Step) → Unfinished (toCalled p g) → Untouched p (toCalled p g)
+step-kept : (p : Planes) (g : Step) → Unfinished (toMacroblockCalled p g) → Untouched p (toMacroblockCalled p g)
 step-kept p (finished x) n = absurd (n refl)
 step-kept p no-modes n = refl
 step-kept p no-tokens n = refl
@@ -203,29 +203,29 @@ step-kept p no-tokens n = refl
 -- ---- the call
 module _ (first tokens : List ℕ) (readers : Readers) (f : Frame) (table : List ℕ) (around : Around) (place : Place) (p : Planes) where
   abbrev fine : Bool
-  fine = laidOf (length (p .y)) (length (p .u)) (length (p .v)) place
+  fine = placeFine (length (p .y)) (length (p .u)) (length (p .v)) place
 
   abbrev able : Bool
   able = readyOf first tokens readers f (length table) around
 
-  abbrev whole : Called
-  whole = toCalled p (stepOf first tokens readers f table around place p)
+  abbrev whole : MacroblockCalled
+  whole = toMacroblockCalled p (stepOf first tokens readers f table around place p)
 
-  abbrev call : Called
-  call = decodeOf first tokens readers f table around place p
+  abbrev call : MacroblockCalled
+  call = macroblockCallOf first tokens readers f table around place p
 
   pub decode-passed : able ≡ true → fine ≡ true → whole ≡ call
-  unfolding decodeOf
-  decode-passed a b = rw (both-true a b, decodeOf)
+  unfolding macroblockCallOf
+  decode-passed a b = rw (both-true a b, macroblockCallOf)
 
-  refused : able && fine ≡ false → {x : Outcome} → x ≡ nothing F.Refused → record { answer = x; planes = p } ≡ call
-  unfolding decodeOf
-  refused e g = rw (g, e, decodeOf)
+  refused : able && fine ≡ false → {x : Outcome} → x ≡ noOutcome F.Refused → record { answer = x; planes = p } ≡ call
+  unfolding macroblockCallOf
+  refused e g = rw (g, e, macroblockCallOf)
 
-  pub decode-unready : able ≡ false → {x : Outcome} → x ≡ nothing F.Refused → record { answer = x; planes = p } ≡ call
+  pub decode-unready : able ≡ false → {x : Outcome} → x ≡ noOutcome F.Refused → record { answer = x; planes = p } ≡ call
   decode-unready e = refused (rw e)
 
-  pub decode-unlaid : fine ≡ false → {x : Outcome} → x ≡ nothing F.Refused → record { answer = x; planes = p } ≡ call
+  pub decode-unlaid : fine ≡ false → {x : Outcome} → x ≡ noOutcome F.Refused → record { answer = x; planes = p } ≡ call
   decode-unlaid e = refused (both-false able e)
 
   -- THE LAW for callers: with good arguments it is the macroblock
@@ -233,7 +233,7 @@ module _ (first tokens : List ℕ) (readers : Readers) (f : Frame) (table : List
   decode-good a b = sym (decode-passed (ready-test first tokens readers f table around a) (laid-test place p b))
 
   -- refused: the zero answer, and the planes as they were
-  pub decode-refused : able && fine ≡ false → call ≡ record { answer = nothing F.Refused; planes = p }
+  pub decode-refused : able && fine ≡ false → call ≡ record { answer = noOutcome F.Refused; planes = p }
   decode-refused e = sym (refused e refl)
 
   -- whatever is not finished changes nothing: the answer is its number and zeros, and the planes are as they were

@@ -64,8 +64,8 @@ paintedPlanes place m c p =
     }
 
 -- its strengths: the inner edges are filtered where the modes are small or something was coded
-abbrev pub strengthIn : Frame → Macroblock → (empty : Bool) → Strength
-strengthIn f m empty = strengthOf (levelAt f (m .small) (m .segment)) (f .sharp) (m .small || not empty)
+abbrev pub strengthMade : Frame → Macroblock → (empty : Bool) → Strength
+strengthMade f m empty = strengthOf (levelAt f (m .small) (m .segment)) (f .sharp) (m .small || not empty)
 
 -- the contexts that it leaves: to the macroblock below, and to the one at its right
 abbrev pub below : Macroblock → (flags : List ℕ) → Context
@@ -77,7 +77,7 @@ beside m flags = record { modes = rightOf (m .modes); flags = flags }
 unfoldable pub endOf : Frame → Place → Planes → Macroblock → (next : Reader) → Model → (after : Reader) → Finished
 endOf f place p m next d after = record {
   modes = m;
-  strength = strengthIn f m (d .empty);
+  strength = strengthMade f m (d .empty);
   top = below m (d .top);
   left = beside m (d .left);
   readers = record { first = next; token = after };
@@ -104,8 +104,8 @@ stepOf first tokens readers f table around place p =
     (run (modesOf (f .announced) (around .top .modes) (around .left .modes)) first (readers .first))
 
 -- ---- the answer: zeros where the macroblock is not finished
-abbrev pub nothing : Finish → Outcome
-nothing a = record {
+abbrev pub noOutcome : Finish → Outcome
+noOutcome a = record {
   answer = a;
   kinds = record { segment = 0; skip = false; small = false; chroma = 0 };
   modes = replicate 16 0;
@@ -125,17 +125,17 @@ shown x = record {
 }
 
 -- and the planes, which are written only where it is
-pub record Called : Type 0 where
+pub record MacroblockCalled : Type 0 where
   pub answer : Outcome
   pub planes : Planes
 
-abbrev pub calledOf : Outcome → (y u v : List ℕ) → Called
-calledOf x y u v = record { answer = x; planes = planesOf y u v }
+abbrev pub macroblockCalled : Outcome → (y u v : List ℕ) → MacroblockCalled
+macroblockCalled x y u v = record { answer = x; planes = planesOf y u v }
 
-abbrev pub toCalled : Planes → Step → Called
-toCalled old (finished x) = record { answer = shown x; planes = x .planes }
-toCalled old no-modes = record { answer = nothing F.NoModes; planes = old }
-toCalled old no-tokens = record { answer = nothing F.NoTokens; planes = old }
+abbrev pub toMacroblockCalled : Planes → Step → MacroblockCalled
+toMacroblockCalled old (finished x) = record { answer = shown x; planes = x .planes }
+toMacroblockCalled old no-modes = record { answer = noOutcome F.NoModes; planes = old }
+toMacroblockCalled old no-tokens = record { answer = noOutcome F.NoTokens; planes = old }
 
 -- ---- the call
 -- what is read: readers in range, a table of 1056 probabilities, contexts in range, levels of at most 63
@@ -150,8 +150,8 @@ readyOf first tokens readers f size around =
     && (levelsFine (f .large) && levelsFine (f .small))))
 
 -- where it is painted: planes of whole macroblocks, by their lengths, at most 16384 samples wide and high, and this one among them
-unfoldable pub laidOf : (y u v : ℕ) → Place → Bool
-laidOf y u v place =
+unfoldable pub placeFine : (y u v : ℕ) → Place → Bool
+placeFine y u v place =
     let w = place .width in
     let rows = y / w / 16 in
     let chroma = rows * 8 * (w / 2) in
@@ -161,11 +161,11 @@ laidOf y u v place =
     && (eqb y (rows * 16 * w) && (eqb u chroma && eqb v chroma))))
 
 -- `decode`: refused where one of these is out of range, and then the planes stay
-unfoldable pub decodeOf : (first tokens : List ℕ) → Readers → Frame → (table : List ℕ) → Around → Place → Planes → Called
-decodeOf first tokens readers f table around place p =
-    elim (readyOf first tokens readers f (length table) around && laidOf (length (p .y)) (length (p .u)) (length (p .v)) place) [
-      | true ↦ toCalled p (stepOf first tokens readers f table around place p)
-      | false ↦ record { answer = nothing F.Refused; planes = p }
+unfoldable pub macroblockCallOf : (first tokens : List ℕ) → Readers → Frame → (table : List ℕ) → Around → Place → Planes → MacroblockCalled
+macroblockCallOf first tokens readers f table around place p =
+    elim (readyOf first tokens readers f (length table) around && placeFine (length (p .y)) (length (p .u)) (length (p .v)) place) [
+      | true ↦ toMacroblockCalled p (stepOf first tokens readers f table around place p)
+      | false ↦ record { answer = noOutcome F.Refused; planes = p }
     ]
 
 -- ---- the answer as a number

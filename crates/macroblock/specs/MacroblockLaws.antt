@@ -24,7 +24,7 @@ use Rattle.modes.specs.ModesLaws.{InRange}
 use Rattle.modes.specs.Answers.{kindsOf, contextsOf}
 use Rattle.modes.specs.Contexts.{emptyContext}
 use Rattle.residual.specs.Residual.{Model, ModelInRange, Flags, residualOf}
-use Rattle.planes.specs.declared.Painted.{Painted}
+use Rattle.numbers.specs.declared.Checked.{Checked}
 use Rattle.planes.specs.Paint.{PaintedPlane, paintOf}
 use Rattle.planes.specs.PaintLaws.{Proper, paint-good}
 use Rattle.filter.specs.declared.strengths.Strength.{Strength}
@@ -35,7 +35,7 @@ use Rattle.macroblock.specs.declared.arguments.Around.{Around}
 use Rattle.macroblock.specs.declared.whole.Finish.{Finish}
 use Rattle.macroblock.specs.declared.whole.Finish.the-variants as F
 use Rattle.macroblock.specs.declared.whole.Outcome.{Outcome}
-use Rattle.macroblock.specs.Macroblock.{Planes, paintedPlanes, strengthIn, below, beside, endOf, afterTokens, afterModes, tokenStep, stepOf, Called, toCalled, nothing}
+use Rattle.macroblock.specs.Macroblock.{Planes, paintedPlanes, strengthMade, below, beside, endOf, afterTokens, afterModes, tokenStep, stepOf, MacroblockCalled, toMacroblockCalled, noOutcome}
 
 -- ---- what the inner functions ask
 -- the planes hold whole macroblocks, and the one at this place is among them
@@ -136,10 +136,10 @@ module _ {place : Place} {p : Planes} {m : Macroblock} {c : List ℤ} (g : Laid 
       }
 
   -- what the three calls answer
-  plane-is : {a : Painted} {q : List ℕ} {o r : PaintedPlane} → record { answer = a; plane = q } ≡ o → o ≡ r → q ≡ r .plane
+  plane-is : {a : Checked} {q : List ℕ} {o r : PaintedPlane} → record { answer = a; plane = q } ≡ o → o ≡ r → q ≡ r .plane
   plane-is e f = ap (λ (x : PaintedPlane). x .plane) (e ∙ f)
 
-  pub planes-painted : {a b d : Painted} {y u v : List ℕ}
+  pub planes-painted : {a b d : Checked} {y u v : List ℕ}
       → record { answer = a; plane = y } ≡ paintOf (p .y) w column row 16 (m .small) (getD (m .modes) 0 0) (m .modes) (take 256 c)
       → record { answer = b; plane = u } ≡ paintOf (p .u) (w / 2) column row 8 false (m .chroma) (m .modes) (take 64 (drop 256 c))
       → record { answer = d; plane = v } ≡ paintOf (p .v) (w / 2) column row 8 false (m .chroma) (m .modes) (take 64 (drop 320 c))
@@ -152,44 +152,44 @@ module _ {place : Place} {p : Planes} {m : Macroblock} {c : List ℤ} (g : Laid 
 
 -- ---- the answers
 pub nothing-is : {a : Finish} {x y : Context} → x ≡ emptyContext → y ≡ emptyContext
-    → _≡_ {A = Outcome} (record { answer = a; kinds = record { segment = 0; skip = false; small = false; chroma = 0 }; modes = replicate 16 0; strength = noStrength; top = x; left = y }) (nothing a)
+    → _≡_ {A = Outcome} (record { answer = a; kinds = record { segment = 0; skip = false; small = false; chroma = 0 }; modes = replicate 16 0; strength = noStrength; top = x; left = y }) (noOutcome a)
 nothing-is e f = rw (e, f)
 
 -- the answer of a finished macroblock, from its parts
-abbrev pub endedOf : Frame → Macroblock → (next : Reader) → (top left : List ℕ) → (empty : Bool) → (after : Reader) → Outcome
-endedOf f m next top left empty after = record {
+abbrev pub endOutcome : Frame → Macroblock → (next : Reader) → (top left : List ℕ) → (empty : Bool) → (after : Reader) → Outcome
+endOutcome f m next top left empty after = record {
   answer = F.Done (record { first = next; token = after });
   kinds = kindsOf m;
   modes = m .modes;
-  strength = strengthIn f m empty;
+  strength = strengthMade f m empty;
   top = below m top;
   left = beside m left;
 }
 
 pub ended-is : (f : Frame) (m : Macroblock) (empty : Bool) {r t : Reader} {top left : List ℕ} {x : Strength} {a b : List ℕ}
-    → x ≡ strengthIn f m empty → a ≡ bottomOf (m .modes) → b ≡ rightOf (m .modes)
+    → x ≡ strengthMade f m empty → a ≡ bottomOf (m .modes) → b ≡ rightOf (m .modes)
     → _≡_ {A = Outcome}
     (record { answer = F.Done (record { first = r; token = t }); kinds = kindsOf m; modes = m .modes; strength = x; top = record { modes = a; flags = top }; left = record { modes = b; flags = left } })
-    (endedOf f m r top left empty t)
+    (endOutcome f m r top left empty t)
 ended-is f m empty e g h = rw (e, g, h)
 
 -- ---- from where the modes are read
-unfoldable pub tokensOf : (tokens : List ℕ) → Reader → Frame → (table : List ℕ) → Around → Place → Macroblock → (next : Reader) → Planes → Called
-tokensOf tokens t f table around place m next p = toCalled p (tokenStep tokens t f table around place p m next)
+unfoldable pub tokensCalled : (tokens : List ℕ) → Reader → Frame → (table : List ℕ) → Around → Place → Macroblock → (next : Reader) → Planes → MacroblockCalled
+tokensCalled tokens t f table around place m next p = toMacroblockCalled p (tokenStep tokens t f table around place p m next)
 
 module _ (tokens : List ℕ) (t : Reader) (f : Frame) (table : List ℕ) (around : Around) (place : Place) (m : Macroblock) (next : Reader) (p : Planes) where
   abbrev given-tokens : Given Model
   given-tokens = run (residualOf table (factorsAt f (m .segment)) (m .small) (m .skip) (around .top .flags) (around .left .flags)) tokens t
 
-  pub tokens-missing : given-tokens ≡ missing → {x : Outcome} → x ≡ nothing F.NoTokens → record { answer = x; planes = p } ≡ tokensOf tokens t f table around place m next p
-  unfolding tokensOf
-  tokens-missing e g = rw g (sym (ap (λ (x : Given Model). toCalled p (afterTokens (endOf f place p m next) x)) e))
+  pub tokens-missing : given-tokens ≡ missing → {x : Outcome} → x ≡ noOutcome F.NoTokens → record { answer = x; planes = p } ≡ tokensCalled tokens t f table around place m next p
+  unfolding tokensCalled
+  tokens-missing e g = rw g (sym (ap (λ (x : Given Model). toMacroblockCalled p (afterTokens (endOf f place p m next) x)) e))
 
   pub tokens-done : {d : Model} {q : Reader} → given-tokens ≡ given d q
-      → {x : Outcome} → x ≡ endedOf f m next (d .top) (d .left) (d .empty) q → {z : Planes} → z ≡ paintedPlanes place m (d .coefficients) p
-      → record { answer = x; planes = z } ≡ tokensOf tokens t f table around place m next p
-  unfolding tokensOf endOf
-  tokens-done e g h = rw (g, h) (sym (ap (λ (x : Given Model). toCalled p (afterTokens (endOf f place p m next) x)) e))
+      → {x : Outcome} → x ≡ endOutcome f m next (d .top) (d .left) (d .empty) q → {z : Planes} → z ≡ paintedPlanes place m (d .coefficients) p
+      → record { answer = x; planes = z } ≡ tokensCalled tokens t f table around place m next p
+  unfolding tokensCalled endOf
+  tokens-done e g h = rw (g, h) (sym (ap (λ (x : Given Model). toMacroblockCalled p (afterTokens (endOf f place p m next) x)) e))
 
 -- modes and coefficients that were read can be painted
 pub painting : {m : Macroblock} {d : Model} → InRange m → ModelInRange d → Painting m (d .coefficients)
@@ -207,12 +207,12 @@ module _ (first tokens : List ℕ) (readers : Readers) (f : Frame) (table : List
   abbrev given-modes : Given Macroblock
   given-modes = run (modesOf (f .announced) (around .top .modes) (around .left .modes)) first (readers .first)
 
-  pub whole-missing : given-modes ≡ missing → {x : Outcome} → x ≡ nothing F.NoModes
-      → record { answer = x; planes = p } ≡ toCalled p (stepOf first tokens readers f table around place p)
+  pub whole-missing : given-modes ≡ missing → {x : Outcome} → x ≡ noOutcome F.NoModes
+      → record { answer = x; planes = p } ≡ toMacroblockCalled p (stepOf first tokens readers f table around place p)
   unfolding stepOf
-  whole-missing e g = rw g (sym (ap (λ (x : Given Macroblock). toCalled p (afterModes (tokenStep tokens (readers .token) f table around place p) x)) e))
+  whole-missing e g = rw g (sym (ap (λ (x : Given Macroblock). toMacroblockCalled p (afterModes (tokenStep tokens (readers .token) f table around place p) x)) e))
 
   pub whole-tokens : {m : Macroblock} {q : Reader} → given-modes ≡ given m q
-      → tokensOf tokens (readers .token) f table around place m q p ≡ toCalled p (stepOf first tokens readers f table around place p)
-  unfolding stepOf tokensOf
-  whole-tokens e = sym (ap (λ (x : Given Macroblock). toCalled p (afterModes (tokenStep tokens (readers .token) f table around place p) x)) e)
+      → tokensCalled tokens (readers .token) f table around place m q p ≡ toMacroblockCalled p (stepOf first tokens readers f table around place p)
+  unfolding stepOf tokensCalled
+  whole-tokens e = sym (ap (λ (x : Given Macroblock). toMacroblockCalled p (afterModes (tokenStep tokens (readers .token) f table around place p) x)) e)

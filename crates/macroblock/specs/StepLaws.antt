@@ -40,7 +40,7 @@ use Rattle.header.specs.FrameLaws.{Sound, frame-sound, frame-announced, frame-f
 use Rattle.filter.specs.Strengths.{strengthOf}
 use Rattle.filter.specs.StrengthsLaws.{limit-most}
 use Rattle.header.specs.Frame.{announcedOf, frameOf, factorsAt, levelAt}
-use Rattle.macroblock.specs.Macroblock.{Planes, Finished, Step, finished, no-modes, no-tokens, Called, toCalled, paintedPlanes, strengthIn, below, beside, endOf, afterTokens, afterModes, tokenStep, stepOf, decodeOf, finishNumberOf}
+use Rattle.macroblock.specs.Macroblock.{Planes, Finished, Step, finished, no-modes, no-tokens, MacroblockCalled, toMacroblockCalled, paintedPlanes, strengthMade, below, beside, endOf, afterTokens, afterModes, tokenStep, stepOf, macroblockCallOf, finishNumberOf}
 use Rattle.macroblock.specs.MacroblockLaws.{Laid, Painting, Ready, painting, luma-proper, chroma-proper}
 use Rattle.macroblock.specs.DecodeLaws.{context-test, decode-good}
 
@@ -93,13 +93,13 @@ pub record Ends (s tokens : List ℕ) (readers : Readers) (x : Finished) : Type 
   pub limit : x .strength .limit ≤ 189
 
 -- ---- the answers are apart
-abbrev number : Step → ℕ
-number (finished x) = 0
-number no-modes = 6
-number no-tokens = 7
+abbrev stepNumber : Step → ℕ
+stepNumber (finished x) = 0
+stepNumber no-modes = 6
+stepNumber no-tokens = 7
 
-apart : {g k : Step} → g ≡ k → (number g ≡ number k → ⊥) → ⊥
-apart e n = n (ap number e)
+apart : {g k : Step} → g ≡ k → (stepNumber g ≡ stepNumber k → ⊥) → ⊥
+apart e n = n (ap stepNumber e)
 
 abbrev given-or : Finished → Step → Finished
 given-or d (finished x) = x
@@ -206,7 +206,7 @@ module _ (s tokens : List ℕ) (readers : Readers) (f : Frame) (table : List ℕ
     pub coefficients : tokensRun (x .modes) ≡ given model (x .readers .token)
     pub top : x .top ≡ below (x .modes) (model .top)
     pub left : x .left ≡ beside (x .modes) (model .left)
-    pub strengths : x .strength ≡ strengthIn f (x .modes) (model .empty)
+    pub strengths : x .strength ≡ strengthMade f (x .modes) (model .empty)
     pub is : x ≡ endOf f place p (x .modes) (x .readers .first) model (x .readers .token)
 
   pub step-both : {x : Finished} → call ≡ finished x → Both x
@@ -271,31 +271,31 @@ fromFinish x q F.NoModes = no-modes
 fromFinish x q F.NoTokens = no-tokens
 fromFinish x q F.Refused = no-modes
 
-abbrev pub fromCalled : Called → Step
-fromCalled c = fromFinish (c .answer) (c .planes) (c .answer .answer)
+abbrev pub fromMacroblockCalled : MacroblockCalled → Step
+fromMacroblockCalled c = fromFinish (c .answer) (c .planes) (c .answer .answer)
 
-from-called : (p : Planes) (g : Step) → g ≡ fromCalled (toCalled p g)
+from-called : (p : Planes) (g : Step) → g ≡ fromMacroblockCalled (toMacroblockCalled p g)
 from-called p (finished x) = refl
 from-called p no-modes = refl
 from-called p no-tokens = refl
 
-not-refused : (p : Planes) (g : Step) → toCalled p g .answer .answer ≡ F.Refused → ⊥
+not-refused : (p : Planes) (g : Step) → toMacroblockCalled p g .answer .answer ≡ F.Refused → ⊥
 not-refused p (finished x) e = let z : _≡_ {A = ℕ} 0 9 = ap finishNumberOf e in omega arith
 not-refused p no-modes e = let z : _≡_ {A = ℕ} 6 9 = ap finishNumberOf e in omega arith
 not-refused p no-tokens e = let z : _≡_ {A = ℕ} 7 9 = ap finishNumberOf e in omega arith
 
 module _ (s tokens : List ℕ) (readers : Readers) (f : Frame) (table : List ℕ) (around : Around) (place : Place) (p : Planes)
     (a : Ready s tokens readers f table around) (b : Laid place p) {x : Outcome} {q : Planes}
-    (e : record { answer = x; planes = q } ≡ decodeOf s tokens readers f table around place p) where
-  called : record { answer = x; planes = q } ≡ toCalled p (stepOf s tokens readers f table around place p)
+    (e : record { answer = x; planes = q } ≡ macroblockCallOf s tokens readers f table around place p) where
+  called : record { answer = x; planes = q } ≡ toMacroblockCalled p (stepOf s tokens readers f table around place p)
   called = e ∙ decode-good s tokens readers f table around place p a b
 
   -- THE LAW for callers of `decode`
-  pub decoded : stepOf s tokens readers f table around place p ≡ fromCalled (record { answer = x; planes = q })
-  decoded = from-called p (stepOf s tokens readers f table around place p) ∙ ap fromCalled (sym called)
+  pub decoded : stepOf s tokens readers f table around place p ≡ fromMacroblockCalled (record { answer = x; planes = q })
+  decoded = from-called p (stepOf s tokens readers f table around place p) ∙ ap fromMacroblockCalled (sym called)
 
   pub decode-never : x .answer ≡ F.Refused → ⊥
-  decode-never k = not-refused p (stepOf s tokens readers f table around place p) (sym (ap (λ (c : Called). c .answer .answer) called) ∙ k)
+  decode-never k = not-refused p (stepOf s tokens readers f table around place p) (sym (ap (λ (c : MacroblockCalled). c .answer .answer) called) ∙ k)
 
 -- ---- modes are read before tokens, and from the first partition alone: two calls with the same partition, reader, announcement and
 -- modes around, whatever else they have

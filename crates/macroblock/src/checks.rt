@@ -9,7 +9,7 @@ ghost use mathlib.Core.Path.{_≡_};
 ghost use mathlib.Core.Bool.{_&&_};
 ghost use Prim.Native.Nat.{_*_, _≤_};
 ghost use Rattle.modes.specs.Contexts.{contextFine};
-ghost use Rattle.macroblock.specs.Macroblock.{levelsFine, readyOf, laidOf};
+ghost use Rattle.macroblock.specs.Macroblock.{levelsFine, readyOf, placeFine};
 ghost use Rattle.macroblock.specs.DecodeLaws.{FrameSizes, AroundSizes};
 
 fn levels_fine(levels: [u8; 4]) -> bool
@@ -62,7 +62,7 @@ fn area(rows: usize, width: usize) -> usize
 
 // Where it is painted: planes of whole macroblocks, given by their lengths, and this one among them.
 pub(crate) fn laid(y: usize, u: usize, v: usize, place: Place) -> bool
-    ensures { λ b. ⌜ b ≡ laidOf y u v place ⌝ }
+    ensures { λ b. ⌜ b ≡ placeFine y u v place ⌝ }
 {
     let width = place.width;
     if width / 16 <= place.column {

@@ -27,8 +27,8 @@ ghost use Rattle.header.specs.FrameLaws.{Sound};
 ghost use Rattle.modes.specs.ModesLaws.{InRange};
 ghost use Rattle.modes.specs.Answers.{macroblockOf};
 ghost use Rattle.filter.specs.Strengths.{strengthOf};
-ghost use Rattle.macroblock.specs.Macroblock.{planesOf, calledOf, toCalled, stepOf, decodeOf, nothing};
-ghost use Rattle.macroblock.specs.MacroblockLaws.{Ready, Tokens, Laid, endedOf, tokensOf};
+ghost use Rattle.macroblock.specs.Macroblock.{planesOf, macroblockCalled, toMacroblockCalled, stepOf, macroblockCallOf, noOutcome};
+ghost use Rattle.macroblock.specs.MacroblockLaws.{Ready, Tokens, Laid, endOutcome, tokensCalled};
 
 // Finished, with the readers after it; or where it stopped: its modes (6) or its tokens (7) ran out; or an argument (9).
 pub enum Finish {
@@ -57,7 +57,7 @@ struct ModeData {
 }
 
 fn stopped(answer: Finish) -> Outcome
-    ensures { λ r. ⌜ r ≡ nothing answer ⌝ }
+    ensures { λ r. ⌜ r ≡ noOutcome answer ⌝ }
 {
     Outcome {
         answer: answer,
@@ -143,7 +143,7 @@ fn ending(
 ) -> Outcome
     requires { ⌜ m .kinds .segment < 4 ⌝ }
     requires { ⌜ Sound frame ⌝ }
-    ensures { λ q. ⌜ q ≡ endedOf frame (macroblockOf (m .kinds) (m .modes)) (m .next) top left empty after ⌝ }
+    ensures { λ q. ⌜ q ≡ endOutcome frame (macroblockOf (m .kinds) (m .modes)) (m .next) top left empty after ⌝ }
 {
     let kinds = m.kinds;
     let modes = m.modes;
@@ -183,8 +183,8 @@ fn with_tokens(
     requires { ⌜ Tokens (now tokens) t frame (now table) around ⌝ }
     requires { ⌜ InRange (macroblockOf (m .kinds) (m .modes)) ⌝ }
     requires { ⌜ Laid place (planesOf (now y) (now u) (now v)) ⌝ }
-    ensures { λ q. ⌜ calledOf q (now (y .exit)) (now (u .exit)) (now (v .exit))
-        ≡ tokensOf (now (tokens .entry)) t frame (now (table .entry)) around place
+    ensures { λ q. ⌜ macroblockCalled q (now (y .exit)) (now (u .exit)) (now (v .exit))
+        ≡ tokensCalled (now (tokens .entry)) t frame (now (table .entry)) around place
         (macroblockOf (m .kinds) (m .modes)) (m .next)
         (planesOf (now (y .entry)) (now (u .entry)) (now (v .entry))) ⌝ }
 {
@@ -232,9 +232,9 @@ fn step(
 ) -> Outcome
     requires { ⌜ Ready (now first) (now tokens) readers frame (now table) around ⌝ }
     requires { ⌜ Laid place (planesOf (now y) (now u) (now v)) ⌝ }
-    ensures { λ q. ⌜ calledOf q (now (y .exit)) (now (u .exit)) (now (v .exit))
+    ensures { λ q. ⌜ macroblockCalled q (now (y .exit)) (now (u .exit)) (now (v .exit))
         ≡ (let p = planesOf (now (y .entry)) (now (u .entry)) (now (v .entry)) in
-        toCalled p (stepOf (now (first .entry)) (now (tokens .entry)) readers frame (now (table .entry)) around place p)) ⌝ }
+        toMacroblockCalled p (stepOf (now (first .entry)) (now (tokens .entry)) readers frame (now (table .entry)) around place p)) ⌝ }
 {
     let mut modes = [0; 16];
     let r = readers.first;
@@ -275,8 +275,8 @@ pub fn decode(
     u: &mut [u8],
     v: &mut [u8],
 ) -> Outcome
-    ensures { λ q. ⌜ calledOf q (now (y .exit)) (now (u .exit)) (now (v .exit))
-        ≡ decodeOf (now (first .entry)) (now (tokens .entry)) readers frame (now (table .entry)) around place
+    ensures { λ q. ⌜ macroblockCalled q (now (y .exit)) (now (u .exit)) (now (v .exit))
+        ≡ macroblockCallOf (now (first .entry)) (now (tokens .entry)) readers frame (now (table .entry)) around place
         (planesOf (now (y .entry)) (now (u .entry)) (now (v .entry))) ⌝ }
 {
     if !ready(first, tokens, readers, frame, table.len(), around) {

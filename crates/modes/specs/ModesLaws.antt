@@ -20,7 +20,7 @@ use Rattle.reader.specs.Reading.{Reading, done, _>>=_, symbol, run, Within, end
 use Rattle.reader.specs.ReadingLaws.{run-done, run-then, run-stops, within-bind, within-more, within-symbol, within-depth}
 use Rattle.header.specs.declared.frame.Announced.{Announced}
 use Rattle.header.specs.FrameLaws.{Probabilities}
-use Rattle.reader.specs.TreesLaws.{reachOf, walk-below}
+use Rattle.reader.specs.TreesLaws.{leavesReached, walk-below}
 use Rattle.modes.specs.declared.answers.Prefix.{Prefix}
 use Rattle.modes.specs.Table.{probabilities}
 use Rattle.modes.specs.TableLaws.{probabilities-bytes}
@@ -61,10 +61,10 @@ left-fact above left e = modes-fact left (both-right (eachBelow 10 above) _ e)
 -- ---- trees: all may be walked with enough probabilities, and every path ends in time at a mode
 -- every leaf fits a byte
 unfoldable pub byteLeaves : List ℤ → Bool
-byteLeaves t = reachOf 32 (λ v. ltb v 256) t 0
+byteLeaves t = leavesReached 32 (λ v. ltb v 256) t 0
 
 -- of a constant tree `refl` answers the test
-pub byte-leaves : (t : List ℤ) → reachOf 32 (λ v. ltb v 256) t 0 ≡ true → byteLeaves t ≡ true
+pub byte-leaves : (t : List ℤ) → leavesReached 32 (λ v. ltb v 256) t 0 ≡ true → byteLeaves t ≡ true
 unfolding byteLeaves
 byte-leaves t e = e
 

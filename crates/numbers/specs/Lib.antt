@@ -22,3 +22,4 @@ pub mod Clamp
 pub mod ClampLaws
 pub mod Wrap
 pub mod WrapLaws
+pub mod Checked

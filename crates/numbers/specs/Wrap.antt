@@ -7,23 +7,23 @@ use Rattle.numbers.specs.declared.Wrapped.{Wrapped}
 use Rattle.numbers.specs.declared.Wrapped.the-variants.{Value, Refused}
 
 -- how many times 65536 must be taken off v to leave -32768..32767: (v + 32768) / 65536, rounded down
-abbrev pub turns : ℤ → ℤ
-turns v = shrZ (v +ℤ pos 32768) 65536
+abbrev pub wrapTurns : ℤ → ℤ
+wrapTurns v = shrZ (v +ℤ pos 32768) 65536
 
 -- the number in -32768..32767 that differs from v by a multiple of 65536
 unfoldable pub wrapZ : ℤ → ℤ
-wrapZ v = v -ℤ pos 65536 *ℤ turns v
+wrapZ v = v -ℤ pos 65536 *ℤ wrapTurns v
 
 -- what the public call answers: beyond a thousand million, either way, it refuses
 unfoldable pub wrap16Of : ℤ → Wrapped
 wrap16Of v = cond (leZ (negsuc 999999999) v && leZ v (pos 1000000000)) (Value (wrapZ v)) Refused
 
 -- the answer's number: 0, or 9 for an argument that is refused
-abbrev pub numberOf : Wrapped → ℕ
-numberOf (Value z) = 0
-numberOf Refused = 9
+abbrev pub wrap16NumberOf : Wrapped → ℕ
+wrap16NumberOf (Value z) = 0
+wrap16NumberOf Refused = 9
 
 -- the answer's value: 0 where it is refused
-abbrev pub valuesOf : Wrapped → ℤ
-valuesOf (Value z) = z
-valuesOf Refused = pos 0
+abbrev pub wrap16ValuesOf : Wrapped → ℤ
+wrap16ValuesOf (Value z) = z
+wrap16ValuesOf Refused = pos 0

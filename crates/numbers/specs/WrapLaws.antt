@@ -13,12 +13,12 @@ use Rattle.numbers.specs.In.{In}
 use Rattle.numbers.specs.Parts.{up, dn, to-le, of-le, of-eq, lt-parts, nlt-le, le-true, add-parts, sub-parts-ℤ, up-times, dn-times}
 use Rattle.numbers.specs.Order.{rem-low, rem-high}
 use Rattle.numbers.specs.Floor.{floor-in, floor-is}
-use Rattle.numbers.specs.Wrap.{turns, wrapZ, wrap16Of}
+use Rattle.numbers.specs.Wrap.{wrapTurns, wrapZ, wrap16Of}
 
 -- what is taken off is a multiple of 65536
-pub wrap-differs : (v : ℤ) → wrapZ v +ℤ pos 65536 *ℤ turns v ≡ v
+pub wrap-differs : (v : ℤ) → wrapZ v +ℤ pos 65536 *ℤ wrapTurns v ≡ v
 unfolding wrapZ
-wrap-differs v = -ℤ-+ℤ-cancel v (pos 65536 *ℤ turns v)
+wrap-differs v = -ℤ-+ℤ-cancel v (pos 65536 *ℤ wrapTurns v)
 
 -- the rest lies in 16 bits
 pub wrap-in : (v : ℤ) → In (negsuc 32767) (pos 32767) (wrapZ v)

@@ -4,6 +4,12 @@ ghost use mathlib.Core.Path.{_≡_};
 ghost use Rattle.numbers.specs.Clamp.{clampZ, upTo, clipZ, signedTo, signedByteZ};
 ghost use Rattle.numbers.specs.Wrap.{wrap16Of};
 
+// Whether a call did its work, or refused an argument out of range (9) and left everything as it was.
+pub enum Checked {
+    Done,
+    Refused,
+}
+
 // A number in 16 bits, or an argument that is refused.
 pub enum Wrapped {
     Value(i32),

@@ -6,10 +6,10 @@ use native.Mathlib.Omega.{arith}
 use lib.ListN.{length, replicate, length-replicate}
 use Rattle.reader.specs.Boolean.{noReader}
 use Rattle.reader.specs.BooleanLaws.{Bytes}
-use Rattle.coefficients.specs.declared.tokens.Table.{Table}
-use Rattle.coefficients.specs.Tokens.{headerTable, tableOf}
-use Rattle.coefficients.specs.TokenSteps.{table-done}
-use Rattle.coefficients.specs.TokenLaws.{length-header, header-bytes}
+use Rattle.coefficients.specs.declared.block.Table.{Table}
+use Rattle.coefficients.specs.Block.{headerTable, tableOf}
+use Rattle.coefficients.specs.BlockSteps.{table-done}
+use Rattle.coefficients.specs.BlockLaws.{length-header, header-bytes}
 use Rattle.lent.specs.ColumnsLaws.{columns-empty}
 use Rattle.lent.specs.SizesLaws.{luma-area, chroma-area}
 use Rattle.header.specs.declared.frame.Framed.{Framed}

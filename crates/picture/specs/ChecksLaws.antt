@@ -23,7 +23,7 @@ use Rattle.lent.specs.declared.sizes.Sizes.{Sizes}
 use Rattle.lent.specs.Memory.{Memory, sizesOf, blankOf}
 use Rattle.lent.specs.Sizes.{sizesFine}
 use Rattle.lent.specs.SizesLaws.{sizes-fact, sizes-test, blank-sizes}
-use Rattle.tile.specs.Partitions.{tokenOf, readersOf}
+use Rattle.tile.specs.Partitions.{tokenContents, readersOf}
 use Rattle.tile.specs.PartitionsLaws.{readers-valid}
 use Rattle.tile.specs.Checks.{sidesOf, countOf, partitionsOf, Sides, Counted, Cut}
 use Rattle.tile.specs.ChecksLaws.{sides-fact, sides-test, count-fact, count-test, partitions-fact, partitions-test}
@@ -170,7 +170,7 @@ module _ (t : Call) (z : Sizes) where
     fine-partitions = partitions-fact _ _ (passes e 4)
 
     -- and the reader that `openers` gives for a token partition is in range over it
-    pub fine-readers : Bytes (t .bytes) → (i : ℕ) (d : Reader) → i < t .tile .count → Valid (tokenOf (t .bytes) (t .tile) i) (getD (readersOf (t .bytes) (t .tile)) i d)
+    pub fine-readers : Bytes (t .bytes) → (i : ℕ) (d : Reader) → i < t .tile .count → Valid (tokenContents (t .bytes) (t .tile) i) (getD (readersOf (t .bytes) (t .tile)) i d)
     fine-readers y i d l = readers-valid (t .bytes) (t .tile) i d y (omega (arith, fine-count .most)) l
 
   -- and only then

@@ -6,7 +6,7 @@ use lib.Dec.{eqb}
 use lib.ListN.{getD, set}
 use Rattle.reader.specs.declared.boolean.Reader.{Reader}
 use Rattle.reader.specs.Boolean.{noReader}
-use Rattle.coefficients.specs.Tokens.{headerTable}
+use Rattle.coefficients.specs.Block.{headerTable}
 use Rattle.modes.specs.declared.contexts.Context.{Context}
 use Rattle.modes.specs.Answers.{kindsOf}
 use Rattle.modes.specs.Contexts.{emptyContext}
@@ -23,7 +23,7 @@ use Rattle.picture.specs.declared.rows.Decoded.the-variants as D
 use Rattle.lent.specs.Memory.{Memory, sizesOf, blankOf}
 use Rattle.lent.specs.Records.{columnAt, columnSet, modeSet, strengthSet}
 use Rattle.tile.specs.declared.Tile.{Tile}
-use Rattle.tile.specs.Partitions.{partOf, tokenOf, readersOf, pickOf}
+use Rattle.tile.specs.Partitions.{contentsOf, tokenContents, readersOf, pickOf}
 use Rattle.tile.specs.Checks.{blocksOf}
 use Rattle.picture.specs.Checks.{Call, refusalOf}
 
@@ -40,8 +40,8 @@ pub record Picture : Type 0 where
 
 abbrev pub cutOut : List ℕ → Tile → Frame → List ℕ → Picture
 cutOut bytes t frame table = record {
-  first = partOf bytes (t .first);
-  token = tokenOf bytes t;
+  first = contentsOf bytes (t .first);
+  token = tokenContents bytes t;
   count = t .count;
   frame = frame;
   table = table;

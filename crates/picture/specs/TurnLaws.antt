@@ -15,7 +15,7 @@ use Rattle.modes.specs.Contexts.{contextFine, emptyContext, Shaped}
 use Rattle.modes.specs.ModesLaws.{modes-test}
 use Rattle.filter.specs.Strengths.{strengthFine}
 use Rattle.lent.specs.declared.columns.ColumnRecord.{ColumnRecord}
-use Rattle.lent.specs.declared.records.Kept.{Kept}
+use Rattle.numbers.specs.declared.Checked.{Checked}
 use Rattle.lent.specs.Records.{Written, recordsIn, columnWidth, modeWidth, strengthWidth, columnAt, columnFound, columnRecord, columnSet, columnWritten, kindsFine, modeRecord, modeSet, modeWritten, strengthRecord, strengthSet, strengthWritten}
 use Rattle.lent.specs.RecordsLaws.{write-good}
 use Rattle.lent.specs.ColumnsLaws.{column-read}
@@ -30,7 +30,7 @@ use Rattle.header.specs.declared.frame.Frame.{Frame}
 use Rattle.macroblock.specs.DecodeLaws.{decode-good}
 use Rattle.macroblock.specs.StepLaws.{step-ends, step-outside}
 use Rattle.macroblock.specs.StepRecords.{step-strength}
-use Rattle.macroblock.specs.Macroblock.{stepOf, decodeOf, Planes, Finished, Step, finished, no-modes, no-tokens, Called, toCalled, shown, finishNumberOf}
+use Rattle.macroblock.specs.Macroblock.{stepOf, macroblockCallOf, Planes, Finished, Step, finished, no-modes, no-tokens, MacroblockCalled, toMacroblockCalled, shown, finishNumberOf}
 use Rattle.macroblock.specs.MacroblockLaws.{Ready, Laid}
 use Rattle.lent.specs.Memory.{Memory, memoryOf}
 use Rattle.picture.specs.Picture.{besideOf, planesIn, written}
@@ -47,12 +47,12 @@ module _ (column : ℕ) (left : Context) where
   beside-left e = rw (ne-eqb _ _ e, besideOf)
 
 -- ---- the call of a macroblock, its arguments being good
-pub call-is : (first tokens : List ℕ) (readers : Readers) (f : Frame) (table : List ℕ) {a b : Context} (top left : Context) (place : Place) (p : Planes) {x : Called}
-    → x ≡ decodeOf first tokens readers f table (record { top = a; left = b }) place p → a ≡ top → b ≡ left
+pub call-is : (first tokens : List ℕ) (readers : Readers) (f : Frame) (table : List ℕ) {a b : Context} (top left : Context) (place : Place) (p : Planes) {x : MacroblockCalled}
+    → x ≡ macroblockCallOf first tokens readers f table (record { top = a; left = b }) place p → a ≡ top → b ≡ left
     → Ready first tokens readers f table (record { top = top; left = left }) → Laid place p
-    → x ≡ toCalled p (stepOf first tokens readers f table (record { top = top; left = left }) place p)
+    → x ≡ toMacroblockCalled p (stepOf first tokens readers f table (record { top = top; left = left }) place p)
 call-is first tokens readers f table top left place p e c d g l =
-    e ∙ ap₂ (λ (x y : Context). decodeOf first tokens readers f table (record { top = x; left = y }) place p) c d
+    e ∙ ap₂ (λ (x y : Context). macroblockCallOf first tokens readers f table (record { top = x; left = y }) place p) c d
     ∙ decode-good first tokens readers f table (record { top = top; left = left }) place p g l
 
 -- what is read of a column
@@ -100,19 +100,19 @@ abbrev pub afterOf : Readers → Outcome → Planes → (columns modes strengths
 afterOf a w p columns modes strengths = turnedOf (F.Done a) (w .left) (memoryOf (p .y) (p .u) (p .v) columns modes strengths)
 
 module _ (left : Context) (k column : ℕ) (m : Memory) {w : Outcome} {p : Planes} where
-  pub turn-stopped : (s : Step) → record { answer = w; planes = p } ≡ toCalled (planesIn m) s → (finishNumberOf (w .answer) ≡ 0 → ⊥)
+  pub turn-stopped : (s : Step) → record { answer = w; planes = p } ≡ toMacroblockCalled (planesIn m) s → (finishNumberOf (w .answer) ≡ 0 → ⊥)
       → _≡_ {A = Turned} (record { answer = w .answer; left = left; mem = record { y = p .y; u = p .u; v = p .v; columns = m .columns; modes = m .modes; strengths = m .strengths } }) (turned left k column m s)
-  turn-stopped (finished x) e n = absurd (n (ap (λ (c : Called). finishNumberOf (c .answer .answer)) e))
+  turn-stopped (finished x) e n = absurd (n (ap (λ (c : MacroblockCalled). finishNumberOf (c .answer .answer)) e))
   turn-stopped no-modes e n = λ i. record { answer = e i .answer .answer; left = left; mem = record { y = e i .planes .y; u = e i .planes .u; v = e i .planes .v; columns = m .columns; modes = m .modes; strengths = m .strengths } }
   turn-stopped no-tokens e n = λ i. record { answer = e i .answer .answer; left = left; mem = record { y = e i .planes .y; u = e i .planes .u; v = e i .planes .v; columns = m .columns; modes = m .modes; strengths = m .strengths } }
 
-  module _ {a : Readers} {n₁ n₂ n₃ : Kept} {columns modes strengths first tokens : List ℕ} (g : w .answer ≡ F.Done a) (r : Room column k (m .columns) (m .modes) (m .strengths))
+  module _ {a : Readers} {n₁ n₂ n₃ : Checked} {columns modes strengths first tokens : List ℕ} (g : w .answer ≡ F.Done a) (r : Room column k (m .columns) (m .modes) (m .strengths))
       (c : record { answer = n₁; mem = columns } ≡ columnWritten (m .columns) column (w .top))
       (d : record { answer = n₂; mem = modes } ≡ modeWritten (m .modes) k (w .kinds) (w .modes))
       (f : record { answer = n₃; mem = strengths } ≡ strengthWritten (m .strengths) k (w .strength)) where
-    done : (x : Finished) → Ends first tokens (planesIn m) x → record { answer = w; planes = p } ≡ toCalled (planesIn m) (finished x) → afterOf a w p columns modes strengths ≡ turned left k column m (finished x)
+    done : (x : Finished) → Ends first tokens (planesIn m) x → record { answer = w; planes = p } ≡ toMacroblockCalled (planesIn m) (finished x) → afterOf a w p columns modes strengths ≡ turned left k column m (finished x)
     done x z e =
-        let ew : w ≡ shown x = ap (λ (q : Called). q .answer) e in
+        let ew : w ≡ shown x = ap (λ (q : MacroblockCalled). q .answer) e in
         let ea : F.Done a ≡ F.Done (x .readers) = sym g ∙ ap (λ (q : Outcome). q .answer) ew in
         let ec : columns ≡ columnSet (m .columns) column (x .top) =
         ap (λ (q : Written). q .mem) (c ∙ ap (λ (q : Outcome). columnWritten (m .columns) column (q .top)) ew ∙ write-good columnWidth (m .columns) column (contextFine (x .top)) (columnRecord (x .top)) (r .columns) (z .top)) in
@@ -122,13 +122,13 @@ module _ (left : Context) (k column : ℕ) (m : Memory) {w : Outcome} {p : Plane
         ap (λ (q : Written). q .mem) (f ∙ ap (λ (q : Outcome). strengthWritten (m .strengths) k (q .strength)) ew ∙ write-good strengthWidth (m .strengths) k (strengthFine (x .strength)) (strengthRecord (x .strength)) (r .strengths) (z .strength)) in
         λ i. record { answer = ea i; left = ew i .left; mem = record { y = e i .planes .y; u = e i .planes .u; v = e i .planes .v; columns = ec i; modes = ed i; strengths = ef i } }
 
-    pub turn-done : (s : Step) → record { answer = w; planes = p } ≡ toCalled (planesIn m) s → ((x : Finished) → s ≡ finished x → Ends first tokens (planesIn m) x) → afterOf a w p columns modes strengths ≡ turned left k column m s
+    pub turn-done : (s : Step) → record { answer = w; planes = p } ≡ toMacroblockCalled (planesIn m) s → ((x : Finished) → s ≡ finished x → Ends first tokens (planesIn m) x) → afterOf a w p columns modes strengths ≡ turned left k column m s
     turn-done (finished x) e z = done x (z x refl) e
-    turn-done no-modes e z = absurd (not-done (ap (λ (q : Called). finishNumberOf (q .answer .answer)) e))
+    turn-done no-modes e z = absurd (not-done (ap (λ (q : MacroblockCalled). finishNumberOf (q .answer .answer)) e))
       where
         not-done : finishNumberOf (w .answer) ≡ 6 → ⊥
         not-done h = let l : finishNumberOf (w .answer) ≡ 0 = ap finishNumberOf g in omega arith
-    turn-done no-tokens e z = absurd (not-done (ap (λ (q : Called). finishNumberOf (q .answer .answer)) e))
+    turn-done no-tokens e z = absurd (not-done (ap (λ (q : MacroblockCalled). finishNumberOf (q .answer .answer)) e))
       where
         not-done : finishNumberOf (w .answer) ≡ 7 → ⊥
         not-done h = let l : finishNumberOf (w .answer) ≡ 0 = ap finishNumberOf g in omega arith

@@ -6,7 +6,7 @@ mod turn;
 use crate::checks::refusal;
 use crate::rows::Decoded;
 use crate::rows::rows;
-use coefficients::tokens::probabilities;
+use coefficients::block::probabilities;
 use header::frame::take;
 use lent::memory::blank;
 use lent::sizes::Sizes;

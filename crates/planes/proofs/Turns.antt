@@ -10,10 +10,10 @@ use lib.ListN.{length, getD}
 use Rattle.numbers.specs.Tables.{allBelow}
 use Rattle.numbers.specs.Tests.{both-true, both-false}
 use Rattle.transform.specs.Transform.{samplesOf}
-use Rattle.planes.specs.declared.Painted.the-variants.{Done, Refused}
+use Rattle.numbers.specs.declared.Checked.the-variants.{Done, Refused}
 use Rattle.planes.specs.declared.predict.Edge.{Edge}
-use Rattle.planes.specs.Predict.{smallOf, largeOf}
-use Rattle.planes.specs.Paint.{blockAboveRight, aroundOf, painted, blockCoefficients, blockResidual, summedOf, blockPainted, blocksPainted, largeRule, smallAt, smallRule, squarePainted, modesFine, squareFine, coefficientsFine, paintFine, paintOf}
+use Rattle.planes.specs.Predict.{smallBlock, largeOf}
+use Rattle.planes.specs.Paint.{blockAboveRight, aroundOf, painted, blockCoefficients, blockResidual, summedOf, blockPainted, blocksPainted, largeRule, smallAt, smallRule, squarePainted, paintModesFine, squareFine, coefficientsFine, paintFine, paintOf}
 use Rattle.planes.specs.PaintLaws.{Bytes, Blank, blank-summed, blocks-next}
 use Rattle.planes.specs.Places.{Cell}
 
@@ -40,16 +40,16 @@ pub small-turn : (p : List ℕ) (w x y : ℕ) (right modes : List ℕ) (c : List
 small-turn p w x y right modes c i f s = rw (s .across, s .down) (blocks-next (smallRule w x y right modes) p w x y 4 c i f)
 
 pub small-is : (p : List ℕ) (w x y : ℕ) (last : Bool) (right : List ℕ) (mode : ℕ) (e : List ℕ) {pred : List ℕ}
-    → e ≡ aroundOf p w x y (blockAboveRight p w x y last right) → pred ≡ smallOf mode e → pred ≡ smallAt p w x y last right mode
+    → e ≡ aroundOf p w x y (blockAboveRight p w x y last right) → pred ≡ smallBlock mode e → pred ≡ smallAt p w x y last right mode
 unfolding smallAt
-small-is p w x y last right mode e f g = g ∙ ap (smallOf mode) f
+small-is p w x y last right mode e f g = g ∙ ap (smallBlock mode) f
 
 -- ---- checks
 pub all-next : (f : ℕ → Bool) (k : ℕ) {b : Bool} → b ≡ allBelow k f → f k && b ≡ allBelow (k + 1) f
 all-next f k e = rw (e, add-one)
 
 module _ (p : List ℕ) (w column row n : ℕ) (small : Bool) (mode : ℕ) (modes : List ℕ) (c : List ℤ) where
-  pub refused-modes : modesFine n small mode modes ≡ false → record { answer = Refused; plane = p } ≡ paintOf p w column row n small mode modes c
+  pub refused-modes : paintModesFine n small mode modes ≡ false → record { answer = Refused; plane = p } ≡ paintOf p w column row n small mode modes c
   unfolding paintOf paintFine
   refused-modes e = rw e
 
@@ -57,13 +57,13 @@ module _ (p : List ℕ) (w column row n : ℕ) (small : Bool) (mode : ℕ) (mode
   unfolding paintOf paintFine
   refused-square e =
       let l : squareFine (length p) w column row n && coefficientsFine n c ≡ false = rw e in
-      rw (both-false (modesFine n small mode modes) l)
+      rw (both-false (paintModesFine n small mode modes) l)
 
   pub refused-coefficients : coefficientsFine n c ≡ false → record { answer = Refused; plane = p } ≡ paintOf p w column row n small mode modes c
   unfolding paintOf paintFine
-  refused-coefficients e = rw (both-false (modesFine n small mode modes) (both-false (squareFine (length p) w column row n) e))
+  refused-coefficients e = rw (both-false (paintModesFine n small mode modes) (both-false (squareFine (length p) w column row n) e))
 
-  pub all-fine : modesFine n small mode modes ≡ true → squareFine (length p) w column row n ≡ true → coefficientsFine n c ≡ true
+  pub all-fine : paintModesFine n small mode modes ≡ true → squareFine (length p) w column row n ≡ true → coefficientsFine n c ≡ true
       → paintFine (length p) w column row n small mode modes c ≡ true
   unfolding paintFine
   all-fine e f g = both-true e (both-true f g)

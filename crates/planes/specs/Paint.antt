@@ -13,9 +13,9 @@ use Rattle.numbers.specs.Runs.{placed, copied}
 use Rattle.numbers.specs.Tables.{allBelow}
 use Rattle.transform.specs.Transform.{samplesOf, fits16}
 use Rattle.planes.specs.declared.predict.Edge.{Edge}
-use Rattle.planes.specs.declared.Painted.{Painted}
-use Rattle.planes.specs.declared.Painted.the-variants.{Done, Refused}
-use Rattle.planes.specs.Predict.{smallOf, dcOf, largeOf}
+use Rattle.numbers.specs.declared.Checked.{Checked}
+use Rattle.numbers.specs.declared.Checked.the-variants.{Done, Refused}
+use Rattle.planes.specs.Predict.{smallBlock, dcOf, largeOf}
 
 -- column x, row y
 abbrev pub sampleAt : List ℕ → (w x y : ℕ) → ℕ
@@ -36,14 +36,14 @@ unfoldable pub fourLeft : List ℕ → (w x y : ℕ) → List ℕ
 fourLeft p w x y = nearOf p w x (y + 1) ∷ nearOf p w x (y + 2) ∷ nearOf p w x (y + 3) ∷ nearOf p w x (y + 4) ∷ []
 
 -- ---- section 12.2: around the square of n by n at column x, row y. The edge's lists have sixteen places, zero past the first n
-unfoldable pub firstOf : (n : ℕ) → (ℕ → ℕ) → List ℕ
-firstOf n f = placed (replicate 16 0) 0 f n
+unfoldable pub firstPlaces : (n : ℕ) → (ℕ → ℕ) → List ℕ
+firstPlaces n f = placed (replicate 16 0) 0 f n
 
 abbrev pub firstAbove : List ℕ → (w x y n : ℕ) → List ℕ
-firstAbove p w x y n = firstOf n (λ k. nearOf p w (x + 1 + k) y)
+firstAbove p w x y n = firstPlaces n (λ k. nearOf p w (x + 1 + k) y)
 
 abbrev pub firstLeft : List ℕ → (w x y n : ℕ) → List ℕ
-firstLeft p w x y n = firstOf n (λ k. nearOf p w x (y + 1 + k))
+firstLeft p w x y n = firstPlaces n (λ k. nearOf p w x (y + 1 + k))
 
 unfoldable pub edgeOf : List ℕ → (w x y n : ℕ) → Edge
 edgeOf p w x y n = record {
@@ -116,18 +116,18 @@ abbrev pub largeRule : (m mode dc : ℕ) → Edge → List ℕ → ℕ → List 
 largeRule m mode dc e q i = largeOf mode dc e (cellRow m i) (cellColumn m i)
 
 unfoldable pub smallAt : List ℕ → (w x y : ℕ) (last : Bool) (right : List ℕ) (mode : ℕ) → List ℕ
-smallAt p w x y last right mode = smallOf mode (aroundOf p w x y (blockAboveRight p w x y last right))
+smallAt p w x y last right mode = smallBlock mode (aroundOf p w x y (blockAboveRight p w x y last right))
 
 abbrev pub smallRule : (w x y : ℕ) (right modes : List ℕ) → List ℕ → ℕ → List ℕ
 smallRule w x y right modes q i = smallAt q w (x + cellColumn 4 i) (y + cellRow 4 i) (eqb (i % 4) 3) right (getD modes i 0)
 
-unfoldable pub ruleOf : List ℕ → (w x y n : ℕ) (small : Bool) (mode : ℕ) (modes : List ℕ) → List ℕ → ℕ → List ℕ
-ruleOf p w x y n true mode modes = smallRule w x y (aboveRight p w x y) modes
-ruleOf p w x y n false mode modes = let e = edgeOf p w x y n in largeRule (n / 4) mode (dcOf n e) e
+unfoldable pub predictionRule : List ℕ → (w x y n : ℕ) (small : Bool) (mode : ℕ) (modes : List ℕ) → List ℕ → ℕ → List ℕ
+predictionRule p w x y n true mode modes = smallRule w x y (aboveRight p w x y) modes
+predictionRule p w x y n false mode modes = let e = edgeOf p w x y n in largeRule (n / 4) mode (dcOf n e) e
 
 -- the square of n by n
 unfoldable pub squarePainted : List ℕ → (w x y n : ℕ) (small : Bool) (mode : ℕ) (modes : List ℕ) → List ℤ → List ℕ
-squarePainted p w x y n small mode modes c = let m = n / 4 in blocksPainted (ruleOf p w x y n small mode modes) p w x y m c (m * m)
+squarePainted p w x y n small mode modes c = let m = n / 4 in blocksPainted (predictionRule p w x y n small mode modes) p w x y m c (m * m)
 
 -- ---- the public call: the square of macroblock (column, row)
 abbrev pub modesBelow : ℕ → List ℕ → Bool
@@ -137,8 +137,8 @@ abbrev pub eachFits : List ℤ → Bool
 eachFits c = allBelow (length c) (λ k. fits16 (getD c k (pos 0)))
 
 -- the size, and the modes that count
-unfoldable pub modesFine : (n : ℕ) (small : Bool) (mode : ℕ) (modes : List ℕ) → Bool
-modesFine n small mode modes = cond small (eqb n 16 && modesBelow 10 modes) ((eqb n 8 || eqb n 16) && ltb mode 4)
+unfoldable pub paintModesFine : (n : ℕ) (small : Bool) (mode : ℕ) (modes : List ℕ) → Bool
+paintModesFine n small mode modes = cond small (eqb n 16 && modesBelow 10 modes) ((eqb n 8 || eqb n 16) && ltb mode 4)
 
 -- whole squares in the plane's rows and columns, and the square among them
 unfoldable pub squareFine : (len w column row n : ℕ) → Bool
@@ -150,11 +150,11 @@ unfoldable pub coefficientsFine : (n : ℕ) → List ℤ → Bool
 coefficientsFine n c = eqb (length c) (n * n) && eachFits c
 
 unfoldable pub paintFine : (len w column row n : ℕ) (small : Bool) (mode : ℕ) (modes : List ℕ) → List ℤ → Bool
-paintFine len w column row n small mode modes c = modesFine n small mode modes && (squareFine len w column row n && coefficientsFine n c)
+paintFine len w column row n small mode modes c = paintModesFine n small mode modes && (squareFine len w column row n && coefficientsFine n c)
 
 -- what it answers, and the plane it leaves
 pub record PaintedPlane : Type 0 where
-  pub answer : Painted
+  pub answer : Checked
   pub plane : List ℕ
 
 unfoldable pub paintOf : List ℕ → (w column row n : ℕ) (small : Bool) (mode : ℕ) (modes : List ℕ) → List ℤ → PaintedPlane
@@ -162,8 +162,3 @@ paintOf p w column row n small mode modes c =
     cond (paintFine (length p) w column row n small mode modes c)
     (record { answer = Done; plane = squarePainted p w (column * n) (row * n) n small mode modes c })
     (record { answer = Refused; plane = p })
-
--- the number of the answer
-abbrev pub paintedNumberOf : Painted → ℕ
-paintedNumberOf Done = 0
-paintedNumberOf Refused = 9

@@ -15,6 +15,7 @@ use lib.IntN.{ℤ, pos, negsuc, _+ℤ_}
 use lib.ListN.{length, getD, set, replicate, length-take, length-drop, List·getD-eq-default}
 use lib.Seq.{getD-take, getD-drop}
 use lib.Signed.{leZ}
+pub use Rattle.numbers.specs.Lists.{Bytes}
 use Rattle.numbers.specs.Clamp.{clipZ}
 use Rattle.numbers.specs.ClampLaws.{upTo-le, upTo-same}
 use Rattle.numbers.specs.In.{In, Each}
@@ -25,16 +26,12 @@ use Rattle.numbers.specs.Runs.{placed, placed-none, placed-next, placed-same, c
 use Rattle.numbers.specs.Tables.{allBelow, all-below}
 use Rattle.numbers.specs.Tests.{lt-or, eq-or, both-left, both-right, both-true, cond-at}
 use Rattle.transform.specs.Transform.{samplesOf, fits16}
-use Rattle.transform.specs.TransformLaws.{Coefficients, shortcut}
-use Rattle.planes.specs.declared.Painted.the-variants.{Done, Refused}
+use Rattle.transform.specs.TransformLaws.{CoefficientsIn, shortcut}
+use Rattle.numbers.specs.declared.Checked.the-variants.{Done, Refused}
 use Rattle.planes.specs.declared.predict.Edge.{Edge}
-use Rattle.planes.specs.Predict.{Size, smallOf, dcOf}
-use Rattle.planes.specs.Paint.{sampleAt, nearOf, fourAbove, firstOf, firstAbove, firstLeft, edgeOf, aboveRight, blockAboveRight, aroundOf, rowsPainted, painted, blockCoefficients, blockResidual, summedOf, blockPainted, cellColumn, cellRow, blocksPainted, largeRule, smallAt, smallRule, ruleOf, squarePainted, eachFits, modesFine, squareFine, coefficientsFine, paintFine, PaintedPlane, paintOf}
+use Rattle.planes.specs.Predict.{Size, smallBlock, dcOf}
+use Rattle.planes.specs.Paint.{sampleAt, nearOf, fourAbove, firstPlaces, firstAbove, firstLeft, edgeOf, aboveRight, blockAboveRight, aroundOf, rowsPainted, painted, blockCoefficients, blockResidual, summedOf, blockPainted, cellColumn, cellRow, blocksPainted, largeRule, smallAt, smallRule, predictionRule, squarePainted, eachFits, paintModesFine, squareFine, coefficientsFine, paintFine, PaintedPlane, paintOf}
 use Rattle.planes.specs.Places.{Square, Outside, run-inside, sub-square, apart, outside-sub, BlockSides, cell, not-last, Stands, higher, before, stands-first, stands-last, Within, stood, later, by-size, size-some, quarter, size-sides, tiles}
-
--- every element is a byte
-abbrev pub Bytes : List ℕ → Type 0
-Bytes l = (i : ℕ) → getD l i 0 < 256
 
 -- arguments with which the square at column x, row y can be painted
 pub record Good (len w x y n : ℕ) (small : Bool) (mode : ℕ) (modes : List ℕ) (c : List ℤ) : Type 0 where
@@ -76,12 +73,12 @@ near-at p w x y d e f = rw (d, e, f, add-one x, add-one y)
 
 -- the first of an edge, one after the other
 module _ (f : ℕ → ℕ) where
-  pub first-none : firstOf 0 f ≡ replicate 16 0
-  unfolding firstOf
+  pub first-none : firstPlaces 0 f ≡ replicate 16 0
+  unfolding firstPlaces
   first-none = placed-none (replicate 16 0) 0 f
 
-  pub first-next : (n : ℕ) → set (firstOf n f) n (f n) ≡ firstOf (n + 1) f
-  unfolding firstOf
+  pub first-next : (n : ℕ) → set (firstPlaces n f) n (f n) ≡ firstPlaces (n + 1) f
+  unfolding firstPlaces
   first-next n = subst (λ (k : ℕ). set (placed (replicate 16 0) 0 f n) k (f n) ≡ placed (replicate 16 0) 0 f (n + 1)) (zero-add n) (placed-next (replicate 16 0) 0 f n)
 
 -- ---- the rows of a sub-block
@@ -143,7 +140,7 @@ module _ (c : List ℤ) (i : ℕ) (h : 16 * i + 16 ≤ length c) where
   pub block-built : blockCoefficients c i ≡ build 16 (λ k. getD c (16 * i + k) (pos 0))
   block-built = built (blockCoefficients c i) 16 (λ k. getD c (16 * i + k) (pos 0)) (pos 0) length-block (λ k l. block-at k (pos 0) l)
 
-  pub block-fits : Each (negsuc 32767) (pos 32767) c → Coefficients (blockCoefficients c i)
+  pub block-fits : Each (negsuc 32767) (pos 32767) c → CoefficientsIn (blockCoefficients c i)
   block-fits e = record { fit = λ k l. rw (block-at k (pos 0) l) (e .at (16 * i + k)) }
 
 -- the first n are 0
@@ -296,7 +293,7 @@ module _ (p q : List ℕ) (w : ℕ) (P : ℕ → ℕ → Type 0) (s : Same p q w
   ]
 
   edge-same : (x y n : ℕ) → x + n ≤ w → ((c r : ℕ) → Around x y n c r → P c r) → edgeOf p w x y n ≡ edgeOf q w x y n
-  unfolding edgeOf firstOf
+  unfolding edgeOf firstPlaces
   edge-same x y n l h =
       let a : firstAbove p w x y n ≡ firstAbove q w x y n = placed-same (replicate 16 0) 0 _ _ n (λ k i. near-same (x + 1 + k) y (omega arith) (λ c r e f. h c r (inl (omega arith)))) in
       let b : firstLeft p w x y n ≡ firstLeft q w x y n = placed-same (replicate 16 0) 0 _ _ n (λ k i. near-same x (y + 1 + k) (omega arith) (λ c r e f. h c r (inr (omega arith, omega arith)))) in
@@ -308,7 +305,7 @@ module _ (p q : List ℕ) (w : ℕ) (P : ℕ → ℕ → Type 0) (s : Same p q w
       → smallAt p w (x + cellColumn 4 i) (y + cellRow 4 i) (eqb (i % 4) 3) right mode ≡ smallAt q w (x + cellColumn 4 i) (y + cellRow 4 i) (eqb (i % 4) 3) right mode
   unfolding smallAt aroundOf blockAboveRight
   around-same x y i right l j h mode =
-      ap (smallOf mode)
+      ap (smallBlock mode)
       (left 4 (omega arith) ∷≡ left 3 (omega arith) ∷≡ left 2 (omega arith) ∷≡ left 1 (omega arith) ∷≡ corner
       ∷≡ top 1 (omega arith) ∷≡ top 2 (omega arith) ∷≡ top 3 (omega arith) ∷≡ top 4 (omega arith)
       ∷≡ ap (λ (a : List ℕ). getD a 0 0) aside ∷≡ ap (λ (a : List ℕ). getD a 1 0) aside
@@ -357,41 +354,41 @@ module _ (p : List ℕ) (w x y n : ℕ) (small : Bool) (mode : ℕ) (modes : Lis
   -- what the code paints in each kind of mode
   pub square-small : {r : List ℕ} → small ≡ true → n ≡ 16 → r ≡ aboveRight p w x y
       → blocksPainted (smallRule w x y r modes) p w x y 4 cs 16 ≡ squarePainted p w x y n small mode modes cs
-  unfolding squarePainted ruleOf
+  unfolding squarePainted predictionRule
   square-small e z f = rw (e, z, f)
 
   pub square-large : {dc : ℕ} {e : Edge} → small ≡ false → e ≡ edgeOf p w x y n → dc ≡ dcOf n e
       → blocksPainted (largeRule (n / 4) mode dc e) p w x y (n / 4) cs (n / 4 * (n / 4)) ≡ squarePainted p w x y n small mode modes cs
-  unfolding squarePainted ruleOf
+  unfolding squarePainted predictionRule
   square-large s f d = rw (s, d, f)
 
   length-square : length (squarePainted p w x y n small mode modes cs) ≡ length p
   unfolding squarePainted
-  length-square = length-blocks (ruleOf p w x y n small mode modes) p w x y (n / 4) cs (n / 4 * (n / 4))
+  length-square = length-blocks (predictionRule p w x y n small mode modes) p w x y (n / 4) cs (n / 4 * (n / 4))
 
   square-bytes : Bytes p → Bytes (squarePainted p w x y n small mode modes cs)
   unfolding squarePainted
-  square-bytes b = blocks-bytes (ruleOf p w x y n small mode modes) p w x y (n / 4) cs (n / 4 * (n / 4)) b
+  square-bytes b = blocks-bytes (predictionRule p w x y n small mode modes) p w x y (n / 4) cs (n / 4 * (n / 4)) b
 
   module _ (s : Size n) (t : Square (length p) w x y n) (c r : ℕ) where
     pub square-off : c < w → Outside x y n c r → sampleAt (squarePainted p w x y n small mode modes cs) w c r ≡ sampleAt p w c r
     unfolding squarePainted
     square-off h o =
-        blocks-off (ruleOf p w x y n small mode modes) p w x y (n / 4) cs (n / 4 * (n / 4)) c r (size-sides s) (rw (quarter s) t) (omega arith) h (rw (quarter s) o)
+        blocks-off (predictionRule p w x y n small mode modes) p w x y (n / 4) cs (n / 4 * (n / 4)) c r (size-sides s) (rw (quarter s) t) (omega arith) h (rw (quarter s) o)
 
     -- a sample of sub-block i is what its rule predicts from the plane as those before it left it, and its residual
     pub square-in : (i : ℕ) → i < n / 4 * (n / 4) → Within (x + cellColumn (n / 4) i) (y + cellRow (n / 4) i) c r
         → sampleAt (squarePainted p w x y n small mode modes cs) w c r
-        ≡ paintedIn (ruleOf p w x y n small mode modes) p w x y (n / 4) cs i c r
+        ≡ paintedIn (predictionRule p w x y n small mode modes) p w x y (n / 4) cs i c r
     unfolding squarePainted
-    square-in i h k = blocks-in (ruleOf p w x y n small mode modes) p w x y (n / 4) cs (size-sides s) (rw (quarter s) t) i c r h k (n / 4 * (n / 4)) h (omega arith)
+    square-in i h k = blocks-in (predictionRule p w x y n small mode modes) p w x y (n / 4) cs (size-sides s) (rw (quarter s) t) i c r h k (n / 4 * (n / 4)) h (omega arith)
 
 -- in both of two planes of the same length
 module _ (p q : List ℕ) (w x y n : ℕ) (small : Bool) (mode : ℕ) (modes : List ℕ) (cs : List ℤ) (e : length p ≡ length q) (g : Good (length p) w x y n small mode modes cs)
     (s : Same p q w (Around x y n)) where
   rule-same : (b : Bool) → small ≡ b → (i : ℕ) → i < n / 4 * (n / 4) → (P Q : List ℕ) → Same P Q w (Stands x y (n / 4) i)
-      → ruleOf p w x y n b mode modes P i ≡ ruleOf q w x y n b mode modes Q i
-  unfolding ruleOf
+      → predictionRule p w x y n b mode modes P i ≡ predictionRule q w x y n b mode modes Q i
+  unfolding predictionRule
   rule-same true t i h P Q u =
       let z = g .luma t in
       let v : Same P Q w (Stands x y 4 i) = subst (λ (k : ℕ). Same P Q w (Stands x y (k / 4) i)) z u in
@@ -405,7 +402,7 @@ module _ (p q : List ℕ) (w x y n : ℕ) (small : Bool) (mode : ℕ) (modes : L
   square-same c r k l =
       let d = size-sides (g .size) in
       let z = quarter (g .size) in
-      blocks-same p q w x y (n / 4) cs (ruleOf p w x y n small mode modes) (ruleOf q w x y n small mode modes) e d (rw z (g .square)) (rule-same small refl)
+      blocks-same p q w x y (n / 4) cs (predictionRule p w x y n small mode modes) (predictionRule q w x y n small mode modes) e d (rw z (g .square)) (rule-same small refl)
       (λ c r h v. s c r h (rw (← z) (stands-first d v))) (n / 4 * (n / 4)) (omega arith) c r (omega (arith, g .square .columns)) (stands-last d (rw z l) (rw z k))
 
 -- ---- what the checks say
@@ -414,16 +411,16 @@ either true b e = inl refl
 either false b e = inr e
 
 module _ (n mode : ℕ) (modes : List ℕ) where
-  small-fine : modesFine n true mode modes ≡ true → (n ≡ 16) × ((k : ℕ) → k < 16 → getD modes k 0 < 10)
-  unfolding modesFine
+  small-fine : paintModesFine n true mode modes ≡ true → (n ≡ 16) × ((k : ℕ) → k < 16 → getD modes k 0 < 10)
+  unfolding paintModesFine
   small-fine e =
       let t : ℕ → Bool = λ k. ltb (getD modes k 0) 10 in (
         eqb-true n 16 (both-left (eqb n 16) (allBelow 16 t) e),
         λ k h. ltb-true (getD modes k 0) 10 (all-below t 16 (both-right (eqb n 16) (allBelow 16 t) e) k h),
       )
 
-  large-fine : modesFine n false mode modes ≡ true → Size n × (mode < 4)
-  unfolding modesFine
+  large-fine : paintModesFine n false mode modes ≡ true → Size n × (mode < 4)
+  unfolding paintModesFine
   large-fine e =
       let t = eqb n 8 || eqb n 16 in
       (size (either (eqb n 8) (eqb n 16) (both-left t (ltb mode 4) e)), ltb-true mode 4 (both-right t (ltb mode 4) e))
@@ -432,7 +429,7 @@ module _ (n mode : ℕ) (modes : List ℕ) where
       size (inl h) = inl (eqb-true n 8 h)
       size (inr h) = inr (eqb-true n 16 h)
 
-pub modes-size : (n : ℕ) (small : Bool) (mode : ℕ) (modes : List ℕ) → modesFine n small mode modes ≡ true → Size n
+pub modes-size : (n : ℕ) (small : Bool) (mode : ℕ) (modes : List ℕ) → paintModesFine n small mode modes ≡ true → Size n
 modes-size n true mode modes e = inr (small-fine n mode modes e .0)
 modes-size n false mode modes e = large-fine n mode modes e .0
 
@@ -496,7 +493,7 @@ module _ (len w column row n : ℕ) (small : Bool) (mode : ℕ) (modes : List �
   pub fine-good : paintFine len w column row n small mode modes c ≡ true → Good len w (column * n) (row * n) n small mode modes c
   unfolding paintFine coefficientsFine
   fine-good h =
-      let a = modesFine n small mode modes in
+      let a = paintModesFine n small mode modes in
       let b = squareFine len w column row n in
       let d = coefficientsFine n c in
       let e = both-left a (b && d) h in
@@ -536,8 +533,8 @@ all-true f zero h = refl
 all-true f (suc n) h = both-true (h n (omega arith)) (all-true f n (λ i l. h i (omega arith)))
 
 proper-modes : (n : ℕ) (small : Bool) (mode : ℕ) (modes : List ℕ) → Size n → (small ≡ true → n ≡ 16) → (small ≡ false → mode < 4) → (small ≡ true → (k : ℕ) → k < 16 → getD modes k 0 < 10)
-    → modesFine n small mode modes ≡ true
-unfolding modesFine
+    → paintModesFine n small mode modes ≡ true
+unfolding paintModesFine
 proper-modes n true mode modes s a b d = both-true (eq-eqb n 16 (a refl)) (all-true _ 16 (λ k h. lt-ltb (getD modes k 0) 10 (d refl k h)))
 proper-modes n false mode modes s a b d = both-true (by-size (λ (n : ℕ). eqb n 8 || eqb n 16 ≡ true) refl refl s) (lt-ltb mode 4 (b refl))
 
@@ -592,7 +589,7 @@ module _ (p : List ℕ) (w column row n : ℕ) (small : Bool) (mode : ℕ) (mode
   pub paint-in : paintFine (length p) w column row n small mode modes cs ≡ true → (i c r : ℕ) → i < n / 4 * (n / 4)
       → Within (column * n + cellColumn (n / 4) i) (row * n + cellRow (n / 4) i) c r
       → sampleAt (paintOf p w column row n small mode modes cs .plane) w c r
-      ≡ paintedIn (ruleOf p w (column * n) (row * n) n small mode modes) p w (column * n) (row * n) (n / 4) cs i c r
+      ≡ paintedIn (predictionRule p w (column * n) (row * n) n small mode modes) p w (column * n) (row * n) (n / 4) cs i c r
   paint-in e i c r h k =
       let g = fine-good (length p) w column row n small mode modes cs e in
       rw (paint-fine e) (square-in p w (column * n) (row * n) n small mode modes cs (g .size) (g .square) c r i h k)

@@ -93,17 +93,17 @@ huBlock e =
     ∷ at e 0 ∷ at e 0 ∷ at e 0 ∷ at e 0 ∷ []
 
 -- by the source's mode numbers
-abbrev pub blocksOf : List ℕ → List (List ℕ)
-blocksOf e = dcBlock e ∷ tmBlock e ∷ veBlock e ∷ heBlock e ∷ rdBlock e ∷ vrBlock e ∷ ldBlock e ∷ vlBlock e ∷ hdBlock e ∷ huBlock e ∷ []
+abbrev pub smallBlocks : List ℕ → List (List ℕ)
+smallBlocks e = dcBlock e ∷ tmBlock e ∷ veBlock e ∷ heBlock e ∷ rdBlock e ∷ vrBlock e ∷ ldBlock e ∷ vlBlock e ∷ hdBlock e ∷ huBlock e ∷ []
 
-abbrev pub smallOf : ℕ → List ℕ → List ℕ
-smallOf mode e = getD (blocksOf e) mode []
+abbrev pub smallBlock : ℕ → List ℕ → List ℕ
+smallBlock mode e = getD (smallBlocks e) mode []
 
 -- ---- section 12.2: a whole square, 16 or 8 wide
 -- the sum of the first n
-unfoldable pub sumOf : List ℕ → ℕ → ℕ
-sumOf l zero = 0
-sumOf l (suc n) = sumOf l n + getD l n 0
+unfoldable pub sumOfFirst : List ℕ → ℕ → ℕ
+sumOfFirst l zero = 0
+sumOfFirst l (suc n) = sumOfFirst l n + getD l n 0
 
 -- DC: the mean of the neighbours that are inside, or 128
 abbrev pub meanOf : Bool → Bool → ℕ → ℕ → ℕ → ℕ
@@ -113,7 +113,7 @@ meanOf false true n a l = (l + n / 2) / n
 meanOf false false n a l = 128
 
 unfoldable pub dcOf : ℕ → Edge → ℕ
-dcOf n e = meanOf (e .«above_inside») (e .«left_inside») n (sumOf (e .above) n) (sumOf (e .left) n)
+dcOf n e = meanOf (e .«above_inside») (e .«left_inside») n (sumOfFirst (e .above) n) (sumOfFirst (e .left) n)
 
 -- large modes 0 DC, 1 TM, 2 V, 3 H: the sample at row r, column c of the square
 abbrev pub largeAt : ℕ → ℕ → Edge → ℕ → ℕ → ℕ

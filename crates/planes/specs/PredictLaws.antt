@@ -14,7 +14,7 @@ use Rattle.numbers.specs.Clamp.{clipZ}
 use Rattle.numbers.specs.ClampLaws.{upTo-le}
 use Rattle.numbers.specs.Lists.{build, listed, build-listed, length-build, getD-build, build-same, build-constant}
 use Rattle.planes.specs.declared.predict.Edge.{Edge}
-use Rattle.planes.specs.Predict.{Size, at, mean2, mean3, dcBlock, tmBlock, veBlock, heBlock, rdBlock, vrBlock, ldBlock, vlBlock, hdBlock, huBlock, blocksOf, smallOf, sumOf, meanOf, dcOf, largeAt, largeOf}
+use Rattle.planes.specs.Predict.{Size, at, mean2, mean3, dcBlock, tmBlock, veBlock, heBlock, rdBlock, vrBlock, ldBlock, vlBlock, hdBlock, huBlock, smallBlocks, smallBlock, sumOfFirst, meanOf, dcOf, largeAt, largeOf}
 
 -- ---- the width
 pub size-le : {n : ℕ} → Size n → n ≤ 16
@@ -39,15 +39,15 @@ abbrev pub meanOver : ℕ → ℕ → ℕ
 meanOver t n = (t + n / 2) / n
 
 module _ (n : ℕ) (e : Edge) where
-  pub dc-both : e .«above_inside» ≡ true → e .«left_inside» ≡ true → dcOf n e ≡ meanOver (sumOf (e .above) n + sumOf (e .left) n) (n + n)
+  pub dc-both : e .«above_inside» ≡ true → e .«left_inside» ≡ true → dcOf n e ≡ meanOver (sumOfFirst (e .above) n + sumOfFirst (e .left) n) (n + n)
   unfolding dcOf
-  dc-both o b = rw (o, b) (ap (λ (h : ℕ). (sumOf (e .above) n + sumOf (e .left) n + h) / (n + n)) (omega arith))
+  dc-both o b = rw (o, b) (ap (λ (h : ℕ). (sumOfFirst (e .above) n + sumOfFirst (e .left) n + h) / (n + n)) (omega arith))
 
-  pub dc-over : e .«above_inside» ≡ true → e .«left_inside» ≡ false → dcOf n e ≡ meanOver (sumOf (e .above) n) n
+  pub dc-over : e .«above_inside» ≡ true → e .«left_inside» ≡ false → dcOf n e ≡ meanOver (sumOfFirst (e .above) n) n
   unfolding dcOf
   dc-over o b = rw (o, b)
 
-  pub dc-beside : e .«above_inside» ≡ false → e .«left_inside» ≡ true → dcOf n e ≡ meanOver (sumOf (e .left) n) n
+  pub dc-beside : e .«above_inside» ≡ false → e .«left_inside» ≡ true → dcOf n e ≡ meanOver (sumOfFirst (e .left) n) n
   unfolding dcOf
   dc-beside o b = rw (o, b)
 
@@ -191,25 +191,25 @@ module _ {n : ℕ} {e : List ℕ} (b : Bytes n e) where
   unfolding tmBlock
   tm-each = every-build Byte 16 _ (λ k. clip-byte _)
 
-  ten-bytes : Every (Every Byte) (blocksOf e)
+  ten-bytes : Every (Every Byte) (smallBlocks e)
   unfolding veBlock heBlock rdBlock vrBlock ldBlock vlBlock hdBlock huBlock
   ten-bytes =
       dc-each & tm-each & (search (means, b .byte)) & (search (means, b .byte)) & (search (means, b .byte)) & (search (means, b .byte))
       & (search (means, b .byte)) & (search (means, b .byte)) & (search (means, b .byte)) & (search (means, b .byte)) & tt
 
-  ten-long : Every (λ (l : List ℕ). length l ≡ 16) (blocksOf e)
+  ten-long : Every (λ (l : List ℕ). length l ≡ 16) (smallBlocks e)
   unfolding dcBlock tmBlock veBlock heBlock rdBlock vrBlock ldBlock vlBlock hdBlock huBlock
   ten-long = refl & length-build 16 _ & refl & refl & refl & refl & refl & refl & refl & refl & tt
 
-  pub small-bytes : (mode : ℕ) → mode < 10 → Bytes 16 (smallOf mode e)
+  pub small-bytes : (mode : ℕ) → mode < 10 → Bytes 16 (smallBlock mode e)
   small-bytes mode h = record {
-    long = every-at (λ (l : List ℕ). length l ≡ 16) (blocksOf e) [] ten-long mode h;
-    byte = any-byte (smallOf mode e) (every-at (Every Byte) (blocksOf e) [] ten-bytes mode h);
+    long = every-at (λ (l : List ℕ). length l ≡ 16) (smallBlocks e) [] ten-long mode h;
+    byte = any-byte (smallBlock mode e) (every-at (Every Byte) (smallBlocks e) [] ten-bytes mode h);
   }
 
 -- ---- a square of bytes
-sum-le : {m : ℕ} {l : List ℕ} → Bytes m l → (n : ℕ) → sumOf l n ≤ 255 * n
-unfolding sumOf
+sum-le : {m : ℕ} {l : List ℕ} → Bytes m l → (n : ℕ) → sumOfFirst l n ≤ 255 * n
+unfolding sumOfFirst
 sum-le b zero = omega arith
 sum-le b (suc n) = omega (arith, b .byte n, sum-le b n)
 
@@ -218,7 +218,7 @@ module _ {m n : ℕ} (e : Edge) (a : Bytes m (e .above)) (l : Bytes n (e .left))
   unfolding dcOf
   dc-byte k p = by (e .«above_inside») (e .«left_inside»)
     where
-      by : (o b : Bool) → meanOf o b k (sumOf (e .above) k) (sumOf (e .left) k) < 256
+      by : (o b : Bool) → meanOf o b k (sumOfFirst (e .above) k) (sumOfFirst (e .left) k) < 256
       by true true = let q : 0 < k + k = omega arith in div-lt-iff-lt-mul q .1 (omega (arith, sum-le a k, sum-le l k))
       by true false = mean-byte p (sum-le a k)
       by false true = mean-byte p (sum-le l k)

@@ -18,7 +18,7 @@ ghost use Rattle.numbers.specs.Clamp.{clipZ};
 ghost use Rattle.numbers.specs.In.{In, Each};
 ghost use Rattle.numbers.specs.Runs.{copied};
 ghost use Rattle.transform.specs.Transform.{samplesOf};
-ghost use Rattle.transform.specs.TransformLaws.{Coefficients};
+ghost use Rattle.transform.specs.TransformLaws.{CoefficientsIn};
 ghost use Rattle.planes.specs.Paint.{painted, blockCoefficients, summedOf, blockPainted, blocksPainted};
 ghost use Rattle.planes.specs.Paint.{largeRule, smallAt, smallRule, squarePainted};
 ghost use Rattle.planes.specs.PaintLaws.{Blank, Good};
@@ -93,7 +93,7 @@ fn summed(pred: &[u8], res: &[i32; 16]) -> [u8; 16]
 // The same of the coefficients b of a sub-block.
 fn added(pred: &[u8], b: &[i32; 16]) -> [u8; 16]
     requires { ⌜ length (now pred) ≡ 16 ⌝ }
-    requires { ⌜ Coefficients (now b) ⌝ }
+    requires { ⌜ CoefficientsIn (now b) ⌝ }
     ensures { λ r. ⌜ r ≡ summedOf (now (pred .entry)) (samplesOf false (now (b .entry))) ⌝ }
 {
     let t = transform(b, false);

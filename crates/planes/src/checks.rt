@@ -2,7 +2,7 @@
 ghost use mathlib.Core.Path.{_≡_};
 ghost use Prim.Native.Nat.{_*_, _≤_};
 ghost use Rattle.planes.specs.Predict.{Size};
-ghost use Rattle.planes.specs.Paint.{modesBelow, eachFits, modesFine, squareFine, coefficientsFine};
+ghost use Rattle.planes.specs.Paint.{modesBelow, eachFits, paintModesFine, squareFine, coefficientsFine};
 
 fn each_below(modes: &[u8; 16], limit: u8) -> bool
     ensures { λ r. ⌜ r ≡ modesBelow limit (now (modes .entry)) ⌝ }
@@ -27,7 +27,7 @@ fn each_fits(c: &[i32]) -> bool
 
 // The size, and the modes that count.
 pub(crate) fn modes_fine(size: usize, small: bool, mode: u8, modes: &[u8; 16]) -> bool
-    ensures { λ r. ⌜ r ≡ modesFine size small mode (now (modes .entry)) ⌝ }
+    ensures { λ r. ⌜ r ≡ paintModesFine size small mode (now (modes .entry)) ⌝ }
 {
     if small {
         (size == 16) & each_below(modes, 10)

@@ -5,14 +5,9 @@ mod checks;
 mod edges;
 mod predict;
 
+use numbers::Checked;
 ghost use mathlib.Core.Path.{_≡_};
 ghost use Rattle.planes.specs.Paint.{paintOf};
-
-// Whether a square was painted. Refused: an argument lies outside its range, and the plane is as it was.
-pub enum Painted {
-    Done,
-    Refused,
-}
 
 // Paints the square of macroblock (column, row): 16 samples wide in luma, where the modes may be small, and 8 in chroma.
 // `coefficients` has sixteen for each sub-block of 4 by 4, in raster order; `mode` counts where `small` does not hold, `modes` where
@@ -27,18 +22,18 @@ pub fn paint(
     mode: u8,
     modes: &[u8; 16],
     coefficients: &[i32],
-) -> Painted
+) -> Checked
     ensures { λ q. ⌜ record { answer = q; plane = now (plane .exit) }
         ≡ paintOf (now (plane .entry)) stride column row size small mode (now (modes .entry)) (now (coefficients .entry)) ⌝ }
 {
     if !checks::modes_fine(size, small, mode, modes) {
-        return Painted::Refused;
+        return Checked::Refused;
     }
     if !checks::square_fine(plane.len(), stride, column, row, size) {
-        return Painted::Refused;
+        return Checked::Refused;
     }
     if !checks::coefficients_fine(size, coefficients) {
-        return Painted::Refused;
+        return Checked::Refused;
     }
     let x = checks::scaled(column, size);
     let y = checks::scaled(row, size);
@@ -53,5 +48,5 @@ pub fn paint(
         modes,
         coefficients,
     );
-    Painted::Done
+    Checked::Done
 }

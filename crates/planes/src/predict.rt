@@ -4,7 +4,7 @@ ghost use mathlib.Core.Path.{_≡_};
 ghost use Prim.Native.Nat.{_<_, _≤_, _+_, _*_, _/_, _%_};
 ghost use lib.ListN.{getD};
 ghost use Rattle.numbers.specs.Lists.{build};
-ghost use Rattle.planes.specs.Predict.{Size, at, mean2, mean3, two, three, smallOf, sumOf, dcOf, largeOf};
+ghost use Rattle.planes.specs.Predict.{Size, at, mean2, mean3, two, three, smallBlock, sumOfFirst, dcOf, largeOf};
 ghost use Rattle.planes.specs.Predict.{dcBlock, tmBlock, veBlock, heBlock, rdBlock, vrBlock, ldBlock, vlBlock, hdBlock, huBlock};
 ghost use Rattle.planes.specs.PredictLaws.{Count, meanOver, joinedOf, tmOne, tmRow, tmOf};
 
@@ -313,7 +313,7 @@ fn hu_block(e: [u8; 13]) -> [u8; 16]
 // The sixteen samples of a sub-block in a small mode.
 pub(crate) fn small_block(mode: u8, e: [u8; 13]) -> [u8; 16]
     requires { ⌜ mode < 10 ⌝ }
-    ensures { λ r. ⌜ r ≡ smallOf mode e ⌝ }
+    ensures { λ r. ⌜ r ≡ smallBlock mode e ⌝ }
 {
     match mode {
         0 => dc_block(e),
@@ -333,7 +333,7 @@ pub(crate) fn small_block(mode: u8, e: [u8; 13]) -> [u8; 16]
 // The sum of the first `size`.
 fn sum(l: [u8; 16], size: usize) -> u32
     requires { ⌜ Size size ⌝ }
-    ensures { λ r. ⌜ (r ≡ sumOf l size) × (r ≤ 255 * size) ⌝ }
+    ensures { λ r. ⌜ (r ≡ sumOfFirst l size) × (r ≤ 255 * size) ⌝ }
 {
     let mut total = 0;
     let mut i = 0;

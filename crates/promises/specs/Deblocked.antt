@@ -15,8 +15,8 @@ use Rattle.picture.specs.Checks.{Call}
 use Rattle.picture.specs.Picture.{pictureOf, planesIn}
 use Rattle.deblock.specs.declared.edges.Edge.{Edge}
 use Rattle.deblock.specs.declared.Deblocked.the-variants.{Done}
-use Rattle.deblock.specs.Deblock.{sweepOf, Lengths, Outcome, deblockOf, numberOf}
-use Rattle.promises.specs.Places.{Plane, luma, blue, red, sideOf, blockAt}
+use Rattle.deblock.specs.Deblock.{sweepOf, Lengths, Outcome, deblockOf, deblockNumberOf}
+use Rattle.promises.specs.Places.{Plane, luma, blue, red, planeSide, blockAt}
 use Rattle.promises.specs.Grey.{Inside, done}
 use Rattle.promises.specs.Isolation.{SameTokens}
 
@@ -37,7 +37,7 @@ abbrev pub Sized : Planes → (strengths : List ℕ) → (w h : ℕ) → Type 0
 Sized d s w h = Lengths w h (length (d .y)) (length (d .u)) (length (d .v)) (length s)
 
 abbrev pub numbered : Planes → (strengths : List ℕ) → (w h : ℕ) (simple : Bool) → ℕ
-numbered d s w h simple = numberOf (deblockOf d s w h simple .answer)
+numbered d s w h simple = deblockNumberOf (deblockOf d s w h simple .answer)
 
 pub record DeblockRefused (d : Planes) (s : List ℕ) (w h : ℕ) (simple : Bool) : Type 0 where
   pub unchanged : (numbered d s w h simple ≡ 0 → ⊥) → deblockOf d s w h simple .planes ≡ d
@@ -57,7 +57,7 @@ plane red d = d .v
 
 -- the sample at column c of row r of a plane after it
 abbrev pub sampleAfter : Call → Memory → Bool → Plane → (c r : ℕ) → ℕ
-sampleAfter t m simple a c r = sampleAt (plane a (deblockedOf t m simple .planes)) (t .tile .width / 16 * sideOf a) c r
+sampleAfter t m simple a c r = sampleAt (plane a (deblockedOf t m simple .planes)) (t .tile .width / 16 * planeSide a) c r
 
 -- THE PROMISE, after 0, 6 and 7: it is never refused; and no sample of an unfinished macroblock moves, so that grey stays grey
 pub record GreyStays (t : Call) (m : Memory) (simple : Bool) : Type 0 where
@@ -70,7 +70,7 @@ pub record IsolatedDeblocked (p : ℕ) (t u : Call) (m n : Memory) (simple : Boo
   pub first : deblockedOf t m simple .answer ≡ Done
   pub second : deblockedOf u n simple .answer ≡ Done
   -- the same samples in all macroblock rows above row p, the lowest three sample rows excepted
-  pub samples : (a : Plane) (c r : ℕ) → c < t .tile .width / 16 * sideOf a → r + 3 < p * sideOf a → sampleAfter t m simple a c r ≡ sampleAfter u n simple a c r
+  pub samples : (a : Plane) (c r : ℕ) → c < t .tile .width / 16 * planeSide a → r + 3 < p * planeSide a → sampleAfter t m simple a c r ≡ sampleAfter u n simple a c r
   -- if no row p exists, or nothing differs, or partition p is past the count, all agree
   pub no-row : t .tile .height / 16 ≤ p → deblockedOf t m simple ≡ deblockedOf u n simple
   pub no-difference : SameTokens t u p → deblockedOf t m simple ≡ deblockedOf u n simple

@@ -24,12 +24,12 @@ use Rattle.deblock.specs.declared.Deblocked.the-variants.{Done}
 use Rattle.deblock.specs.Deblock as deblock
 use Rattle.deblock.specs.Deblock.{Outcome, when, rasterOf}
 use Rattle.deblock.specs.ChecksLaws as checks
-use Rattle.deblock.specs.Located.{Grid}
+use Rattle.deblock.specs.Located.{PlaneGrid}
 use Rattle.deblock.specs.LocalLaws.{edge-moves-six, edge-looks-at-eight, plane-local, later-stay, when-local, when-same}
 use Rattle.promises.specs.Refusals.{Fine, fine-is}
 use Rattle.promises.specs.Stops.{macroblocks}
 use Rattle.promises.specs.ReachedLaws.{ending, last}
-use Rattle.promises.specs.Places.{Plane, luma, blue, red, planeOf, sideOf, blockAt}
+use Rattle.promises.specs.Places.{Plane, luma, blue, red, planeOf, planeSide, blockAt}
 use Rattle.promises.specs.KeptLaws.{sound, live-reached}
 use Rattle.promises.specs.Valid.{limits-at-most-189}
 use Rattle.promises.specs.Isolation.{Alike, Isolated}
@@ -131,16 +131,16 @@ module _ (t : Call) (m : Memory) (e : Fine t m) (b : Bytes (t .bytes)) (simple :
   no-limit k h = record-byte strengthWidth (there .strengths) k 0 (lit< tt) ∙ ended .no-strengths (k * strengthWidth + 0) (omega arith)
 
   -- a plane of squares of z by z
-  module _ {len z : ℕ} (g : Grid len z across (t .tile .height / 16)) (p : List ℕ) (c r : ℕ) (i : c < across * z) (h : done t m ≤ r / z * across + c / z) where
+  module _ {len z : ℕ} (g : PlaneGrid len z across (t .tile .height / 16)) (p : List ℕ) (c r : ℕ) (i : c < across * z) (h : done t m ≤ r / z * across + c / z) where
     unmoved : getD (rasterOf simple (there .strengths) z across (across * (t .tile .height / 16)) p) (r * (across * z) + c) 0 ≡ getD p (r * (across * z) + c) 0
     unmoved = later-stay simple (there .strengths) (g .size) (omega (arith, fine-side t (sizesOf m) e .width .least)) c r i (done t m) (across * (t .tile .height / 16)) no-limit h p
 
-  unmoved-chroma : {len : ℕ} → Grid len 8 across (t .tile .height / 16) → (p : List ℕ) (c r : ℕ) → c < across * 8 → done t m ≤ r / 8 * across + c / 8
+  unmoved-chroma : {len : ℕ} → PlaneGrid len 8 across (t .tile .height / 16) → (p : List ℕ) (c r : ℕ) → c < across * 8 → done t m ≤ r / 8 * across + c / 8
       → getD (chroma simple (there .strengths) across (t .tile .height / 16) (planesIn there) p) (r * (across * 8) + c) 0 ≡ getD p (r * (across * 8) + c) 0
   unmoved-chroma g p c r i h = when-same (not simple) _ p (r * (across * 8) + c) (unmoved g p c r i h)
 
   part-stays : (a : Plane) (c r : ℕ) → Inside t a c r → done t m ≤ blockAt across a c r
-      → getD (parts simple (there .strengths) across (t .tile .height / 16) (planesIn there) a) (r * (across * sideOf a) + c) 0 ≡ getD (plane a (planesIn there)) (r * (across * sideOf a) + c) 0
+      → getD (parts simple (there .strengths) across (t .tile .height / 16) (planesIn there) a) (r * (across * planeSide a) + c) 0 ≡ getD (plane a (planesIn there)) (r * (across * planeSide a) + c) 0
   part-stays luma c r i h = unmoved (checks.luma-whole (fine t m e b) .grid) (there .y) c r (i .across) h
   part-stays blue c r i h = unmoved-chroma (checks.blue-whole (fine t m e b) .grid) (there .u) c r (i .across) h
   part-stays red c r i h = unmoved-chroma (checks.red-whole (fine t m e b) .grid) (there .v) c r (i .across) h
@@ -152,10 +152,10 @@ module _ (t : Call) (m : Memory) (e : Fine t m) (b : Bytes (t .bytes)) (simple :
 
   stays-grey : (a : Plane) (c r : ℕ) → Inside t a c r → done t m ≤ blockAt across a c r → sampleAfter t m simple a c r ≡ 128
   stays-grey a c r i h =
-      ap (λ (E : Outcome). getD (plane a (E .planes)) (r * (across * sideOf a) + c) 0) (is t m e b simple)
-      ∙ ap (λ (q : List ℕ). getD q (r * (across * sideOf a) + c) 0) (parts-is simple (there .strengths) across (t .tile .height / 16) (planesIn there) a)
+      ap (λ (E : Outcome). getD (plane a (E .planes)) (r * (across * planeSide a) + c) 0) (is t m e b simple)
+      ∙ ap (λ (q : List ℕ). getD q (r * (across * planeSide a) + c) 0) (parts-is simple (there .strengths) across (t .tile .height / 16) (planesIn there) a)
       ∙ part-stays a c r i h
-      ∙ ap (λ (q : List ℕ). getD q (r * (across * sideOf a) + c) 0) (plane-is a)
+      ∙ ap (λ (q : List ℕ). getD q (r * (across * planeSide a) + c) 0) (plane-is a)
       ∙ ended .grey a c r i h
 
 -- GREY STAYS GREY, after 0, 6 and 7
@@ -194,10 +194,10 @@ module _ (p : ℕ) (t u : Call) (m n : Memory) (a : Alike p t u) (e : Fine t m) 
 
   strength-same : (k : ℕ) → k < wide * p → strengthAt (one .strengths) k ≡ strengthAt (two .strengths) k
   strength-same k h =
-      ap strengthIn (record-same strengthWidth (one .strengths) (two .strengths) k k (λ j l. before .strengths (k * 4 + j) (omega (arith, mul-comm wide p))))
+      ap strengthIn (record-same strengthWidth (one .strengths) (two .strengths) k k (λ j l. before .strengths (k * strengthWidth + j) (omega (arith, mul-comm wide p))))
 
   -- a plane of squares of z by z
-  module _ (l : p ≤ high) {len z : ℕ} (g : Grid len z wide high) (P Q : List ℕ) (long : length P ≡ length Q) (filled : 0 < wide * z)
+  module _ (l : p ≤ high) {len z : ℕ} (g : PlaneGrid len z wide high) (P Q : List ℕ) (long : length P ≡ length Q) (filled : 0 < wide * z)
       (h : (c r : ℕ) → c < wide * z → r < p * z → sampleAt P (wide * z) c r ≡ sampleAt Q (wide * z) c r) (i : ℕ) (k : i < (p * z - 3) * (wide * z)) where
     higher : getD P i 0 ≡ getD Q i 0
     higher = place P Q filled h i (omega (arith, mul-le-mul-right {m = p * z - 3} {n = p * z} (wide * z) (omega arith)))
@@ -214,7 +214,7 @@ module _ (p : ℕ) (t u : Call) (m n : Memory) (a : Alike p t u) (e : Fine t m) 
   long-two : deblock.Lengths (u .tile .width) (u .tile .height) (length (two .y)) (length (two .u)) (length (two .v)) (length (two .strengths))
   long-two = lengths u n f d
 
-  parts-same : p ≤ high → (c : Plane) (i : ℕ) → i < (p * sideOf c - 3) * (wide * sideOf c)
+  parts-same : p ≤ high → (c : Plane) (i : ℕ) → i < (p * planeSide c - 3) * (wide * planeSide c)
       → getD (parts simple (one .strengths) wide high (planesIn one) c) i 0 ≡ getD (parts simple (two .strengths) wide high (planesIn two) c) i 0
   parts-same l luma i k =
       filtered l (checks.luma-whole (fine t m e b) .grid) (one .y) (two .y)
@@ -226,18 +226,18 @@ module _ (p : ℕ) (t u : Call) (m n : Memory) (a : Alike p t u) (e : Fine t m) 
       filtered-chroma l (checks.red-whole (fine t m e b) .grid) (one .v) (two .v)
       (long-one .red ∙ ap₂ (λ (w h : ℕ). w / 2 * (h / 2)) (a .width) (a .height) ∙ sym (long-two .red)) (omega (arith, some)) (before .samples red) i k refl
 
-  samples-same : (x : Plane) (c r : ℕ) → c < wide * sideOf x → r + 3 < p * sideOf x → sampleAfter t m simple x c r ≡ sampleAfter u n simple x c r
+  samples-same : (x : Plane) (c r : ℕ) → c < wide * planeSide x → r + 3 < p * planeSide x → sampleAfter t m simple x c r ≡ sampleAfter u n simple x c r
   samples-same x c r h k =
-      let i : r * (wide * sideOf x) + c < (p * sideOf x - 3) * (wide * sideOf x) = omega (arith, next-row r (p * sideOf x - 3) (wide * sideOf x) (omega arith)) in
+      let i : r * (wide * planeSide x) + c < (p * planeSide x - 3) * (wide * planeSide x) = omega (arith, next-row r (p * planeSide x - 3) (wide * planeSide x) (omega arith)) in
       ⊎-elim
-      (λ l. ap (λ (E : Outcome). getD (plane x (E .planes)) (r * (wide * sideOf x) + c) 0) first-is
-      ∙ ap (λ (q : List ℕ). getD q (r * (wide * sideOf x) + c) 0) (parts-is simple (one .strengths) wide high (planesIn one) x)
-      ∙ parts-same (omega arith) x (r * (wide * sideOf x) + c) i
-      ∙ sym (ap (λ (q : List ℕ). getD q (r * (wide * sideOf x) + c) 0) (parts-is simple (two .strengths) wide high (planesIn two) x))
-      ∙ sym (ap (λ (E : Outcome). getD (plane x (E .planes)) (r * (wide * sideOf x) + c) 0) second-is))
-      (λ l. ap (λ (E : Outcome). getD (plane x (E .planes)) (r * (wide * sideOf x) + c) 0) (all-same (before .no-row l)))
+      (λ l. ap (λ (E : Outcome). getD (plane x (E .planes)) (r * (wide * planeSide x) + c) 0) first-is
+      ∙ ap (λ (q : List ℕ). getD q (r * (wide * planeSide x) + c) 0) (parts-is simple (one .strengths) wide high (planesIn one) x)
+      ∙ parts-same (omega arith) x (r * (wide * planeSide x) + c) i
+      ∙ sym (ap (λ (q : List ℕ). getD q (r * (wide * planeSide x) + c) 0) (parts-is simple (two .strengths) wide high (planesIn two) x))
+      ∙ sym (ap (λ (E : Outcome). getD (plane x (E .planes)) (r * (wide * planeSide x) + c) 0) second-is))
+      (λ l. ap (λ (E : Outcome). getD (plane x (E .planes)) (r * (wide * planeSide x) + c) 0) (all-same (before .no-row l)))
       (lt-or p high)
-      ∙ ap (λ (w : ℕ). sampleAt (plane x (deblockedOf u n simple .planes)) (w / 16 * sideOf x) c r) (a .width)
+      ∙ ap (λ (w : ℕ). sampleAt (plane x (deblockedOf u n simple .planes)) (w / 16 * planeSide x) c r) (a .width)
 
   both : IsolatedDeblocked p t u m n simple
   both = record {

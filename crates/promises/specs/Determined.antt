@@ -16,11 +16,11 @@ use Rattle.reader.specs.declared.boolean.Reader.{Reader}
 use Rattle.header.specs.Levels.{levelAnswer}
 use Rattle.header.specs.Quantizers.{quantizersOf}
 use Rattle.header.specs.declared.quantizers.Factors.{Factors}
-use Rattle.coefficients.specs.Tokens as Tokens
-use Rattle.coefficients.specs.Tokens.{numberAnswer, signedAnswer, tableOf}
+use Rattle.coefficients.specs.Block as Tokens
+use Rattle.coefficients.specs.Block.{numberAnswer, signedAnswer, tableOf}
 use Rattle.transform.specs.Transform.{transformOf}
 use Rattle.filter.specs.declared.answers.Rule.{Rule}
-use Rattle.filter.specs.Kernel.{samplesOf, ruleOf, stepsOf, movedOf, filterOf, pixelOf}
+use Rattle.filter.specs.Kernel.{samplesAcross, ruleOf, stepsOf, movedOf, filterOf, pixelOf}
 use Rattle.modes.specs.Answers.{eachBelow, prefixAnswer, mainAnswer, blockAnswer, smallAnswer, modesAnswer}
 use Rattle.filter.specs.Explain.{explainOf}
 use Rattle.modes.specs.Modes as Modes
@@ -32,7 +32,7 @@ use Rattle.lent.specs.Sizes.{lumaFine, chromaFine, columnsFine, modesFine, stre
 use Rattle.tile.specs.declared.Span.{Span}
 use Rattle.tile.specs.declared.Tile.{Tile}
 use Rattle.tile.specs.Checks.{sideOf, sidesOf, countOf, partitionsOf}
-use Rattle.tile.specs.Partitions.{pickOf, partOf, tokenOf, readersOf}
+use Rattle.tile.specs.Partitions.{pickOf, contentsOf, tokenContents, readersOf}
 use Rattle.modes.specs.declared.answers.Kinds.{Kinds}
 use Rattle.modes.specs.declared.contexts.Context.{Context}
 use Rattle.residual.specs.Residual as Residual
@@ -145,11 +145,11 @@ coefficients-dequant s token q r = determined (signedAnswer s token q r)
 pub coefficients-probabilities : (h : List ℤ) → One (λ x. x ≡ tableOf h)
 coefficients-probabilities h = determined (tableOf h)
 
-pub coefficients-decode : (s : List ℕ) (r : Reader) (table : List ℕ) (kind ctx first q0 q1 : ℕ) (out : List ℤ) → One (λ x. x ≡ Tokens.decodeOf s r table kind ctx first q0 q1 out)
-coefficients-decode s r table kind ctx first q0 q1 out = determined (Tokens.decodeOf s r table kind ctx first q0 q1 out)
+pub coefficients-decode : (s : List ℕ) (r : Reader) (table : List ℕ) (kind ctx first q0 q1 : ℕ) (out : List ℤ) → One (λ x. x ≡ Tokens.blockCallOf s r table kind ctx first q0 q1 out)
+coefficients-decode s r table kind ctx first q0 q1 out = determined (Tokens.blockCallOf s r table kind ctx first q0 q1 out)
 
-pub coefficients-decode-header : (s : List ℕ) (r : Reader) (h : List ℤ) (kind ctx first q0 q1 : ℕ) (out : List ℤ) → One (λ x. x ≡ Tokens.decodeHeaderOf s r h kind ctx first q0 q1 out)
-coefficients-decode-header s r h kind ctx first q0 q1 out = determined (Tokens.decodeHeaderOf s r h kind ctx first q0 q1 out)
+pub coefficients-decode-header : (s : List ℕ) (r : Reader) (h : List ℤ) (kind ctx first q0 q1 : ℕ) (out : List ℤ) → One (λ x. x ≡ Tokens.blockByHeaderOf s r h kind ctx first q0 q1 out)
+coefficients-decode-header s r h kind ctx first q0 q1 out = determined (Tokens.blockByHeaderOf s r h kind ctx first q0 q1 out)
 
 -- ---- transform
 pub transform-transform : (c : List ℤ) (walsh : Bool) → One (λ x. x ≡ transformOf c walsh)
@@ -162,11 +162,11 @@ filter-filter e simple edge limit inner threshold = determined (filterOf e simpl
 pub filter-pixel : (e : List ℕ) (simple edge : Bool) (limit inner threshold k : ℕ) → One (λ x. x ≡ pixelOf e simple edge limit inner threshold k)
 filter-pixel e simple edge limit inner threshold k = determined (pixelOf e simple edge limit inner threshold k)
 
-pub filter-rule : (e : List ℕ) (simple edge : Bool) (limit inner threshold : ℕ) → One (λ x. x ≡ ruleOf (samplesOf e) simple edge limit inner threshold)
-filter-rule e simple edge limit inner threshold = determined (ruleOf (samplesOf e) simple edge limit inner threshold)
+pub filter-rule : (e : List ℕ) (simple edge : Bool) (limit inner threshold : ℕ) → One (λ x. x ≡ ruleOf (samplesAcross e) simple edge limit inner threshold)
+filter-rule e simple edge limit inner threshold = determined (ruleOf (samplesAcross e) simple edge limit inner threshold)
 
-pub filter-acted : (e : List ℕ) (rule : Rule) → One (λ x. x ≡ movedOf e (stepsOf rule (samplesOf e)))
-filter-acted e rule = determined (movedOf e (stepsOf rule (samplesOf e)))
+pub filter-acted : (e : List ℕ) (rule : Rule) → One (λ x. x ≡ movedOf e (stepsOf rule (samplesAcross e)))
+filter-acted e rule = determined (movedOf e (stepsOf rule (samplesAcross e)))
 
 pub filter-at-level : (level sharp : ℕ) (inside : Bool) → One (λ x. x ≡ strengthAnswer level sharp inside)
 filter-at-level level sharp inside = determined (strengthAnswer level sharp inside)
@@ -174,8 +174,8 @@ filter-at-level level sharp inside = determined (strengthAnswer level sharp insi
 pub filter-strength-fine : (t : Strength) → One (λ x. x ≡ strengthFine t)
 filter-strength-fine t = determined (strengthFine t)
 
-pub filter-added : (e : List ℕ) (rule : Rule) → One (λ x. x ≡ stepsOf rule (samplesOf e))
-filter-added e rule = determined (stepsOf rule (samplesOf e))
+pub filter-added : (e : List ℕ) (rule : Rule) → One (λ x. x ≡ stepsOf rule (samplesAcross e))
+filter-added e rule = determined (stepsOf rule (samplesAcross e))
 
 pub filter-explain : (e : List ℕ) (simple edge : Bool) (limit inner threshold : ℕ) → One (λ x. x ≡ explainOf e simple edge limit inner threshold)
 filter-explain e simple edge limit inner threshold = determined (explainOf e simple edge limit inner threshold)
@@ -212,11 +212,11 @@ pub modes-context-fine : (c : Context) → One (λ x. x ≡ contextFine c)
 modes-context-fine c = determined (contextFine c)
 
 -- ---- residual
-pub residual-decode : (s : List ℕ) (r : Reader) (table : List ℕ) (f : Factors) (small skip : Bool) (top left : List ℕ) (out : List ℤ) → One (λ x. x ≡ Residual.decodeOf s r table f small skip top left out)
-residual-decode s r table f small skip top left out = determined (Residual.decodeOf s r table f small skip top left out)
+pub residual-decode : (s : List ℕ) (r : Reader) (table : List ℕ) (f : Factors) (small skip : Bool) (top left : List ℕ) (out : List ℤ) → One (λ x. x ≡ Residual.residualCallOf s r table f small skip top left out)
+residual-decode s r table f small skip top left out = determined (Residual.residualCallOf s r table f small skip top left out)
 
-pub residual-decode-header : (s : List ℕ) (r : Reader) (h : List ℤ) (segment : ℕ) (small skip : Bool) (top left : List ℕ) (out : List ℤ) → One (λ x. x ≡ Residual.decodeHeaderOf s r h segment small skip top left out)
-residual-decode-header s r h segment small skip top left out = determined (Residual.decodeHeaderOf s r h segment small skip top left out)
+pub residual-decode-header : (s : List ℕ) (r : Reader) (h : List ℤ) (segment : ℕ) (small skip : Bool) (top left : List ℕ) (out : List ℤ) → One (λ x. x ≡ Residual.residualByHeaderOf s r h segment small skip top left out)
+residual-decode-header s r h segment small skip top left out = determined (Residual.residualByHeaderOf s r h segment small skip top left out)
 
 -- ---- planes
 pub planes-paint : (plane : List ℕ) (stride column row size : ℕ) (small : Bool) (mode : ℕ) (modes : List ℕ) (coefficients : List ℤ) → One (λ x. x ≡ paintOf plane stride column row size small mode modes coefficients)
@@ -238,11 +238,11 @@ tile-partitions-fine bytes t = determined (partitionsOf bytes t)
 pub tile-pick : (row count : ℕ) → One (λ x. x ≡ pickOf row count)
 tile-pick row count = determined (pickOf row count)
 
-pub tile-part : (bytes : List ℕ) (s : Span) → One (λ x. x ≡ partOf bytes s)
-tile-part bytes s = determined (partOf bytes s)
+pub tile-part : (bytes : List ℕ) (s : Span) → One (λ x. x ≡ contentsOf bytes s)
+tile-part bytes s = determined (contentsOf bytes s)
 
-pub tile-token : (bytes : List ℕ) (t : Tile) (i : ℕ) → One (λ x. x ≡ tokenOf bytes t i)
-tile-token bytes t i = determined (tokenOf bytes t i)
+pub tile-token : (bytes : List ℕ) (t : Tile) (i : ℕ) → One (λ x. x ≡ tokenContents bytes t i)
+tile-token bytes t i = determined (tokenContents bytes t i)
 
 pub tile-openers : (bytes : List ℕ) (t : Tile) → One (λ x. x ≡ readersOf bytes t)
 tile-openers bytes t = determined (readersOf bytes t)
@@ -291,8 +291,8 @@ pub lent-read-strength : (mem : List ℕ) (i : ℕ) → One (λ x. x ≡ strengt
 lent-read-strength mem i = determined (strengthFound mem i)
 
 -- ---- macroblock
-pub macroblock-decode : (first tokens : List ℕ) (readers : Readers) (frame : Frame) (table : List ℕ) (around : Around) (place : Place) (p : Planes) → One (λ x. x ≡ Macroblock.decodeOf first tokens readers frame table around place p)
-macroblock-decode first tokens readers frame table around place p = determined (Macroblock.decodeOf first tokens readers frame table around place p)
+pub macroblock-decode : (first tokens : List ℕ) (readers : Readers) (frame : Frame) (table : List ℕ) (around : Around) (place : Place) (p : Planes) → One (λ x. x ≡ Macroblock.macroblockCallOf first tokens readers frame table around place p)
+macroblock-decode first tokens readers frame table around place p = determined (Macroblock.macroblockCallOf first tokens readers frame table around place p)
 
 -- ---- picture
 pub picture-number : (d : Decoded) → One (λ x. x ≡ numberOf d)

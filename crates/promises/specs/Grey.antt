@@ -5,17 +5,17 @@ use mathlib.Core.Path.{_≡_}
 use lib.ListN.{getD}
 use Rattle.modes.specs.Answers.{kindsOf}
 use Rattle.macroblock.specs.Macroblock.{Finished, finished}
-use Rattle.lent.specs.Records.{modeRecord, strengthRecord}
+use Rattle.lent.specs.Records.{modeWidth, strengthWidth, modeRecord, strengthRecord}
 use Rattle.lent.specs.Memory.{Memory}
 use Rattle.picture.specs.Checks.{Call}
 use Rattle.picture.specs.Picture.{State, picturedOf, begunOf, stepAt, nextOf, pictureOf, valuesOf}
 use Rattle.promises.specs.Reached.{Reached}
-use Rattle.promises.specs.Places.{Plane, sideOf, sampleOf, modeByte, strengthByte, blockAt}
+use Rattle.promises.specs.Places.{Plane, planeSide, sampleOf, modeByte, strengthByte, blockAt}
 
 -- column c of row r lies in a plane of the tile
 pub record Inside (t : Call) (a : Plane) (c r : ℕ) : Type 0 where
-  pub across : c < t .tile .width / 16 * sideOf a
-  pub down : r < t .tile .height / 16 * sideOf a
+  pub across : c < t .tile .width / 16 * planeSide a
+  pub down : r < t .tile .height / 16 * planeSide a
 
 -- macroblock k of a tile is finished: what it found, what its step made of that, and that nothing later changed it. In the memory that
 -- the call leaves its samples are those right after its step, and its two records hold what its step made
@@ -26,8 +26,8 @@ pub record Made (t : Call) (m : Memory) (k : ℕ) : Type 0 where
   pub step : stepAt (picturedOf t) k found ≡ finished made
   pub samples : (a : Plane) (c r : ℕ) → Inside t a c r → blockAt (t .tile .width / 16) a c r ≡ k
       → sampleOf (t .tile .width / 16) a c r (pictureOf t m .mem) ≡ sampleOf (t .tile .width / 16) a c r (nextOf (picturedOf t) k found made .mem)
-  pub kinds : (i : ℕ) → i < 20 → modeByte (k * 20 + i) (pictureOf t m .mem) ≡ getD (modeRecord (kindsOf (made .modes)) (made .modes .modes)) i 0
-  pub strength : (i : ℕ) → i < 4 → strengthByte (k * 4 + i) (pictureOf t m .mem) ≡ getD (strengthRecord (made .strength)) i 0
+  pub kinds : (i : ℕ) → i < modeWidth → modeByte (k * modeWidth + i) (pictureOf t m .mem) ≡ getD (modeRecord (kindsOf (made .modes)) (made .modes .modes)) i 0
+  pub strength : (i : ℕ) → i < strengthWidth → strengthByte (k * strengthWidth + i) (pictureOf t m .mem) ≡ getD (strengthRecord (made .strength)) i 0
 
 -- macroblocks that the call finished
 abbrev pub done : Call → Memory → ℕ
@@ -38,8 +38,8 @@ done t m = valuesOf (pictureOf t m .answer)
 pub record FinishedOrGrey (t : Call) (m : Memory) : Type 0 where
   pub before : (k : ℕ) → k < done t m → Made t m k
   pub grey : (a : Plane) (c r : ℕ) → Inside t a c r → done t m ≤ blockAt (t .tile .width / 16) a c r → sampleOf (t .tile .width / 16) a c r (pictureOf t m .mem) ≡ 128
-  pub no-kinds : (i : ℕ) → done t m * 20 ≤ i → modeByte i (pictureOf t m .mem) ≡ 0
-  pub no-strengths : (i : ℕ) → done t m * 4 ≤ i → strengthByte i (pictureOf t m .mem) ≡ 0
+  pub no-kinds : (i : ℕ) → done t m * modeWidth ≤ i → modeByte i (pictureOf t m .mem) ≡ 0
+  pub no-strengths : (i : ℕ) → done t m * strengthWidth ≤ i → strengthByte i (pictureOf t m .mem) ≡ 0
   pub state : State
   pub reached : Reached (picturedOf t) (begunOf t m) (done t m) state
   pub memory : pictureOf t m .mem ≡ state .mem

@@ -23,7 +23,7 @@ use Rattle.promises.specs.Refusals.{Fine, fine-is}
 use Rattle.promises.specs.Reached.{Reached, after}
 use Rattle.promises.specs.ReachedLaws.{ending, Last, last, reached-before, Latest, latest}
 use Rattle.promises.specs.Stops.{macroblocks}
-use Rattle.promises.specs.Places.{Plane, luma, blue, red, planeOf, sideOf, sampleOf, modeByte, strengthByte}
+use Rattle.promises.specs.Places.{Plane, luma, blue, red, planeOf, planeSide, sampleOf, modeByte, strengthByte}
 use Rattle.promises.specs.KeptLaws.{Sound, sound, Keeps, keeps-sample, keeps-mode, keeps-strength, live-reached, reached-keeps, rest-keeps}
 use Rattle.promises.specs.Grey.{Inside, Made, done, FinishedOrGrey}
 
@@ -50,7 +50,7 @@ module _ (wide n k c r : ℕ) (o : k ≡ r / n * wide + c / n → ⊥) where
 
 -- ---- blank memory
 module _ (t : Call) (m : Memory) (z : Sound (picturedOf t) (begunOf t m)) where
-  plane-long : (a : Plane) → length (planeOf a m) ≡ t .tile .height / 16 * sideOf a * (t .tile .width / 16 * sideOf a)
+  plane-long : (a : Plane) → length (planeOf a m) ≡ t .tile .height / 16 * planeSide a * (t .tile .width / 16 * planeSide a)
   plane-long luma = sym (length-replicate (length (m .y)) 128) ∙ z .live .y
   plane-long blue = sym (length-replicate (length (m .u)) 128) ∙ z .live .u ∙ ap (λ (w : ℕ). t .tile .height / 16 * 8 * w) {x = t .tile .width / 16 * 16 / 2} {y = t .tile .width / 16 * 8} (omega arith)
   plane-long red = sym (length-replicate (length (m .v)) 128) ∙ z .live .v ∙ ap (λ (w : ℕ). t .tile .height / 16 * 8 * w) {x = t .tile .width / 16 * 16 / 2} {y = t .tile .width / 16 * 8} (omega arith)
@@ -62,9 +62,9 @@ module _ (t : Call) (m : Memory) (z : Sound (picturedOf t) (begunOf t m)) where
 
   blank-sample : (a : Plane) (c r : ℕ) → Inside t a c r → sampleOf (t .tile .width / 16) a c r (begunOf t m .mem) ≡ 128
   blank-sample a c r h =
-      ap (λ (p : List ℕ). getD p (r * (t .tile .width / 16 * sideOf a) + c) 0) (blank-plane a)
-      ∙ getD-replicate (length (planeOf a m)) (r * (t .tile .width / 16 * sideOf a) + c) 128 0
-      (rw (plane-long a) (omega (arith, h .across, next-row r (t .tile .height / 16 * sideOf a) (t .tile .width / 16 * sideOf a) (h .down))))
+      ap (λ (p : List ℕ). getD p (r * (t .tile .width / 16 * planeSide a) + c) 0) (blank-plane a)
+      ∙ getD-replicate (length (planeOf a m)) (r * (t .tile .width / 16 * planeSide a) + c) 128 0
+      (rw (plane-long a) (omega (arith, h .across, next-row r (t .tile .height / 16 * planeSide a) (t .tile .width / 16 * planeSide a) (h .down))))
 
 -- ---- a macroblock that is finished
 -- where the picture ends
@@ -90,10 +90,10 @@ module _ (t : Call) (m : Memory) (e : Fine t m) (z : Sound (picturedOf t) (begun
         reached = l .reached;
         step = l .step;
         samples = λ a c r i o. stays (sampleOf (t .tile .width / 16) a c r) h (l .reached) (l .step)
-            (λ j g v. keeps-sample z j v a c r (i .across) (other-block (t .tile .width / 16) (sideOf a) j c r (λ q. omega arith)));
-        kinds = λ i o. stays (modeByte (k * 20 + i)) h (l .reached) (l .step) (λ j g v. keeps-mode z j v (k * 20 + i) (inl (omega arith)))
+            (λ j g v. keeps-sample z j v a c r (i .across) (other-block (t .tile .width / 16) (planeSide a) j c r (λ q. omega arith)));
+        kinds = λ i o. stays (modeByte (k * modeWidth + i)) h (l .reached) (l .step) (λ j g v. keeps-mode z j v (k * modeWidth + i) (inl (omega arith)))
             ∙ record-set-in modeWidth (l .found .mem .modes) k (modeRecord (kindsOf (l .made .modes)) (l .made .modes .modes)) (lit< tt) (room .modes) i o;
-        strength = λ i o. stays (strengthByte (k * 4 + i)) h (l .reached) (l .step) (λ j g v. keeps-strength z j v (k * 4 + i) (inl (omega arith)))
+        strength = λ i o. stays (strengthByte (k * strengthWidth + i)) h (l .reached) (l .step) (λ j g v. keeps-strength z j v (k * strengthWidth + i) (inl (omega arith)))
             ∙ record-set-in strengthWidth (l .found .mem .strengths) k (strengthRecord (l .made .strength)) (lit< tt) (room .strengths) i o;
       }
 
@@ -105,7 +105,7 @@ module _ (t : Call) (m : Memory) (e : Fine t m) (z : Sound (picturedOf t) (begun
   grey-all = record {
     before = λ k h. made-at (omega (arith, end .upto)) (latest (reached-before (suc k) (omega arith) (end .reached) .reached));
     grey = λ a c r i h. untouched (sampleOf (t .tile .width / 16) a c r)
-        (λ j l v. keeps-sample z j v a c r (i .across) (other-block (t .tile .width / 16) (sideOf a) j c r (λ q. omega arith)))
+        (λ j l v. keeps-sample z j v a c r (i .across) (other-block (t .tile .width / 16) (planeSide a) j c r (λ q. omega arith)))
         ∙ blank-sample t m z a c r i;
     no-kinds = λ i h. untouched (modeByte i) (λ j l v. keeps-mode z j v i (inr (omega arith))) ∙ getD-constant (length (m .modes)) i 0;
     no-strengths = λ i h. untouched (strengthByte i) (λ j l v. keeps-strength z j v i (inr (omega arith))) ∙ getD-constant (length (m .strengths)) i 0;

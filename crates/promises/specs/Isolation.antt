@@ -3,11 +3,12 @@
 use Prim.Native.Nat.{ℕ, _+_, _*_, _/_, _≤_, _<_}
 use mathlib.Core.Path.{_≡_}
 use lib.ListN.{getD}
+use Rattle.lent.specs.Records.{modeWidth, strengthWidth}
 use Rattle.lent.specs.Memory.{Memory}
 use Rattle.tile.specs.Partitions.{spanAt}
 use Rattle.picture.specs.Checks.{Call}
 use Rattle.picture.specs.Picture.{Ended, pictureOf, numberOf, valuesOf}
-use Rattle.promises.specs.Places.{Plane, sideOf, sampleOf, modeByte, strengthByte}
+use Rattle.promises.specs.Places.{Plane, planeSide, sampleOf, modeByte, strengthByte}
 
 -- ---- what is compared
 -- token partition q of two tiles holds the same bytes, each from its own start
@@ -37,16 +38,16 @@ Stopped E number k = (numberOf (E .answer) ≡ number) × (valuesOf (E .answer) 
 -- THE PROMISE, a field for each sentence of demand 3, of the calls for two such tiles
 pub record Isolated (p : ℕ) (t u : Call) (m n : Memory) : Type 0 where
   -- all macroblock rows above row p get the same samples of Y, U and V, the same modes and the same strengths
-  pub samples : (a : Plane) (c r : ℕ) → c < t .tile .width / 16 * sideOf a → r < p * sideOf a
+  pub samples : (a : Plane) (c r : ℕ) → c < t .tile .width / 16 * planeSide a → r < p * planeSide a
       → sampleOf (t .tile .width / 16) a c r (pictureOf t m .mem) ≡ sampleOf (t .tile .width / 16) a c r (pictureOf u n .mem)
-  pub modes : (i : ℕ) → i < p * (t .tile .width / 16) * 20 → modeByte i (pictureOf t m .mem) ≡ modeByte i (pictureOf u n .mem)
-  pub strengths : (i : ℕ) → i < p * (t .tile .width / 16) * 4 → strengthByte i (pictureOf t m .mem) ≡ strengthByte i (pictureOf u n .mem)
+  pub modes : (i : ℕ) → i < p * (t .tile .width / 16) * modeWidth → modeByte i (pictureOf t m .mem) ≡ modeByte i (pictureOf u n .mem)
+  pub strengths : (i : ℕ) → i < p * (t .tile .width / 16) * strengthWidth → strengthByte i (pictureOf t m .mem) ≡ strengthByte i (pictureOf u n .mem)
   -- a stop in those rows comes in both, at one macroblock with one number
   pub stops : (number k : ℕ) → k < p * (t .tile .width / 16) → Stopped (pictureOf t m) number k → Stopped (pictureOf u n) number k
   pub stops-too : (number k : ℕ) → k < p * (t .tile .width / 16) → Stopped (pictureOf u n) number k → Stopped (pictureOf t m) number k
   -- each macroblock finished in both has the same modes
-  pub kinds : (k i : ℕ) → k < valuesOf (pictureOf t m .answer) → k < valuesOf (pictureOf u n .answer) → i < 20
-      → modeByte (k * 20 + i) (pictureOf t m .mem) ≡ modeByte (k * 20 + i) (pictureOf u n .mem)
+  pub kinds : (k i : ℕ) → k < valuesOf (pictureOf t m .answer) → k < valuesOf (pictureOf u n .answer) → i < modeWidth
+      → modeByte (k * modeWidth + i) (pictureOf t m .mem) ≡ modeByte (k * modeWidth + i) (pictureOf u n .mem)
   -- if no row p exists, or nothing differs, or partition p is past the count, answers and all memory agree
   pub no-row : t .tile .height / 16 ≤ p → pictureOf t m ≡ pictureOf u n
   pub no-difference : SameTokens t u p → pictureOf t m ≡ pictureOf u n

@@ -9,12 +9,12 @@ use lib.ListN.{getD}
 use Rattle.numbers.specs.Tests.{lt-or, eq-or}
 use Rattle.reader.specs.Boolean.{noReader}
 use Rattle.reader.specs.BooleanLaws.{Bytes}
-use Rattle.lent.specs.Records.{columnAt}
+use Rattle.lent.specs.Records.{modeWidth, strengthWidth, columnAt}
 use Rattle.lent.specs.Memory.{Memory, sizesOf}
-use Rattle.coefficients.specs.Tokens.{headerTable}
+use Rattle.coefficients.specs.Block.{headerTable}
 use Rattle.header.specs.declared.frame.Frame.{Frame}
 use Rattle.header.specs.Frame.{frameOf}
-use Rattle.tile.specs.Partitions.{spanAt, tokenOf, readersOf}
+use Rattle.tile.specs.Partitions.{spanAt, tokenContents, readersOf}
 use Rattle.tile.specs.PartitionsLaws.{part-same, readers-same, readers-length, pick-some, pick-below}
 use Rattle.picture.specs.Checks.{Call}
 use Rattle.picture.specs.ChecksLaws.{fine-side, fine-count, fine-partitions}
@@ -23,7 +23,7 @@ use Rattle.promises.specs.Refusals.{Fine, fine-is, blank-same, sizes-sam
 use Rattle.promises.specs.Reached.{Reached}
 use Rattle.promises.specs.ReachedLaws.{values-from, ending, last, reached-before}
 use Rattle.promises.specs.Stops.{macroblocks}
-use Rattle.promises.specs.Places.{Plane, sideOf, sampleOf, modeByte, strengthByte}
+use Rattle.promises.specs.Places.{Plane, planeSide, sampleOf, modeByte, strengthByte}
 use Rattle.promises.specs.KeptLaws.{Sound, sound, Keeps, keeps-sample, keeps-mode, keeps-strength, rest-keeps}
 use Rattle.promises.specs.TwoModes.{Moded, same-modes}
 use Rattle.promises.specs.TwoRuns.{Twins, Same, Split, alike, past, split, all-alike}
@@ -35,20 +35,20 @@ module _ {P : Picture} {S₀ : State} (z : Sound P S₀) (p k : ℕ) (g : p * P 
   some-wide zero l = absurd (omega arith)
   some-wide (suc w) l = omega arith
 
-  rows-kept : (a : Plane) (c r : ℕ) → c < P .wide * sideOf a → r < p * sideOf a → Keeps P (sampleOf (P .wide) a c r) k
+  rows-kept : (a : Plane) (c r : ℕ) → c < P .wide * planeSide a → r < p * planeSide a → Keeps P (sampleOf (P .wide) a c r) k
   rows-kept a c r l o =
       let q : p ≤ rowOf P k = le-div-iff-mul-le (some-wide (P .wide) h) .1 g in
-      keeps-sample z k h a c r l (inr (inl (omega (arith, mul-le-mul-right {m = p} {n = rowOf P k} (sideOf a) q))))
+      keeps-sample z k h a c r l (inr (inl (omega (arith, mul-le-mul-right {m = p} {n = rowOf P k} (planeSide a) q))))
 
-  modes-kept : (i : ℕ) → i < p * P .wide * 20 → Keeps P (modeByte i) k
+  modes-kept : (i : ℕ) → i < p * P .wide * modeWidth → Keeps P (modeByte i) k
   modes-kept i l = keeps-mode z k h i (inl (omega arith))
 
-  strengths-kept : (i : ℕ) → i < p * P .wide * 4 → Keeps P (strengthByte i) k
+  strengths-kept : (i : ℕ) → i < p * P .wide * strengthWidth → Keeps P (strengthByte i) k
   strengths-kept i l = keeps-strength z k h i (inl (omega arith))
 
 -- ---- the contents of partitions
 module _ (p : ℕ) (t u : Call) (m n : Memory) (a : Alike p t u) (e : Fine t m) (f : Fine u n) where
-  token-same : (q : ℕ) → q < t .tile .count → SameTokens t u q → tokenOf (t .bytes) (t .tile) q ≡ tokenOf (u .bytes) (u .tile) q
+  token-same : (q : ℕ) → q < t .tile .count → SameTokens t u q → tokenContents (t .bytes) (t .tile) q ≡ tokenContents (u .bytes) (u .tile) q
   token-same q h s =
       part-same (t .bytes) (u .bytes) (spanAt (t .tile) q) (spanAt (u .tile) q) (fine-partitions t (sizesOf m) e .tokens q h)
       (fine-partitions u (sizesOf n) f .tokens q (rw (a .count) at h)) (a .lengths q h) s
@@ -196,8 +196,8 @@ module _ (p : ℕ) (t u : Call) (m n : Memory) (a : Alike p t u) (e : Fine t m) 
     start-modes : Moded (t .tile .width / 16) (begunOf t m) (begunOf u n)
     start-modes = record { reader = a .reader; left = refl; above = λ c h. ap (λ (b : Memory). columnAt (b .columns) c .modes) blank; modes = ap (λ (b : Memory). b .modes) blank }
 
-    kinds-same : (k i : ℕ) → k < valuesOf (pictureOf t m .answer) → k < valuesOf (pictureOf u n .answer) → i < 20
-        → modeByte (k * 20 + i) (pictureOf t m .mem) ≡ modeByte (k * 20 + i) (pictureOf u n .mem)
+    kinds-same : (k i : ℕ) → k < valuesOf (pictureOf t m .answer) → k < valuesOf (pictureOf u n .answer) → i < modeWidth
+        → modeByte (k * modeWidth + i) (pictureOf t m .mem) ≡ modeByte (k * modeWidth + i) (pictureOf u n .mem)
     kinds-same k i h l o =
         let h′ : k < valuesOf (runOf (macroblocks t) (picturedOf t) 0 (begunOf t m) .answer) = rw (fine-is t m e) at h in
         let l′ : k < valuesOf (runOf (macroblocks u) (picturedOf u) 0 (begunOf u n) .answer) = rw (fine-is u n f) at l in
@@ -208,11 +208,11 @@ module _ (p : ℕ) (t u : Call) (m n : Memory) (a : Alike p t u) (e : Fine t m) 
         let some : suc k ≤ macroblocks t = omega (arith, b .upto) in
         let few : suc k ≤ macroblocks u = omega (arith, c .upto) in
         let d = same-modes z y (shared .first) (ap (λ (f : Frame). f .announced) (shared .frame)) (shared .wide) (ap (λ (x : ℕ). x / 16) (a .height)) start-modes some (r .reached) (q .reached) in
-        ap (λ (E : Ended). modeByte (k * 20 + i) (E .mem)) (fine-is t m e)
-        ∙ rest-keeps z (modeByte (k * 20 + i)) some (r .reached) (λ j g v. keeps-mode z j v (k * 20 + i) (inl (omega arith)))
-        ∙ ap (λ (x : List ℕ). getD x (k * 20 + i) 0) (d .modes)
-        ∙ sym (rest-keeps y (modeByte (k * 20 + i)) few (q .reached) (λ j g v. keeps-mode y j v (k * 20 + i) (inl (omega arith))))
-        ∙ sym (ap (λ (E : Ended). modeByte (k * 20 + i) (E .mem)) (fine-is u n f))
+        ap (λ (E : Ended). modeByte (k * modeWidth + i) (E .mem)) (fine-is t m e)
+        ∙ rest-keeps z (modeByte (k * modeWidth + i)) some (r .reached) (λ j g v. keeps-mode z j v (k * modeWidth + i) (inl (omega arith)))
+        ∙ ap (λ (x : List ℕ). getD x (k * modeWidth + i) 0) (d .modes)
+        ∙ sym (rest-keeps y (modeByte (k * modeWidth + i)) few (q .reached) (λ j g v. keeps-mode y j v (k * modeWidth + i) (inl (omega arith))))
+        ∙ sym (ap (λ (E : Ended). modeByte (k * modeWidth + i) (E .mem)) (fine-is u n f))
 
   both-calls : Bytes (t .bytes) → Bytes (u .bytes) → Isolated p t u m n
   both-calls b d =
@@ -220,13 +220,13 @@ module _ (p : ℕ) (t u : Call) (m n : Memory) (a : Alike p t u) (e : Fine t m) 
       let y = sound u n d f in
       record {
         samples = λ o c r h l. by-count _
-            (λ g. cell-same g z y (λ w. sampleOf w o c r) (λ k i j. rows-kept z p k i j o c r h l) (λ k i j. rows-kept y p k i j o c r (subst (λ (w : ℕ). c < w / 16 * sideOf o) (a .width) h) l))
+            (λ g. cell-same g z y (λ w. sampleOf w o c r) (λ k i j. rows-kept z p k i j o c r h l) (λ k i j. rows-kept y p k i j o c r (subst (λ (w : ℕ). c < w / 16 * planeSide o) (a .width) h) l))
             (ap (λ (E : Ended). sampleOf (t .tile .width / 16) o c r (E .mem)));
         modes = λ i h. by-count _
-            (λ g. cell-same g z y (λ w. modeByte i) (λ k v j. modes-kept z p k v j i h) (λ k v j. modes-kept y p k v j i (subst (λ (w : ℕ). i < p * (w / 16) * 20) (a .width) h)))
+            (λ g. cell-same g z y (λ w. modeByte i) (λ k v j. modes-kept z p k v j i h) (λ k v j. modes-kept y p k v j i (subst (λ (w : ℕ). i < p * (w / 16) * modeWidth) (a .width) h)))
             (ap (λ (E : Ended). modeByte i (E .mem)));
         strengths = λ i h. by-count _
-            (λ g. cell-same g z y (λ w. strengthByte i) (λ k v j. strengths-kept z p k v j i h) (λ k v j. strengths-kept y p k v j i (subst (λ (w : ℕ). i < p * (w / 16) * 4) (a .width) h)))
+            (λ g. cell-same g z y (λ w. strengthByte i) (λ k v j. strengths-kept z p k v j i h) (λ k v j. strengths-kept y p k v j i (subst (λ (w : ℕ). i < p * (w / 16) * strengthWidth) (a .width) h)))
             (ap (λ (E : Ended). strengthByte i (E .mem)));
         stops = λ number k h o. by-count _ (λ g. stopped-first g number k h o) (λ g. subst (λ (E : Ended). Stopped E number k) g o);
         stops-too = λ number k h o. by-count _ (λ g. stopped-second g number k h o) (λ g. subst (λ (E : Ended). Stopped E number k) (sym g) o);

@@ -21,7 +21,7 @@ use Rattle.picture.specs.PictureLaws.{Shared, Live, step-at, column-below, part
 use Rattle.promises.specs.Refusals.{Fine}
 use Rattle.promises.specs.Reached.{Reached, start, after}
 use Rattle.promises.specs.ReachedLaws.{rest-of}
-use Rattle.promises.specs.Places.{Plane, luma, blue, red, planeOf, sideOf, sampleOf, modeByte, strengthByte}
+use Rattle.promises.specs.Places.{Plane, luma, blue, red, planeOf, planeSide, sampleOf, modeByte, strengthByte}
 
 -- ---- a picture and a state that can be run: what the checks say, and bytes that are bytes
 pub record Sound (P : Picture) (S₀ : State) : Type 0 where
@@ -56,7 +56,7 @@ module _ {P : Picture} {S₀ : State} (z : Sound P S₀) where
     half {p} {q} {a} {b} f k = subst (λ (i : ℕ). Kept i a b 8 p q) f k
 
     -- outside its square a plane stays
-    pub plane-kept : (a : Plane) → Kept (P .wide * sideOf a) (columnOf P k * sideOf a) (rowOf P k * sideOf a) (sideOf a) (planeOf a (S .mem)) (planeOf a (nextOf P k S x .mem))
+    pub plane-kept : (a : Plane) → Kept (P .wide * planeSide a) (columnOf P k * planeSide a) (rowOf P k * planeSide a) (planeSide a) (planeOf a (S .mem)) (planeOf a (nextOf P k S x .mem))
     plane-kept luma = elsewhere .y
     plane-kept blue = half {w = P .wide * 16 / 2} {n = P .wide * 8} (omega arith) (elsewhere .u)
     plane-kept red = half {w = P .wide * 16 / 2} {n = P .wide * 8} (omega arith) (elsewhere .v)
@@ -66,13 +66,13 @@ abbrev pub Keeps : Picture → (Memory → ℕ) → ℕ → Type 0
 Keeps P g k = (S : State) (x : Finished) → Live P S → stepAt P k S ≡ finished x → g (nextOf P k S x .mem) ≡ g (S .mem)
 
 module _ {P : Picture} {S₀ : State} (z : Sound P S₀) (k : ℕ) (h : k < P .wide * P .high) where
-  pub keeps-sample : (a : Plane) (c r : ℕ) → c < P .wide * sideOf a → Outside (columnOf P k * sideOf a) (rowOf P k * sideOf a) (sideOf a) c r → Keeps P (sampleOf (P .wide) a c r) k
+  pub keeps-sample : (a : Plane) (c r : ℕ) → c < P .wide * planeSide a → Outside (columnOf P k * planeSide a) (rowOf P k * planeSide a) (planeSide a) c r → Keeps P (sampleOf (P .wide) a c r) k
   keeps-sample a c r l o = λ S x i e. plane-kept z S k x i h e a .off c r l o
 
-  pub keeps-mode : (i : ℕ) → Off (k * 20) 20 i → Keeps P (modeByte i) k
+  pub keeps-mode : (i : ℕ) → Off (k * modeWidth) modeWidth i → Keeps P (modeByte i) k
   keeps-mode i o = λ S x l e. record-set-off modeWidth (S .mem .modes) k (modeRecord (kindsOf (x .modes)) (x .modes .modes)) i o
 
-  pub keeps-strength : (i : ℕ) → Off (k * 4) 4 i → Keeps P (strengthByte i) k
+  pub keeps-strength : (i : ℕ) → Off (k * strengthWidth) strengthWidth i → Keeps P (strengthByte i) k
   keeps-strength i o = λ S x l e. record-set-off strengthWidth (S .mem .strengths) k (strengthRecord (x .strength)) i o
 
 -- ---- all of a run

@@ -17,14 +17,14 @@ planeOf blue m = m .u
 planeOf red m = m .v
 
 -- a macroblock is 16 by 16 samples of luma, 8 by 8 of U and of V
-abbrev pub sideOf : Plane → ℕ
-sideOf luma = 16
-sideOf blue = 8
-sideOf red = 8
+abbrev pub planeSide : Plane → ℕ
+planeSide luma = 16
+planeSide blue = 8
+planeSide red = 8
 
 -- the sample at column c of row r of a plane, `wide` macroblocks to a row
 abbrev pub sampleOf : (wide : ℕ) → Plane → (c r : ℕ) → Memory → ℕ
-sampleOf wide a c r m = sampleAt (planeOf a m) (wide * sideOf a) c r
+sampleOf wide a c r m = sampleAt (planeOf a m) (wide * planeSide a) c r
 
 -- byte i of the mode records, twenty a macroblock; and of the strength records, four a macroblock
 abbrev pub modeByte : ℕ → Memory → ℕ
@@ -35,4 +35,4 @@ strengthByte i m = getD (m .strengths) i 0
 
 -- the macroblock, in raster order, that column c of row r of a plane lies in
 abbrev pub blockAt : (wide : ℕ) → Plane → (c r : ℕ) → ℕ
-blockAt wide a c r = r / sideOf a * wide + c / sideOf a
+blockAt wide a c r = r / planeSide a * wide + c / planeSide a

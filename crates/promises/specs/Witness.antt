@@ -27,8 +27,8 @@ use Rattle.promises.specs.IsolationLaws.{isolated}
 abbrev pub shared : List ℕ
 shared = replicate 64 0
 
-abbrev pub bytesOf : ℕ → List ℕ
-bytesOf x = shared ++ replicate 32 x
+abbrev pub witnessBytes : ℕ → List ℕ
+witnessBytes x = shared ++ replicate 32 x
 
 -- a header of zeros
 abbrev pub header : List ℤ
@@ -37,8 +37,8 @@ header = replicate 1096 (pos 0)
 abbrev pub spans : List Span
 spans = record { start = 32; len = 32 } ∷ record { start = 64; len = 32 } ∷ []
 
-abbrev pub tileOf : ℕ → Call
-tileOf x = callOf (bytesOf x)
+abbrev pub witnessTile : ℕ → Call
+witnessTile x = callOf (witnessBytes x)
     (record { first = record { start = 0; len = 32 }; tokens = spans; reader = firstReader (replicate 32 0); count = 2; width = 16; height = 32 })
     header
 
@@ -47,13 +47,13 @@ abbrev pub heldOf : ℕ → Memory
 heldOf x = memoryOf (replicate 512 x) (replicate 128 x) (replicate 128 x) (replicate 13 x) (replicate 40 x) (replicate 8 x)
 
 -- what all of them share
-front : (x i : ℕ) → i < 64 → getD (bytesOf x) i 0 ≡ 0
+front : (x i : ℕ) → i < 64 → getD (witnessBytes x) i 0 ≡ 0
 front x i h = List·getD-append shared (replicate 32 x) 0 i (rw (length-replicate {A = ℕ} 64 0) h) ∙ getD-constant 64 i 0
 
-long : (x : ℕ) → length (bytesOf x) ≡ 96
+long : (x : ℕ) → length (witnessBytes x) ≡ 96
 long x = length-append shared (replicate 32 x) ∙ ap (λ (n : ℕ). n + length (replicate 32 x)) (length-replicate {A = ℕ} 64 0) ∙ ap (λ (n : ℕ). 64 + n) (length-replicate {A = ℕ} 32 x)
 
-bytes-fine : (x : ℕ) → x < 256 → Bytes (bytesOf x)
+bytes-fine : (x : ℕ) → x < 256 → Bytes (witnessBytes x)
 bytes-fine x h i = ⊎-elim
     (λ l. rw (front x i l) (omega arith))
     (λ l. let e : i ≡ length shared + (i - 64) = omega (arith, length-replicate {A = ℕ} 64 0) in rw (e, getD-append-add shared (replicate 32 x) (i - 64) 0) (later (i - 64)))
@@ -68,9 +68,9 @@ bytes-fine x h i = ⊎-elim
 bounded : Bounded header
 bounded = record { at = λ i. rw (getD-constant 1096 i (pos 0)) (record { low = of-le (omega arith); high = of-le (omega arith) }) }
 
-fine : (x y : ℕ) → Fine (tileOf x) (heldOf y)
+fine : (x y : ℕ) → Fine (witnessTile x) (heldOf y)
 unfolding spanAt
-fine x y = good-arguments (tileOf x) (heldOf y) sides counted bounded sized cut
+fine x y = good-arguments (witnessTile x) (heldOf y) sides counted bounded sized cut
   where
     sides : Sides 16 32
     sides = record { width = record { least = omega arith; most = omega arith; whole = refl }; height = record { least = omega arith; most = omega arith; whole = refl } }
@@ -78,7 +78,7 @@ fine x y = good-arguments (tileOf x) (heldOf y) sides counted bounded sized cut
     counted : Counted 2
     counted = record { least = omega arith; most = omega arith }
 
-    sized : Lengths (tileOf x) (sizesOf (heldOf y))
+    sized : Lengths (witnessTile x) (sizesOf (heldOf y))
     sized = record {
       sizes = record {
         y = length-replicate 512 y;
@@ -91,18 +91,18 @@ fine x y = good-arguments (tileOf x) (heldOf y) sides counted bounded sized cut
       header = length-replicate 1096 (pos 0);
     }
 
-    inside : (i : ℕ) → i < 2 → Inside (length (bytesOf x)) (spanAt (tileOf x .tile) i)
+    inside : (i : ℕ) → i < 2 → Inside (length (witnessBytes x)) (spanAt (witnessTile x .tile) i)
     inside zero h = record { fits = rw (long x) (omega arith) }
     inside (suc zero) h = record { fits = rw (long x) (omega arith) }
     inside (suc (suc i)) h = absurd (omega arith)
 
-    cut : Cut (tileOf x .bytes) (tileOf x .tile)
+    cut : Cut (witnessTile x .bytes) (witnessTile x .tile)
     cut = record {
       first = record { fits = rw (long x) (omega arith) };
       tokens = inside;
       reader = record {
         placed = omega arith;
-        inside = rw (part-length (bytesOf x) (record { start = 0; len = 32 }) (record { fits = rw (long x) (omega arith) })) (omega arith);
+        inside = rw (part-length (witnessBytes x) (record { start = 0; len = 32 }) (record { fits = rw (long x) (omega arith) })) (omega arith);
         least = omega arith;
         most = omega arith;
         few = omega arith;
@@ -111,7 +111,7 @@ fine x y = good-arguments (tileOf x) (heldOf y) sides counted bounded sized cut
       };
     }
 
-two-tiles : (x y : ℕ) → Alike 1 (tileOf x) (tileOf y)
+two-tiles : (x y : ℕ) → Alike 1 (witnessTile x) (witnessTile y)
 unfolding spanAt
 two-tiles x y = record {
   width = refl;
@@ -125,11 +125,11 @@ two-tiles x y = record {
   tokens = tokens;
 }
   where
-    tokens : (q : ℕ) → q < 2 → (q ≡ 1 → ⊥) → SameTokens (tileOf x) (tileOf y) q
+    tokens : (q : ℕ) → q < 2 → (q ≡ 1 → ⊥) → SameTokens (witnessTile x) (witnessTile y) q
     tokens zero h n = λ i l. front x (32 + i) (omega arith) ∙ sym (front y (32 + i) (omega arith))
     tokens (suc zero) h n = absurd (n refl)
     tokens (suc (suc q)) h n = absurd (omega arith)
 
 -- THE PROMISE at work: partition 1 all zeros in the one and all 255 in the other, memory that held 7 and memory that held 9
-pub first-row : Isolated 1 (tileOf 0) (tileOf 255) (heldOf 7) (heldOf 9)
-first-row = isolated 1 (tileOf 0) (tileOf 255) (heldOf 7) (heldOf 9) (two-tiles 0 255) (fine 0 7) (fine 255 9) (bytes-fine 0 (omega arith)) (bytes-fine 255 (omega arith))
+pub first-row : Isolated 1 (witnessTile 0) (witnessTile 255) (heldOf 7) (heldOf 9)
+first-row = isolated 1 (witnessTile 0) (witnessTile 255) (heldOf 7) (heldOf 9) (two-tiles 0 255) (fine 0 7) (fine 255 9) (bytes-fine 0 (omega arith)) (bytes-fine 255 (omega arith))

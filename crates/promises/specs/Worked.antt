@@ -7,9 +7,9 @@ use lib.ListN.{replicate}
 use lib.IntN.{ℤ, pos, negsuc}
 use Rattle.numbers.specs.Clamp.{clampZ, upTo}
 use Rattle.numbers.specs.Lists.{build}
-use Rattle.numbers.specs.Wrap.{wrapZ, turns}
-use Rattle.coefficients.specs.Tokens.{signOf}
-use Rattle.transform.specs.Transform.{gridOf, transposeOf, columnOf, scaledOf, passOf, rowsOf, verticalOf, horizontalOf, resultsOf, samplesOf}
+use Rattle.numbers.specs.Wrap.{wrapZ, wrapTurns}
+use Rattle.coefficients.specs.Block.{signOf}
+use Rattle.transform.specs.Transform.{gridOf, transposeOf, gridColumn, scaledOf, passOf, rowsOf, verticalPass, horizontalPass, resultsOf, samplesOf}
 use Rattle.filter.specs.Kernel.{filterOf, movedOf, stepsOf, noSteps, commonSteps, macroblockSteps, innerSteps, sides, part, half, eighth, tapped, across, ruleOf, highVariance, roughAt, smooth, firstFalse, withinLimit}
 
 -- a row: what is computed, and what it must be
@@ -58,7 +58,7 @@ table =
     ∷ record { gives = samplesOf true (dc (negsuc 3)); must = all (negsuc 0) }
     -- coefficient 4 alone is -1: column 0 after the first pass
     ∷ record {
-      gives = columnOf (verticalOf false (gridOf (pos 0 ∷ pos 0 ∷ pos 0 ∷ pos 0 ∷ negsuc 0 ∷ replicate 11 (pos 0)))) 0;
+      gives = gridColumn (verticalPass false (gridOf (pos 0 ∷ pos 0 ∷ pos 0 ∷ pos 0 ∷ negsuc 0 ∷ replicate 11 (pos 0)))) 0;
       must = negsuc 1 ∷ negsuc 0 ∷ pos 1 ∷ pos 2 ∷ [];
     }
     -- products in 16 bits: 2047 * 16, 2048 * 16 of either sign, 2048 * 32, 2114 * 157
@@ -78,5 +78,5 @@ table =
     ∷ []
 
 pub worked : given table ≡ wanted table
-unfolding clampZ upTo build wrapZ gridOf transposeOf scaledOf passOf rowsOf verticalOf horizontalOf resultsOf samplesOf filterOf movedOf stepsOf noSteps commonSteps macroblockSteps innerSteps sides part half eighth tapped across ruleOf highVariance roughAt smooth firstFalse withinLimit
+unfolding clampZ upTo build wrapZ gridOf transposeOf scaledOf passOf rowsOf verticalPass horizontalPass resultsOf samplesOf filterOf movedOf stepsOf noSteps commonSteps macroblockSteps innerSteps sides part half eighth tapped across ruleOf highVariance roughAt smooth firstFalse withinLimit
 worked = refl

@@ -5,6 +5,7 @@ use mathlib.Core.List.{List}
 use mathlib.Core.Bool.{Bool, true, false, _&&_}
 use lib.ListN.{length, getD}
 use lib.Dec.{ltb, leb, eqb}
+pub use Rattle.numbers.specs.Lists.{Bytes}
 use Rattle.reader.specs.declared.boolean.Reader.{Reader}
 use Rattle.reader.specs.declared.boolean.Symbol.{Symbol}
 use Rattle.reader.specs.declared.boolean.Symbol.the-variants as S
@@ -20,9 +21,9 @@ unfoldable pub splitOf : ℕ → ℕ → ℕ
 splitOf range prob = 1 + (range - 1) * prob / 256
 
 -- a one takes the range less the split, and 256 * split off the window; a zero takes the split, and leaves the window
-abbrev pub partOf : Reader → ℕ → Bool → Reader
-partOf r split true = record { at = r .at; range = r .range - split; shifts = r .shifts; window = r .window - 256 * split }
-partOf r split false = record { at = r .at; range = split; shifts = r .shifts; window = r .window }
+abbrev pub chosenOf : Reader → ℕ → Bool → Reader
+chosenOf r split true = record { at = r .at; range = r .range - split; shifts = r .shifts; window = r .window - 256 * split }
+chosenOf r split false = record { at = r .at; range = split; shifts = r .shifts; window = r .window }
 
 -- a shift: range and window double, the window keeping its low sixteen bits
 abbrev pub shifted : Reader → Reader
@@ -54,8 +55,8 @@ symbolOf s r prob =
     elim (decidedOf s r) [
       | false ↦ missing
       | true ↦ elim (leb (256 * splitOf (r .range) prob) (r .window)) [
-        | true ↦ given true (grow 7 s (partOf r (splitOf (r .range) prob) true))
-        | false ↦ given false (grow 7 s (partOf r (splitOf (r .range) prob) false))
+        | true ↦ given true (grow 7 s (chosenOf r (splitOf (r .range) prob) true))
+        | false ↦ given false (grow 7 s (chosenOf r (splitOf (r .range) prob) false))
       ]
     ]
 
@@ -98,10 +99,6 @@ symbolValuesOf S.Missing = (false, noReader)
 symbolValuesOf S.Refused = (false, noReader)
 
 -- ---- as facts
--- every element is a byte
-abbrev pub Bytes : List ℕ → Type 0
-Bytes s = (i : ℕ) → getD s i 0 < 256
-
 -- a reader over s from a range of at least `low`: after the split 1, between symbols 128
 pub record From (low : ℕ) (s : List ℕ) (r : Reader) : Type 0 where
   pub placed : 2 ≤ r .at

@@ -14,8 +14,9 @@ use Rattle.numbers.specs.Tests.{lt-or, eq-or, not-so, both-left, both-right}
 use Rattle.reader.specs.declared.boolean.Reader.{Reader}
 use Rattle.reader.specs.declared.boolean.Symbol.{Symbol}
 use Rattle.reader.specs.declared.boolean.Symbol.the-variants as S
-pub use Rattle.reader.specs.Boolean.{Bytes, From, Valid}
-use Rattle.reader.specs.Boolean.{Given, given, missing, splitOf, partOf, shifted, loaded, grow, decidedOf, symbolOf, firstReader, validOf, toSymbol, symbolAnswer}
+pub use Rattle.numbers.specs.Lists.{Bytes}
+pub use Rattle.reader.specs.Boolean.{From, Valid}
+use Rattle.reader.specs.Boolean.{Given, given, missing, splitOf, chosenOf, shifted, loaded, grow, decidedOf, symbolOf, firstReader, validOf, toSymbol, symbolAnswer}
 
 -- what a partition gives from a place on: a reader in range, no earlier
 abbrev pub Next : {A : Type 0} → List ℕ → ℕ → Given A → Type 0
@@ -60,9 +61,9 @@ split-is range prob h p =
 
 -- ---- whether a symbol is decided
 -- one where shifts have begun a byte
-abbrev pub begunOf : ℕ → ℕ
-begunOf zero = 0
-begunOf (suc n) = 1
+abbrev pub bitsBegun : ℕ → ℕ
+bitsBegun zero = 0
+bitsBegun (suc n) = 1
 
 same-test : (a b c d : ℕ) → (a ≤ b → c ≤ d) → (b < a → d < c) → leb a b ≡ leb c d
 same-test a b c d f g =
@@ -71,7 +72,7 @@ same-test a b c d f g =
     (λ (h : a ≤ b). rw (le-leb a b h, le-leb c d (f h)))
     (lt-or b a)
 
-begun-test : (a n l : ℕ) → 2 ≤ a → n < 8 → leb (8 * (a - 2) + n + 8) (8 * l) ≡ leb (a + begunOf n) (l + 1)
+begun-test : (a n l : ℕ) → 2 ≤ a → n < 8 → leb (8 * (a - 2) + n + 8) (8 * l) ≡ leb (a + bitsBegun n) (l + 1)
 begun-test a zero l p f = same-test (8 * (a - 2) + 0 + 8) (8 * l) (a + 0) (l + 1) (λ h. omega arith) (λ h. omega arith)
 begun-test a (suc n) l p f = same-test (8 * (a - 2) + suc n + 8) (8 * l) (a + 1) (l + 1) (λ h. omega arith) (λ h. omega arith)
 
@@ -95,7 +96,7 @@ module _ (s : List ℕ) (r : Reader) where
         (eq-or (r .at - length s + r .shifts) 1)
 
     -- in one test: the bytes that were loaded, and one more where shifts have begun it, are at most one past the end
-    pub decided-test : decidedOf s r ≡ leb (r .at + begunOf (r .shifts)) (length s + 1)
+    pub decided-test : decidedOf s r ≡ leb (r .at + bitsBegun (r .shifts)) (length s + 1)
     unfolding decidedOf
     decided-test = begun-test (r .at) (r .shifts) (length s) p f
 
@@ -104,7 +105,7 @@ pub symbol-missing : (s : List ℕ) (r : Reader) (p : ℕ) → decidedOf s r ≡
 unfolding symbolOf
 symbol-missing s r p e = rw (e, symbolOf)
 
-pub symbol-is : (s : List ℕ) (r : Reader) (p x : ℕ) → decidedOf s r ≡ true → x ≡ splitOf (r .range) p → (b : Bool) → b ≡ leb (256 * x) (r .window) → symbolOf s r p ≡ given b (grow 7 s (partOf r x b))
+pub symbol-is : (s : List ℕ) (r : Reader) (p x : ℕ) → decidedOf s r ≡ true → x ≡ splitOf (r .range) p → (b : Bool) → b ≡ leb (256 * x) (r .window) → symbolOf s r p ≡ given b (grow 7 s (chosenOf r x b))
 unfolding symbolOf
 symbol-is s r p x d e true f = rw (d, e, sym (rw e at f), symbolOf)
 symbol-is s r p x d e false f = rw (d, e, sym (rw e at f), symbolOf)
@@ -150,17 +151,17 @@ grow-valid (suc n) s r y h d f =
     (lt-or (r .range) 128)
 
 -- the reader after the split, for either bit
-pub from-part : (s : List ℕ) (r : Reader) (x : ℕ) → Valid s r → 1 ≤ x → x < r .range → (b : Bool) → b ≡ leb (256 * x) (r .window) → From 1 s (partOf r x b)
+pub from-part : (s : List ℕ) (r : Reader) (x : ℕ) → Valid s r → 1 ≤ x → x < r .range → (b : Bool) → b ≡ leb (256 * x) (r .window) → From 1 s (chosenOf r x b)
 from-part s r x f m l true e =
     let g : 256 * x ≤ r .window = leb-true _ _ (sym e) in
     record { placed = f .placed; inside = f .inside; least = omega arith; most = omega arith; few = f .few; small = omega arith; even = even-sub (r .window) x (r .shifts) (f .few) g (f .even) }
 from-part s r x f m l false e = record { placed = f .placed; inside = f .inside; least = m; most = omega arith; few = f .few; small = f .small; even = f .even }
 
-part-place : (r : Reader) (x : ℕ) (b : Bool) → partOf r x b .at ≡ r .at
+part-place : (r : Reader) (x : ℕ) (b : Bool) → chosenOf r x b .at ≡ r .at
 part-place r x true = refl
 part-place r x false = refl
 
-part-shifts : (r : Reader) (x : ℕ) (b : Bool) → partOf r x b .shifts ≡ r .shifts
+part-shifts : (r : Reader) (x : ℕ) (b : Bool) → chosenOf r x b .shifts ≡ r .shifts
 part-shifts r x true = refl
 part-shifts r x false = refl
 
@@ -179,7 +180,7 @@ symbol-valid s r p y h f = go (decidedOf s r) refl
         let b : Bool = leb (256 * x) (r .window) in
         let g = from-part s r x f (i .1) (i .2) b refl in
         rw (symbol-is s r p x d refl b refl)
-        (rw (part-place r x b) at (grow-valid 7 s (partOf r x b) y (enough (g .least)) (omega (arith, decided-fact s r d, part-place r x b, part-shifts r x b, f .placed)) g))
+        (rw (part-place r x b) at (grow-valid 7 s (chosenOf r x b) y (enough (g .least)) (omega (arith, decided-fact s r d, part-place r x b, part-shifts r x b, f .placed)) g))
 
 -- THE LAW for callers of `open`: a partition's first reader is in range, however few its bytes
 pub first-valid : (s : List ℕ) → Bytes s → Valid s (firstReader s)

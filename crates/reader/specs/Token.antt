@@ -30,12 +30,12 @@ tokenTree =
     ∷ []
 
 -- a block never ends after a zero: there the walk starts at node 1
-abbrev pub startOf : Bool → ℕ
-startOf true = 1
-startOf false = 0
+abbrev pub tokenStart : Bool → ℕ
+tokenStart true = 1
+tokenStart false = 0
 
 abbrev pub token : List ℕ → Bool → Reading ℕ
-token ps z = walk 32 ps tokenTree (startOf z)
+token ps z = walk 32 ps tokenTree (tokenStart z)
 
 -- its eleven probabilities, from `at` on in a table
 unfoldable pub elevenAt : List ℕ → ℕ → List ℕ

@@ -14,9 +14,9 @@ use Rattle.reader.specs.Boolean.{Given, given, missing, symbolOf, toSymb
 use Rattle.reader.specs.BooleanLaws.{Bytes, Valid, valid-test}
 use Rattle.reader.specs.Reading.{symbol, run, Within}
 use Rattle.reader.specs.ReadingLaws.{answered, fromSymbol, run-valid, within-symbol}
-use Rattle.reader.specs.Token.{tokenTree, startOf, token, elevenAt, toToken, tokenOf, tokenAnswer}
+use Rattle.reader.specs.Token.{tokenTree, tokenStart, token, elevenAt, toToken, tokenOf, tokenAnswer}
 use Rattle.reader.specs.Trees.{walk, branchAt, treeOf}
-use Rattle.reader.specs.TreesLaws.{chain-missing, chain-leaf, chain-node, reachOf, tree-fixed, walk-below, walk-limit}
+use Rattle.reader.specs.TreesLaws.{chain-missing, chain-leaf, chain-node, leavesReached, tree-fixed, walk-below, walk-limit}
 use Rattle.reader.specs.declared.boolean.Reader.{Reader}
 use Rattle.reader.specs.declared.boolean.Symbol.{Symbol}
 use Rattle.reader.specs.declared.boolean.Symbol.the-variants as S
@@ -85,12 +85,12 @@ token-first s table at r = refl
 
 -- ---- what the grammar gives, and how much it asks
 -- seven symbols at most, and a token 0..11
-token-reach : (z : Bool) → reachOf 7 (λ t. ltb t 12) tokenTree (startOf z) ≡ true
+token-reach : (z : Bool) → leavesReached 7 (λ t. ltb t 12) tokenTree (tokenStart z) ≡ true
 token-reach true = refl
 token-reach false = refl
 
 pub token-within : (ps : List ℕ) (z : Bool) → Bytes ps → Within (λ t. t < 12) 7 (token ps z)
-token-within ps z y = walk-below 7 32 12 ps tokenTree (startOf z) (lit≤ tt) y (token-reach z)
+token-within ps z y = walk-below 7 32 12 ps tokenTree (tokenStart z) (lit≤ tt) y (token-reach z)
 
 eleven-bytes : (table : List ℕ) (at : ℕ) → Bytes table → Bytes (elevenAt table at)
 unfolding elevenAt

@@ -66,16 +66,16 @@ leadsOf n k (B.Leaf v) = true
 leadsOf n k (B.Node j) = ltb (k / 2) j && ltb j n
 
 -- the first k entries do
-unfoldable pub entriesOf : ℕ → List ℤ → ℕ → Bool
-entriesOf n t zero = true
-entriesOf n t (suc k) = entriesOf n t k && leadsOf n k (branchOf (getD t k (pos 0)))
+unfoldable pub treeEntries : ℕ → List ℤ → ℕ → Bool
+treeEntries n t zero = true
+treeEntries n t (suc k) = treeEntries n t k && leadsOf n k (branchOf (getD t k (pos 0)))
 
 -- a tree: two entries a node, fewer than 32 nodes, a probability for each, the start among them, every positive entry a later one
 unfoldable pub treeOf : List ℕ → List ℤ → ℕ → Bool
 treeOf ps t start =
     ltb (nodesOf t) 32
     && (eqb (length t) (nodesOf t + nodesOf t)
-    && (leb (nodesOf t) (length ps) && (ltb start (nodesOf t) && entriesOf (nodesOf t) t (nodesOf t + nodesOf t))))
+    && (leb (nodesOf t) (length ps) && (ltb start (nodesOf t) && treeEntries (nodesOf t) t (nodesOf t + nodesOf t))))
 
 -- ---- the calls' answers
 abbrev pub toStep : Given Branch → Step
@@ -87,8 +87,8 @@ abbrev pub toWalked : Given ℕ → Walked
 toWalked (given v r) = W.Leaf v r
 toWalked missing = W.Missing
 
-unfoldable pub stepOf : List ℕ → List ℕ → List ℤ → ℕ → Reader → Step
-stepOf s ps t i r = toStep (run (step ps t i) s r)
+unfoldable pub treeStepOf : List ℕ → List ℕ → List ℤ → ℕ → Reader → Step
+treeStepOf s ps t i r = toStep (run (step ps t i) s r)
 
 unfoldable pub walkOf : ℕ → List ℕ → List ℕ → List ℤ → ℕ → Reader → Walked
 walkOf n s ps t i r = toWalked (run (walk n ps t i) s r)

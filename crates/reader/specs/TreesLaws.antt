@@ -24,7 +24,7 @@ use Rattle.reader.specs.Boolean.{Given, given, missing, validOf}
 use Rattle.reader.specs.BooleanLaws.{Bytes, Valid, valid-test}
 use Rattle.reader.specs.Reading.{Reading, done, ask, _>>=_, symbol, run, Within, ends, asks}
 use Rattle.reader.specs.ReadingLaws.{run-done, run-then, run-stops, within-weaken}
-use Rattle.reader.specs.Trees.{branchOf, atOf, branchAt, nodesOf, step, follow, walk, leadsOf, entriesOf, treeOf, toStep, toWalked, stepOf, walkOf, walkAnswer, Leads, Tree}
+use Rattle.reader.specs.Trees.{branchOf, atOf, branchAt, nodesOf, step, follow, walk, leadsOf, treeEntries, treeOf, toStep, toWalked, treeStepOf, walkOf, walkAnswer, Leads, Tree}
 
 -- ---- a walk of a known tree, one node at a time: an `if` chain over `symbol` equals the walk by these three. In a constant
 -- tree the equation of a branch is `refl`.
@@ -63,17 +63,17 @@ from-to (given (B.Node j) r) = refl
 from-to missing = refl
 
 module _ (s ps : List ℕ) (t : List ℤ) (i : ℕ) (r : Reader) where
-  pub down-missing : run (symbol (getD ps i 0)) s r ≡ missing → S.Missing ≡ stepOf s ps t i r
-  unfolding stepOf
+  pub down-missing : run (symbol (getD ps i 0)) s r ≡ missing → S.Missing ≡ treeStepOf s ps t i r
+  unfolding treeStepOf
   down-missing e = sym (ap toStep (step-missing s ps t i r e))
 
-  pub down-got : {b : Bool} {q : Reader} → run (symbol (getD ps i 0)) s r ≡ given b q → {k : ℕ} → k ≡ atOf i b → {x : Branch} → x ≡ branchOf (getD t k (pos 0)) → toStep (given x q) ≡ stepOf s ps t i r
-  unfolding stepOf
+  pub down-got : {b : Bool} {q : Reader} → run (symbol (getD ps i 0)) s r ≡ given b q → {k : ℕ} → k ≡ atOf i b → {x : Branch} → x ≡ branchOf (getD t k (pos 0)) → toStep (given x q) ≡ treeStepOf s ps t i r
+  unfolding treeStepOf
   down-got {b} {q} e {k} h {x} g = let f : x ≡ branchAt t i b = rw h at g in rw f (sym (ap toStep (step-got s ps t i r e)))
 
   -- what the code's step says of the grammar
-  pub stepped : {x : Step} → x ≡ stepOf s ps t i r → run (step ps t i) s r ≡ fromStep x
-  unfolding stepOf
+  pub stepped : {x : Step} → x ≡ treeStepOf s ps t i r → run (step ps t i) s r ≡ fromStep x
+  unfolding treeStepOf
   stepped e = from-to (run (step ps t i) s r) ∙ ap fromStep (sym e)
 
 pub step-within : (ps : List ℕ) (t : List ℤ) (i : ℕ) → Tree ps t → Bytes ps → i < nodesOf t → Within (Leads (nodesOf t) i) 1 (step ps t i)
@@ -103,37 +103,37 @@ module _ (s ps : List ℕ) (t : List ℤ) where
       from (given w p) f = cc
       from missing f = absurd (let z : _≡_ {A = ℕ} 0 1 = cc in omega arith)
 
-  pub walk-leaf : (n i : ℕ) (r : Reader) {v : ℕ} {q : Reader} → 1 ≤ n → S.Leaf v q ≡ stepOf s ps t i r → W.Leaf v q ≡ walkOf n s ps t i r
+  pub walk-leaf : (n i : ℕ) (r : Reader) {v : ℕ} {q : Reader} → 1 ≤ n → S.Leaf v q ≡ treeStepOf s ps t i r → W.Leaf v q ≡ walkOf n s ps t i r
   unfolding walkOf walk
   walk-leaf zero i r h e = absurd (omega arith)
   walk-leaf (suc n) i r {v} {q} h e = sym (ap toWalked (run-then (follow (walk n ps t)) s (step ps t i) r (stepped s ps t i r e) ∙ run-done v s q))
 
-  pub walk-missing : (n i : ℕ) (r : Reader) → 1 ≤ n → S.Missing ≡ stepOf s ps t i r → W.Missing ≡ walkOf n s ps t i r
+  pub walk-missing : (n i : ℕ) (r : Reader) → 1 ≤ n → S.Missing ≡ treeStepOf s ps t i r → W.Missing ≡ walkOf n s ps t i r
   unfolding walkOf walk
   walk-missing zero i r h e = absurd (omega arith)
   walk-missing (suc n) i r h e = sym (ap toWalked (run-stops (follow (walk n ps t)) s (step ps t i) r (stepped s ps t i r e)))
 
-  pub walk-node : (n i : ℕ) (r : Reader) {j : ℕ} {q : Reader} → 1 ≤ n → S.Node j q ≡ stepOf s ps t i r → walkOf (n - 1) s ps t j q ≡ walkOf n s ps t i r
+  pub walk-node : (n i : ℕ) (r : Reader) {j : ℕ} {q : Reader} → 1 ≤ n → S.Node j q ≡ treeStepOf s ps t i r → walkOf (n - 1) s ps t j q ≡ walkOf n s ps t i r
   unfolding walkOf walk
   walk-node zero i r h e = absurd (omega arith)
   walk-node (suc n) i r {j} {q} h e = rw (sub-one (suc n)) (sym (ap toWalked (run-then (follow (walk n ps t)) s (step ps t i) r (stepped s ps t i r e))))
 
 -- ---- the test of a tree
-pub entries-none : (n : ℕ) (t : List ℤ) → entriesOf n t 0 ≡ true
-unfolding entriesOf
+pub entries-none : (n : ℕ) (t : List ℤ) → treeEntries n t 0 ≡ true
+unfolding treeEntries
 entries-none n t = refl
 
-pub entries-next : (n : ℕ) (t : List ℤ) (k : ℕ) → entriesOf n t k ≡ true → leadsOf n k (branchOf (getD t k (pos 0))) ≡ true → entriesOf n t (k + 1) ≡ true
-unfolding entriesOf
+pub entries-next : (n : ℕ) (t : List ℤ) (k : ℕ) → treeEntries n t k ≡ true → leadsOf n k (branchOf (getD t k (pos 0))) ≡ true → treeEntries n t (k + 1) ≡ true
+unfolding treeEntries
 entries-next n t k e f = rw add-one (both-true e f)
 
-entries-at : (n : ℕ) (t : List ℤ) (m k : ℕ) → entriesOf n t m ≡ true → k < m → leadsOf n k (branchOf (getD t k (pos 0))) ≡ true
-unfolding entriesOf
+entries-at : (n : ℕ) (t : List ℤ) (m k : ℕ) → treeEntries n t m ≡ true → k < m → leadsOf n k (branchOf (getD t k (pos 0))) ≡ true
+unfolding treeEntries
 entries-at n t zero k e h = absurd (omega arith)
 entries-at n t (suc m) k e h =
     ⊎-elim
     (λ l. entries-at n t m k (both-left _ _ e) l)
-    (λ l. let g : k ≡ m = omega arith in rw g (both-right (entriesOf n t m) _ e))
+    (λ l. let g : k ≡ m = omega arith in rw g (both-right (treeEntries n t m) _ e))
     (lt-or k m)
 
 leads-fact : (n k i : ℕ) (x : Branch) → k / 2 ≡ i → leadsOf n k x ≡ true → Leads n i x
@@ -151,7 +151,7 @@ module _ (ps : List ℕ) (t : List ℤ) (start : ℕ) where
     size : length t ≡ nodesOf t + nodesOf t
     probs : nodesOf t ≤ length ps
     inside : start < nodesOf t
-    entries : entriesOf (nodesOf t) t (nodesOf t + nodesOf t) ≡ true
+    entries : treeEntries (nodesOf t) t (nodesOf t + nodesOf t) ≡ true
 
   parts : treeOf ps t start ≡ true → Parts
   unfolding treeOf
@@ -186,10 +186,10 @@ module _ (ps : List ℕ) (t : List ℤ) (start : ℕ) where
   pub tree-entry : (k : ℕ) → k < nodesOf t + nodesOf t → leadsOf (nodesOf t) k (branchOf (getD t k (pos 0))) ≡ false → treeOf ps t start ≡ true → ⊥
   tree-entry k h f e = never (entries-at (nodesOf t) t (nodesOf t + nodesOf t) k (parts e .entries) h) f
 
-  pub tree-all : (k : ℕ) → nodesOf t < 32 → length t ≡ nodesOf t + nodesOf t → nodesOf t ≤ length ps → start < nodesOf t → k ≡ nodesOf t + nodesOf t → entriesOf (nodesOf t) t k ≡ true → true ≡ treeOf ps t start
+  pub tree-all : (k : ℕ) → nodesOf t < 32 → length t ≡ nodesOf t + nodesOf t → nodesOf t ≤ length ps → start < nodesOf t → k ≡ nodesOf t + nodesOf t → treeEntries (nodesOf t) t k ≡ true → true ≡ treeOf ps t start
   unfolding treeOf
   tree-all k a b c d e f =
-      let g : entriesOf (nodesOf t) t (nodesOf t + nodesOf t) ≡ true = rw e at f in
+      let g : treeEntries (nodesOf t) t (nodesOf t + nodesOf t) ≡ true = rw e at f in
       sym (both-true (lt-ltb _ _ a) (both-true (eq-eqb _ _ b) (both-true (le-leb _ _ c) (both-true (lt-ltb _ _ d) g))))
 
 -- ---- the public call
@@ -230,8 +230,8 @@ fixedOf t start =
     ltb (nodesOf t) 32
     && (eqb (length t) (nodesOf t + nodesOf t) && (ltb start (nodesOf t) && allAt (λ k e. leadsOf (nodesOf t) k (branchOf e)) 0 t))
 
-entries-all : (n : ℕ) (t : List ℤ) (m : ℕ) → ((k : ℕ) → k < m → leadsOf n k (branchOf (getD t k (pos 0))) ≡ true) → entriesOf n t m ≡ true
-unfolding entriesOf
+entries-all : (n : ℕ) (t : List ℤ) (m : ℕ) → ((k : ℕ) → k < m → leadsOf n k (branchOf (getD t k (pos 0))) ≡ true) → treeEntries n t m ≡ true
+unfolding treeEntries
 entries-all n t zero h = refl
 entries-all n t (suc m) h = both-true (entries-all n t m (λ k l. h k (omega arith))) (h m (omega arith))
 
@@ -251,27 +251,27 @@ abbrev pub passes : (ℕ → Bool) → (ℕ → Bool) → Branch → Bool
 passes q on (B.Leaf v) = q v
 passes q on (B.Node j) = on j
 
-abbrev pub reachOf : ℕ → (ℕ → Bool) → List ℤ → ℕ → Bool
-reachOf zero q t i = false
-reachOf (suc d) q t i = passes q (reachOf d q t) (branchAt t i true) && passes q (reachOf d q t) (branchAt t i false)
+abbrev pub leavesReached : ℕ → (ℕ → Bool) → List ℤ → ℕ → Bool
+leavesReached zero q t i = false
+leavesReached (suc d) q t i = passes q (leavesReached d q t) (branchAt t i true) && passes q (leavesReached d q t) (branchAt t i false)
 
-pub reach-within : (d n : ℕ) (q : ℕ → Bool) (ps : List ℕ) (t : List ℤ) (i : ℕ) → d ≤ n → Bytes ps → reachOf d q t i ≡ true → Within (λ v. q v ≡ true) d (walk n ps t i)
+pub reach-within : (d n : ℕ) (q : ℕ → Bool) (ps : List ℕ) (t : List ℤ) (i : ℕ) → d ≤ n → Bytes ps → leavesReached d q t i ≡ true → Within (λ v. q v ≡ true) d (walk n ps t i)
 unfolding walk step
 reach-within zero n q ps t i l y e = absurd (never e refl)
 reach-within (suc d) zero q ps t i l y e = absurd (omega arith)
 reach-within (suc d) (suc n) q ps t i l y e =
     asks (y i) (λ b. go (λ j. reach-within d n q ps t j (omega arith) y) (branchAt t i b) (pass b))
   where
-    pass : (b : Bool) → passes q (reachOf d q t) (branchAt t i b) ≡ true
+    pass : (b : Bool) → passes q (leavesReached d q t) (branchAt t i b) ≡ true
     pass true = both-left _ _ e
-    pass false = both-right (passes q (reachOf d q t) (branchAt t i true)) _ e
+    pass false = both-right (passes q (leavesReached d q t) (branchAt t i true)) _ e
 
-    go : ((j : ℕ) → reachOf d q t j ≡ true → Within (λ v. q v ≡ true) d (walk n ps t j)) → (x : Branch) → passes q (reachOf d q t) x ≡ true → Within (λ v. q v ≡ true) d (follow (walk n ps t) x)
+    go : ((j : ℕ) → leavesReached d q t j ≡ true → Within (λ v. q v ≡ true) d (walk n ps t j)) → (x : Branch) → passes q (leavesReached d q t) x ≡ true → Within (λ v. q v ≡ true) d (follow (walk n ps t) x)
     go ih (B.Leaf v) f = ends f
     go ih (B.Node j) f = ih j f
 
 -- where the test is a comparison
-pub walk-below : (d n m : ℕ) (ps : List ℕ) (t : List ℤ) (i : ℕ) → d ≤ n → Bytes ps → reachOf d (λ v. ltb v m) t i ≡ true → Within (λ v. v < m) d (walk n ps t i)
+pub walk-below : (d n m : ℕ) (ps : List ℕ) (t : List ℤ) (i : ℕ) → d ≤ n → Bytes ps → leavesReached d (λ v. ltb v m) t i ≡ true → Within (λ v. v < m) d (walk n ps t i)
 walk-below d n m ps t i l y e = within-weaken (λ v. ltb-true v m) (reach-within d n (λ v. ltb v m) ps t i l y e)
 
 -- ---- the limit is never reached: one step more changes nothing

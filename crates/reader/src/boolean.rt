@@ -3,7 +3,7 @@ ghost use mathlib.Core.Path.{_≡_};
 ghost use Prim.Native.Nat.{_<_, _≤_, _*_, _%_, _^_};
 ghost use lib.Dec.{eqb, leb};
 ghost use lib.ListN.{length, getD};
-ghost use Rattle.reader.specs.Boolean.{given, splitOf, partOf, grow, decidedOf, symbolOf, toSymbol, validOf, symbolAnswer};
+ghost use Rattle.reader.specs.Boolean.{given, splitOf, chosenOf, grow, decidedOf, symbolOf, toSymbol, validOf, symbolAnswer};
 ghost use Rattle.reader.specs.Boolean.{firstReader};
 ghost use Rattle.reader.specs.BooleanLaws.{From, Valid};
 
@@ -120,7 +120,7 @@ fn grown(s: &[u8], bit: bool, r: Reader) -> Symbol
 // The part of the range that the bit chooses.
 fn part(r: Reader, x: u32, bit: bool) -> Reader
     requires { ⌜ (x ≤ r .range) × (r .range < 256) × (bit ≡ leb (256 * x) (r .window)) ⌝ }
-    ensures { λ q. ⌜ q ≡ partOf r x bit ⌝ }
+    ensures { λ q. ⌜ q ≡ chosenOf r x bit ⌝ }
 {
     if bit {
         return Reader {

@@ -7,7 +7,7 @@ ghost use Prim.Native.Nat.{_<_, _≤_, _+_};
 ghost use lib.IntN.{pos};
 ghost use lib.ListN.{length, getD};
 ghost use Rattle.reader.specs.BooleanLaws.{Valid};
-ghost use Rattle.reader.specs.Trees.{branchOf, atOf, nodesOf, stepOf, walkOf, leadsOf, treeOf, walkAnswer, Tree};
+ghost use Rattle.reader.specs.Trees.{branchOf, atOf, nodesOf, treeStepOf, walkOf, leadsOf, treeOf, walkAnswer, Tree};
 
 // The leaf and the reader after it; Missing where a byte was; Refused where the reader or the tree is out of range.
 pub enum Walked {
@@ -53,7 +53,7 @@ fn down(s: &[u8], r: Reader, probs: &[u8], tree: &[i16], i: usize) -> Step
     requires { ⌜ Valid (now s) r ⌝ }
     requires { ⌜ Tree (now probs) (now tree) ⌝ }
     requires { ⌜ i < nodesOf (now tree) ⌝ }
-    ensures { λ q. ⌜ q ≡ stepOf (now (s .entry)) (now (probs .entry)) (now (tree .entry)) i r ⌝ }
+    ensures { λ q. ⌜ q ≡ treeStepOf (now (s .entry)) (now (probs .entry)) (now (tree .entry)) i r ⌝ }
 {
     let Symbol::Got(bit, next) = r.read(s, probs[i]) else {
         return Step::Missing;

@@ -15,14 +15,14 @@ use Rattle.reader.specs.Reading.{run, Within, ends}
 use Rattle.reader.specs.ReadingLaws.{Ended, run-valid}
 use Rattle.reader.specs.declared.boolean.Reader.{Reader}
 use Rattle.header.specs.declared.quantizers.Factors.{Factors}
-use Rattle.coefficients.specs.TokenLaws.{Sixteen, fromBlock, block-within}
-use Rattle.coefficients.specs.Tokens.{block}
+use Rattle.coefficients.specs.BlockLaws.{Sixteen, fromBlock, block-within}
+use Rattle.coefficients.specs.Block.{block}
 use Rattle.transform.specs.Transform.{samplesOf, transformOf}
 use Rattle.transform.specs.TransformLaws.{transform-good}
-use Rattle.coefficients.specs.declared.tokens.Block.{Block}
-use Rattle.coefficients.specs.declared.tokens.Block.the-variants as B
+use Rattle.coefficients.specs.declared.block.Block.{Block}
+use Rattle.coefficients.specs.declared.block.Block.the-variants as B
 use Rattle.transform.specs.declared.Transformed.{Transformed}
-use Rattle.residual.specs.Residual.{Model, Flags, ModelInRange, initial, coordinates, secondKind, kindOf, zeroOf, coded, spread, secondPlace, second, sixteenAt, stored, advance, blocksFrom, dcStage, cleared, residualOf, nothing, toCalled, callOf}
+use Rattle.residual.specs.Residual.{Model, Flags, ModelInRange, initial, coordinates, secondKind, kindOf, zeroOf, coded, spread, secondPlace, second, sixteenAt, storedAt, advance, blocksFrom, dcStage, cleared, residualOf, noResidual, toResidualCalled, residualAnswer}
 use Rattle.residual.specs.ResidualLaws.{kind-in, initial-whole, zeros-sixteen, sixteen-in, sixteen-fit, second-within, advance-within}
 use Rattle.residual.specs.ResidualSteps.{modelOf, turnOf, Held, coded-at, second-missing, second-ended, advance-missing, advance-ended, blocks-none, blocks-missing, blocks-next, residual-skip, residual-missing, residual-next, call-missing, call-handed}
 use Rattle.residual.specs.declared.Ended.the-variants as E
@@ -61,7 +61,7 @@ module _ (s table : List ℕ) (f : Factors) (m : State) (flat : List ℤ) where
     pub advance-lost : fromBlock l x ≡ missing → run (advance table f small i (modelOf m flat)) s (m .reader) ≡ missing
     advance-lost h = advance-missing table f s (modelOf m flat) (m .reader) small i (wanted ∙ h)
 
-    pub advance-read : {end : ℕ} {q : Reader} → x ≡ B.Ended end q → {to : List ℤ} → to ≡ stored flat (16 * i) l → {z : Bool} → z ≡ zeroOf (getD l 0 (pos 0))
+    pub advance-read : {end : ℕ} {q : Reader} → x ≡ B.Ended end q → {to : List ℤ} → to ≡ storedAt flat (16 * i) l → {z : Bool} → z ≡ zeroOf (getD l 0 (pos 0))
         → {n : State} → n ≡ after m q k p end (m .empty && (leb end 1 && z)) → run (advance table f small i (modelOf m flat)) s (m .reader) ≡ given (modelOf n to) (n .reader)
     advance-read {end} {q} h {to} j {z} t {n} o =
         rw (o, e, a, j, t) (advance-ended table f s (modelOf m flat) (m .reader) small i (wanted ∙ ap (fromBlock l) h))
@@ -147,10 +147,10 @@ module _ (s table : List ℕ) (f : Factors) (small skip : Bool) (r : Reader) (to
 
 -- what the public call returns after it
 module _ (s : List ℕ) (r : Reader) (table : List ℕ) (f : Factors) (small skip : Bool) (top left : List ℕ) (old : List ℤ) (t : Turn) (to : List ℤ) (e : run (residualOf table f small skip top left) s r ≡ turnOf (t .ended) (t .state) to) where
-  pub call-lost : t .ended ≡ false → {q : Residual} → q ≡ nothing E.Missing → record { answer = q; out = old } ≡ callOf s r table f small skip top left old
+  pub call-lost : t .ended ≡ false → {q : Residual} → q ≡ noResidual E.Missing → record { answer = q; out = old } ≡ residualAnswer s r table f small skip top left old
   call-lost h k = call-missing s r table f small skip top left old (turn-lost t to h e) k
 
-  pub call-got : t .ended ≡ true → {out : List ℤ} → out ≡ to → record { answer = toCalled old (given (modelOf (t .state) to) (t .state .reader)) .answer; out = out } ≡ callOf s r table f small skip top left old
+  pub call-got : t .ended ≡ true → {out : List ℤ} → out ≡ to → record { answer = toResidualCalled old (given (modelOf (t .state) to) (t .state .reader)) .answer; out = out } ≡ residualAnswer s r table f small skip top left old
   call-got h k = call-handed s r table f small skip top left old (turn-got t to h e) k
 
 -- the kinds that the code made

@@ -18,7 +18,7 @@ use Rattle.reader.specs.Reading.{Reading, done, run, _>>=_}
 use Rattle.reader.specs.declared.boolean.Reader.{Reader}
 use Rattle.header.specs.Quantizers.{factorsOf}
 use Rattle.header.specs.declared.quantizers.Factors.{Factors}
-use Rattle.coefficients.specs.Tokens.{Coefficients, block, headerTable}
+use Rattle.coefficients.specs.Block.{Coefficients, block, headerTable}
 use Rattle.transform.specs.Transform.{samplesOf}
 use Rattle.residual.specs.declared.Ended.{Ended}
 use Rattle.residual.specs.declared.Ended.the-variants as E
@@ -104,8 +104,8 @@ second table f m = do
 unfoldable pub sixteenAt : List ℤ → (at : ℕ) → List ℤ
 sixteenAt l at = build 16 (λ j. getD l (at + j) (pos 0))
 
-abbrev pub stored : List ℤ → (at : ℕ) → (c : List ℤ) → List ℤ
-stored l at c = placed l at (λ j. getD c j (pos 0)) 16
+abbrev pub storedAt : List ℤ → (at : ℕ) → (c : List ℤ) → List ℤ
+storedAt l at c = placed l at (λ j. getD c j (pos 0)) 16
 
 abbrev pub zeroOf : ℤ → Bool
 zeroOf (pos zero) = true
@@ -120,7 +120,7 @@ module _ (table : List ℕ) (f : Factors) (small : Bool) where
   unfoldable pub advance : (i : ℕ) → Model → Reading Model
   advance i m = do
     c ← coded table (kindOf f small i) (coordinates i) (m .top) (m .left) (sixteenAt (m .coefficients) (16 * i))
-    done (flagged (kindOf f small i) (coordinates i) (c .end) (stored (m .coefficients) (16 * i) (c .values)) (m .empty && emptyOf c) m)
+    done (flagged (kindOf f small i) (coordinates i) (c .end) (storedAt (m .coefficients) (16 * i) (c .values)) (m .empty && emptyOf c) m)
 
   -- n more blocks, from block i on
   unfoldable pub blocksFrom : (n i : ℕ) → Model → Reading Model
@@ -147,45 +147,45 @@ residualOf table f small false top left = do
   blocksFrom table f small 24 0 m
 
 -- ---- the calls: the answer, and the 384 numbers that were lent, which are written only where the macroblock has ended
-pub record Called : Type 0 where
+pub record ResidualCalled : Type 0 where
   pub answer : Residual
   pub out : List ℤ
 
-abbrev pub nothing : Ended → Residual
-nothing a = record { answer = a; top = replicate 9 0; left = replicate 9 0 }
+abbrev pub noResidual : Ended → Residual
+noResidual a = record { answer = a; top = replicate 9 0; left = replicate 9 0 }
 
-abbrev pub toCalled : (old : List ℤ) → Given Model → Called
-toCalled old (given m r) = record { answer = record { answer = E.Done r (m .empty); top = m .top; left = m .left }; out = m .coefficients }
-toCalled old missing = record { answer = nothing E.Missing; out = old }
+abbrev pub toResidualCalled : (old : List ℤ) → Given Model → ResidualCalled
+toResidualCalled old (given m r) = record { answer = record { answer = E.Done r (m .empty); top = m .top; left = m .left }; out = m .coefficients }
+toResidualCalled old missing = record { answer = noResidual E.Missing; out = old }
 
-abbrev pub refused : (old : List ℤ) → Called
-refused old = record { answer = nothing E.Refused; out = old }
+abbrev pub refusedResidual : (old : List ℤ) → ResidualCalled
+refusedResidual old = record { answer = noResidual E.Refused; out = old }
 
 -- each flag is 0 or 1
 abbrev pub flagsOf : List ℕ → Bool
 flagsOf l = allBelow 9 (λ i. leb (getD l i 0) 1)
 
-abbrev pub argumentsOf : (table : List ℕ) → (top left : List ℕ) → (size : ℕ) → Bool
-argumentsOf table top left size = eqb (length table) 1056 && (flagsOf top && (flagsOf left && eqb size 384))
+abbrev pub residualArguments : (table : List ℕ) → (top left : List ℕ) → (size : ℕ) → Bool
+residualArguments table top left size = eqb (length table) 1056 && (flagsOf top && (flagsOf left && eqb size 384))
 
 module _ (s : List ℕ) (r : Reader) where
-  unfoldable pub callOf : (table : List ℕ) → Factors → (small skip : Bool) → (top left : List ℕ) → (old : List ℤ) → Called
-  callOf table f small skip top left old = toCalled old (run (residualOf table f small skip top left) s r)
+  unfoldable pub residualAnswer : (table : List ℕ) → Factors → (small skip : Bool) → (top left : List ℕ) → (old : List ℤ) → ResidualCalled
+  residualAnswer table f small skip top left old = toResidualCalled old (run (residualOf table f small skip top left) s r)
 
   -- `decode`: refused where the reader, the table's length, a flag or the length of the lent numbers is out of range
-  unfoldable pub decodeOf : (table : List ℕ) → Factors → (small skip : Bool) → (top left : List ℕ) → (old : List ℤ) → Called
-  decodeOf table f small skip top left old =
-      elim (validOf s r && argumentsOf table top left (length old)) [
-        | true ↦ callOf table f small skip top left old
-        | false ↦ refused old
+  unfoldable pub residualCallOf : (table : List ℕ) → Factors → (small skip : Bool) → (top left : List ℕ) → (old : List ℤ) → ResidualCalled
+  residualCallOf table f small skip top left old =
+      elim (validOf s r && residualArguments table top left (length old)) [
+        | true ↦ residualAnswer table f small skip top left old
+        | false ↦ refusedResidual old
       ]
 
   -- `decode_header`: refused too where the header is not fine or there is no such segment
-  unfoldable pub decodeHeaderOf : (h : List ℤ) → (segment : ℕ) → (small skip : Bool) → (top left : List ℕ) → (old : List ℤ) → Called
-  decodeHeaderOf h segment small skip top left old =
+  unfoldable pub residualByHeaderOf : (h : List ℤ) → (segment : ℕ) → (small skip : Bool) → (top left : List ℕ) → (old : List ℤ) → ResidualCalled
+  residualByHeaderOf h segment small skip top left old =
       elim (headerOf h && ltb segment 4) [
-        | true ↦ decodeOf (headerTable h) (factorsOf h segment) small skip top left old
-        | false ↦ refused old
+        | true ↦ residualCallOf (headerTable h) (factorsOf h segment) small skip top left old
+        | false ↦ refusedResidual old
       ]
 
 -- ---- the answers as numbers and values: 7 where the tokens run out, 9 for a refusal, whose values are zero

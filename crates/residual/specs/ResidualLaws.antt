@@ -26,11 +26,11 @@ use Rattle.reader.specs.ReadingLaws.{never-both, run-valid, within-bind, within
 use Rattle.reader.specs.declared.boolean.Reader.{Reader}
 use Rattle.header.specs.Quantizers.{factorsOf}
 use Rattle.header.specs.declared.quantizers.Factors.{Factors}
-use Rattle.coefficients.specs.TokenLaws.{Small, Sixteen, block-within}
-use Rattle.coefficients.specs.Tokens.{headerTable}
+use Rattle.coefficients.specs.BlockLaws.{SixteenBits, Sixteen, block-within}
+use Rattle.coefficients.specs.Block.{headerTable}
 use Rattle.transform.specs.Transform.{samplesOf}
-use Rattle.transform.specs.TransformLaws.{Coefficients, transform-good, transform-walsh-in}
-use Rattle.residual.specs.Residual.{Model, Flags, ModelInRange, initial, coordinates, secondKind, lumaKind, kindOf, flagged, spread, secondPlace, second, sixteenAt, emptyOf, advance, blocksFrom, cleared, residualOf, Called, toCalled, argumentsOf, callOf, decodeOf, decodeHeaderOf}
+use Rattle.transform.specs.TransformLaws.{CoefficientsIn, transform-good, transform-walsh-in}
+use Rattle.residual.specs.Residual.{Model, Flags, ModelInRange, initial, coordinates, secondKind, lumaKind, kindOf, flagged, spread, secondPlace, second, sixteenAt, emptyOf, advance, blocksFrom, cleared, residualOf, ResidualCalled, toResidualCalled, residualArguments, residualAnswer, residualCallOf, residualByHeaderOf}
 use Rattle.residual.specs.ResidualSteps.{arguments-good, decode-passed, decode-refused, header-passed}
 use Rattle.residual.specs.declared.Ended.{Ended}
 use Rattle.residual.specs.declared.Ended.the-variants as E
@@ -78,7 +78,7 @@ pub flags-cleared : (small : Bool) {l : List ℕ} → Flags l → Flags (cleared
 flags-cleared true h = flags-set flags-none 8 (h .each 8)
 flags-cleared false h = flags-none
 
-no-number : Small (pos 0)
+no-number : SixteenBits (pos 0)
 no-number = In-wider (inside (num (pos 0))) tt
 
 zeros-each : (n : ℕ) → Each (negsuc 32767) (pos 32767) (replicate n (pos 0))
@@ -98,14 +98,14 @@ pub sixteen-in : {l : List ℤ} (at : ℕ) → Each (negsuc 32767) (pos 32767) l
 unfolding sixteenAt
 sixteen-in {l} at h = record { long = length-build 16 _; each = record { at = go } }
   where
-    go : (j : ℕ) → Small (getD (sixteenAt l at) j (pos 0))
+    go : (j : ℕ) → SixteenBits (getD (sixteenAt l at) j (pos 0))
     go j = elim (lt-or j 16) [
       | inl k ↦ rw (getD-build 16 (λ (j : ℕ). getD l (at + j) (pos 0)) j (pos 0) k) (h .at (at + j))
       | inr k ↦ rw (getD-build-past 16 (λ (j : ℕ). getD l (at + j) (pos 0)) j (pos 0) k) no-number
     ]
 
-placed-each : {l : List ℤ} (at : ℕ) (f : ℕ → ℤ) (n : ℕ) → Each (negsuc 32767) (pos 32767) l → ((j : ℕ) → Small (f j)) → Each (negsuc 32767) (pos 32767) (placed l at f n)
-placed-each {l} at f n h k = record { at = placed-keeps Small l at f n (pos 0) (h .at) k }
+placed-each : {l : List ℤ} (at : ℕ) (f : ℕ → ℤ) (n : ℕ) → Each (negsuc 32767) (pos 32767) l → ((j : ℕ) → SixteenBits (f j)) → Each (negsuc 32767) (pos 32767) (placed l at f n)
+placed-each {l} at f n h k = record { at = placed-keeps SixteenBits l at f n (pos 0) (h .at) k }
 
 pub length-spread : (l dc : List ℤ) (n : ℕ) → length (spread l dc n) ≡ length l
 unfolding spread
@@ -117,10 +117,10 @@ unfolding spread
 spread-each zero h k = h
 spread-each (suc n) h k = each-set _ (16 * n) (spread-each n h k) (k .at n)
 
-pub walsh-in : {c : List ℤ} → Coefficients c → Each (negsuc 32767) (pos 32767) (samplesOf true c)
+pub walsh-in : {c : List ℤ} → CoefficientsIn c → Each (negsuc 32767) (pos 32767) (samplesOf true c)
 walsh-in {c} f = rw (transform-good true f) at (transform-walsh-in c)
 
-pub sixteen-fit : {c : List ℤ} → Sixteen c → Coefficients c
+pub sixteen-fit : {c : List ℤ} → Sixteen c → CoefficientsIn c
 sixteen-fit h = record { fit = λ k l. h .each .at k }
 
 -- ---- what each grammar gives, and how much it asks
@@ -195,10 +195,10 @@ not-done tag z top left l E.Refused e = refl
 abbrev pub fromResidual : List ℤ → Residual → Given Model
 fromResidual l x = fromEnded (x .top) (x .left) l (x .answer)
 
-abbrev fromCalled : Called → Given Model
-fromCalled c = fromResidual (c .out) (c .answer)
+abbrev fromResidualCalled : ResidualCalled → Given Model
+fromResidualCalled c = fromResidual (c .out) (c .answer)
 
-from-called : (old : List ℤ) (g : Given Model) → g ≡ fromCalled (toCalled old g)
+from-called : (old : List ℤ) (g : Given Model) → g ≡ fromResidualCalled (toResidualCalled old g)
 from-called old (given m r) = refl
 from-called old missing = refl
 
@@ -210,35 +210,35 @@ pub record Kept (x : Residual) (l old : List ℤ) : Type 0 where
 
 module _ (s : List ℕ) (r : Reader) (table : List ℕ) (f : Factors) (small skip : Bool) (top left : List ℕ) (old : List ℤ) where
   -- with good arguments it is the inner definition
-  pub decode-good : Valid s r → Good table top left old → callOf s r table f small skip top left old ≡ decodeOf s r table f small skip top left old
+  pub decode-good : Valid s r → Good table top left old → residualAnswer s r table f small skip top left old ≡ residualCallOf s r table f small skip top left old
   decode-good v g = decode-passed s r table f small skip top left old (valid-test s r v) (arguments-good table top left (length old) (g .size) (g .top-flags) (g .left-flags) (g .long))
 
   -- THE LAW for callers of `decode`
-  pub decoded : Valid s r → Good table top left old → {x : Residual} {l : List ℤ} → record { answer = x; out = l } ≡ decodeOf s r table f small skip top left old → run (residualOf table f small skip top left) s r ≡ fromResidual l x
-  unfolding callOf
-  decoded v g e = from-called old (run (residualOf table f small skip top left) s r) ∙ ap fromCalled (decode-good v g ∙ sym e)
+  pub decoded : Valid s r → Good table top left old → {x : Residual} {l : List ℤ} → record { answer = x; out = l } ≡ residualCallOf s r table f small skip top left old → run (residualOf table f small skip top left) s r ≡ fromResidual l x
+  unfolding residualAnswer
+  decoded v g e = from-called old (run (residualOf table f small skip top left) s r) ∙ ap fromResidualCalled (decode-good v g ∙ sym e)
 
   -- what was read from good arguments: whole, the reader in range and no earlier
   pub decode-ends : Valid s r → Good table top left old → Bytes s → Bytes table → {m : Model} {q : Reader} → run (residualOf table f small skip top left) s r ≡ given m q → ReadingLaws.Ended ModelInRange s r m q
   decode-ends v g y b e = run-valid (residual-within table f b small skip (g .top-flags) (g .left-flags)) y v e
 
-  pub decode-kept : {x : Residual} {l : List ℤ} → record { answer = x; out = l } ≡ decodeOf s r table f small skip top left old → fromResidual l x ≡ missing → Kept x l old
-  unfolding decodeOf callOf
-  decode-kept {x} {l} e m = go (validOf s r && argumentsOf table top left (length old)) refl
+  pub decode-kept : {x : Residual} {l : List ℤ} → record { answer = x; out = l } ≡ residualCallOf s r table f small skip top left old → fromResidual l x ≡ missing → Kept x l old
+  unfolding residualCallOf residualAnswer
+  decode-kept {x} {l} e m = go (validOf s r && residualArguments table top left (length old)) refl
     where
-      kept : {c : Called} → record { answer = x; out = l } ≡ c → Kept (c .answer) (c .out) old → Kept x l old
-      kept h k = record { same = ap (λ (a : Called). a .out) h ∙ k .same; top = ap (λ (a : Called). a .answer .top) h ∙ k .top; left = ap (λ (a : Called). a .answer .left) h ∙ k .left }
+      kept : {c : ResidualCalled} → record { answer = x; out = l } ≡ c → Kept (c .answer) (c .out) old → Kept x l old
+      kept h k = record { same = ap (λ (a : ResidualCalled). a .out) h ∙ k .same; top = ap (λ (a : ResidualCalled). a .answer .top) h ∙ k .top; left = ap (λ (a : ResidualCalled). a .answer .left) h ∙ k .left }
 
-      given-not : (g : Given Model) → fromCalled (toCalled old g) ≡ missing → Kept (toCalled old g .answer) (toCalled old g .out) old
+      given-not : (g : Given Model) → fromResidualCalled (toResidualCalled old g) ≡ missing → Kept (toResidualCalled old g .answer) (toResidualCalled old g .out) old
       given-not (given n q) h = absurd (never-both refl h)
       given-not missing h = record { same = refl; top = refl; left = refl }
 
-      go : (b : Bool) → validOf s r && argumentsOf table top left (length old) ≡ b → Kept x l old
+      go : (b : Bool) → validOf s r && residualArguments table top left (length old) ≡ b → Kept x l old
       go true k =
-          let w : record { answer = x; out = l } ≡ toCalled old (run (residualOf table f small skip top left) s r) = e ∙ rw (k, decodeOf) in
-          kept w (given-not (run (residualOf table f small skip top left) s r) (sym (ap fromCalled w) ∙ m))
+          let w : record { answer = x; out = l } ≡ toResidualCalled old (run (residualOf table f small skip top left) s r) = e ∙ rw (k, residualCallOf) in
+          kept w (given-not (run (residualOf table f small skip top left) s r) (sym (ap fromResidualCalled w) ∙ m))
       go false k = kept (e ∙ sym (decode-refused s r table f small skip top left old k refl)) (record { same = refl; top = refl; left = refl })
 
 -- with a header, where it is fine and there is such a segment
-pub header-good : (s : List ℕ) (r : Reader) (h : List ℤ) (segment : ℕ) (small skip : Bool) (top left : List ℕ) (old : List ℤ) → headerOf h ≡ true → segment < 4 → decodeOf s r (headerTable h) (factorsOf h segment) small skip top left old ≡ decodeHeaderOf s r h segment small skip top left old
+pub header-good : (s : List ℕ) (r : Reader) (h : List ℤ) (segment : ℕ) (small skip : Bool) (top left : List ℕ) (old : List ℤ) → headerOf h ≡ true → segment < 4 → residualCallOf s r (headerTable h) (factorsOf h segment) small skip top left old ≡ residualByHeaderOf s r h segment small skip top left old
 header-good s r h segment small skip top left old e l = header-passed s r h segment small skip top left old (both-true e (lt-ltb _ _ l))

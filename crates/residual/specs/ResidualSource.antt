@@ -20,9 +20,9 @@ use Rattle.reader.specs.Reading.{Reading, done, run, _>>=_}
 use Rattle.reader.specs.ReadingLaws.{run-done, run-then, run-stops}
 use Rattle.reader.specs.declared.boolean.Reader.{Reader}
 use Rattle.header.specs.declared.quantizers.Factors.{Factors}
-use Rattle.coefficients.specs.Tokens.{Coefficients}
+use Rattle.coefficients.specs.Block.{Coefficients}
 use Rattle.transform.specs.Transform.{samplesOf}
-use Rattle.residual.specs.Residual.{Model, initial, coordinates, secondKind, kindOf, coded, flagged, spread, secondPlace, second, sixteenAt, stored, emptyOf, blocksFrom, cleared, residualOf}
+use Rattle.residual.specs.Residual.{Model, initial, coordinates, secondKind, kindOf, coded, flagged, spread, secondPlace, second, sixteenAt, storedAt, emptyOf, blocksFrom, cleared, residualOf}
 use Rattle.residual.specs.ResidualLaws.{length-spread}
 use Rattle.residual.specs.ResidualSteps.{second-missing, second-ended, advance-missing, advance-ended, blocks-none, blocks-missing, blocks-next}
 use Rattle.residual.specs.declared.blocks.Kind.{Kind}
@@ -40,8 +40,8 @@ abbrev pub sourceInitial : (top left : List ℕ) → Source
 sourceInitial top left = record { top = top; left = left; dc = replicate 16 (pos 0); blocks = replicate 24 (replicate 16 (pos 0)); empty = true }
 
 -- a block starts as zeros, but for the first coefficient of a luma block
-unfoldable pub startOf : List ℤ → ℕ → List ℤ
-startOf dc i = build 16 (λ k. elim (eqb k 0 && ltb i 16) [ true ↦ getD dc i (pos 0) | false ↦ pos 0 ])
+unfoldable pub sourceStart : List ℤ → ℕ → List ℤ
+sourceStart dc i = build 16 (λ k. elim (eqb k 0 && ltb i 16) [ true ↦ getD dc i (pos 0) | false ↦ pos 0 ])
 
 abbrev pub passedSource : Kind → FlagsAt → ℕ → (dc : List ℤ) → (blocks : List (List ℤ)) → Bool → Source → Source
 passedSource k p end dc blocks empty m =
@@ -65,7 +65,7 @@ module _ (table : List ℕ) (f : Factors) (small : Bool) where
 
   unfoldable pub sourceAdvance : ℕ → Source → Reading Source
   sourceAdvance i m = do
-    c ← coded table (kindOf f small i) (coordinates i) (m .top) (m .left) (startOf (m .dc) i)
+    c ← coded table (kindOf f small i) (coordinates i) (m .top) (m .left) (sourceStart (m .dc) i)
     done (nextSource i c m)
 
   unfoldable pub sourceFrom : (more i : ℕ) → Source → Reading Source
@@ -86,7 +86,7 @@ abbrev flatAt : ℕ → (dc : List ℤ) → (blocks : List (List ℤ)) → ℕ �
 flatAt i dc blocks j =
     elim (ltb (j / 16) i) [
       | true ↦ getD (getD blocks (j / 16) []) (j % 16) (pos 0)
-      | false ↦ getD (startOf dc (j / 16)) (j % 16) (pos 0)
+      | false ↦ getD (sourceStart dc (j / 16)) (j % 16) (pos 0)
     ]
 
 unfoldable flatTo : ℕ → (dc : List ℤ) → (blocks : List (List ℤ)) → List ℤ
@@ -105,27 +105,27 @@ laidGiven missing = missing
 
 -- ---- how a block starts
 module _ (dc : List ℤ) (i : ℕ) where
-  length-start : length (startOf dc i) ≡ 16
-  unfolding startOf
+  length-start : length (sourceStart dc i) ≡ 16
+  unfolding sourceStart
   length-start = length-build 16 _
 
-  start-first : i < 16 → getD (startOf dc i) 0 (pos 0) ≡ getD dc i (pos 0)
-  unfolding startOf
+  start-first : i < 16 → getD (sourceStart dc i) 0 (pos 0) ≡ getD dc i (pos 0)
+  unfolding sourceStart
   start-first h = getD-build 16 _ 0 (pos 0) (omega arith) ∙ rw (lt-ltb i 16 h) refl
 
-  start-rest : (k : ℕ) → k < 16 → (k ≡ 0 → ⊥) → getD (startOf dc i) k (pos 0) ≡ pos 0
-  unfolding startOf
+  start-rest : (k : ℕ) → k < 16 → (k ≡ 0 → ⊥) → getD (sourceStart dc i) k (pos 0) ≡ pos 0
+  unfolding sourceStart
   start-rest k h o = getD-build 16 _ k (pos 0) h ∙ rw (ne-eqb k 0 o) refl
 
-  start-chroma : 16 ≤ i → getD (startOf dc i) 0 (pos 0) ≡ pos 0
-  unfolding startOf
+  start-chroma : 16 ≤ i → getD (sourceStart dc i) 0 (pos 0) ≡ pos 0
+  unfolding sourceStart
   start-chroma h = getD-build 16 _ 0 (pos 0) (omega arith) ∙ rw (le-ltb i 16 h) refl
 
 -- ---- one place of the flat list
 flat-read : (dc : List ℤ) (blocks : List (List ℤ)) (i j : ℕ) → j / 16 < i → flatAt i dc blocks j ≡ getD (getD blocks (j / 16) []) (j % 16) (pos 0)
 flat-read dc blocks i j h = rw (lt-ltb (j / 16) i h, flatAt)
 
-flat-start : (dc : List ℤ) (blocks : List (List ℤ)) (i j : ℕ) → i ≤ j / 16 → flatAt i dc blocks j ≡ getD (startOf dc (j / 16)) (j % 16) (pos 0)
+flat-start : (dc : List ℤ) (blocks : List (List ℤ)) (i j : ℕ) → i ≤ j / 16 → flatAt i dc blocks j ≡ getD (sourceStart dc (j / 16)) (j % 16) (pos 0)
 flat-start dc blocks i j h = rw (le-ltb (j / 16) i h, flatAt)
 
 module _ (dc : List ℤ) (blocks : List (List ℤ)) (i : ℕ) where
@@ -138,15 +138,15 @@ module _ (dc : List ℤ) (blocks : List (List ℤ)) (i : ℕ) where
   length-flat = length-build 384 (flatAt i dc blocks)
 
   -- block i starts as the source says
-  sixteen-start : i < 24 → sixteenAt (flatTo i dc blocks) (16 * i) ≡ startOf dc i
+  sixteen-start : i < 24 → sixteenAt (flatTo i dc blocks) (16 * i) ≡ sourceStart dc i
   unfolding sixteenAt
-  sixteen-start l = sym (built (startOf dc i) 16 (λ k. getD (flatTo i dc blocks) (16 * i + k) (pos 0)) (pos 0) (length-start dc i) at)
+  sixteen-start l = sym (built (sourceStart dc i) 16 (λ k. getD (flatTo i dc blocks) (16 * i + k) (pos 0)) (pos 0) (length-start dc i) at)
     where
-      at : (k : ℕ) → k < 16 → getD (startOf dc i) k (pos 0) ≡ getD (flatTo i dc blocks) (16 * i + k) (pos 0)
+      at : (k : ℕ) → k < 16 → getD (sourceStart dc i) k (pos 0) ≡ getD (flatTo i dc blocks) (16 * i + k) (pos 0)
       at k h =
           let d : (16 * i + k) / 16 ≡ i = omega arith in
           let m : (16 * i + k) % 16 ≡ k = omega arith in
-          sym (flat-at (16 * i + k) (omega arith) ∙ flat-start dc blocks i (16 * i + k) (omega arith) ∙ ap₂ (λ (a b : ℕ). getD (startOf dc a) b (pos 0)) d m)
+          sym (flat-at (16 * i + k) (omega arith) ∙ flat-start dc blocks i (16 * i + k) (omega arith) ∙ ap₂ (λ (a b : ℕ). getD (sourceStart dc a) b (pos 0)) d m)
 
   -- and stands as it was read afterwards
   module _ (l : i < 24) (n : length blocks ≡ 24) (v : List ℤ) where
@@ -163,15 +163,15 @@ module _ (dc : List ℤ) (blocks : List (List ℤ)) (i : ℕ) where
     off : (j : ℕ) → (j / 16 ≡ i → ⊥) → Off (16 * i) 16 j
     off j o = ⊎-elim (λ (h : j < 16 * i). inl h) (λ (h : 16 * i ≤ j). inr (omega arith)) (lt-or j (16 * i))
 
-    stored-read : stored (flatTo i dc blocks) (16 * i) v ≡ flatTo (i + 1) dc (set blocks i v)
+    stored-read : storedAt (flatTo i dc blocks) (16 * i) v ≡ flatTo (i + 1) dc (set blocks i v)
     unfolding flatTo
     stored-read = built _ 384 (flatAt (i + 1) dc (set blocks i v)) (pos 0) (length-placed (flatTo i dc blocks) (16 * i) (λ k. getD v k (pos 0)) 16 ∙ length-flat) at
       where
-        at : (j : ℕ) → j < 384 → getD (stored (flatTo i dc blocks) (16 * i) v) j (pos 0) ≡ flatAt (i + 1) dc (set blocks i v) j
+        at : (j : ℕ) → j < 384 → getD (storedAt (flatTo i dc blocks) (16 * i) v) j (pos 0) ≡ flatAt (i + 1) dc (set blocks i v) j
         at j h = elim (eq-or (j / 16) i) [
           | inl e ↦
               let q : j ≡ 16 * i + j % 16 = omega arith in
-              ap (λ (x : ℕ). getD (stored (flatTo i dc blocks) (16 * i) v) x (pos 0)) q
+              ap (λ (x : ℕ). getD (storedAt (flatTo i dc blocks) (16 * i) v) x (pos 0)) q
               ∙ placed-in (flatTo i dc blocks) (16 * i) (λ k. getD v k (pos 0)) 16 (j % 16) (pos 0) (rw length-flat (omega arith)) (omega arith) ∙ own j e
           | inr o ↦ placed-off (flatTo i dc blocks) (16 * i) (λ k. getD v k (pos 0)) 16 j (pos 0) (off j o) ∙ flat-at j h ∙ other j o
         ]
@@ -198,7 +198,7 @@ module _ (dc : List ℤ) where
       none : (j : ℕ) → ((k : ℕ) → k < 16 → j ≡ 16 * k → ⊥) → getD (spread (replicate 384 (pos 0)) dc 16) j (pos 0) ≡ pos 0
       none j o = spread-off (replicate 384 (pos 0)) 16 j o ∙ getD-constant 384 j (pos 0)
 
-      at : (j : ℕ) → getD (spread (replicate 384 (pos 0)) dc 16) j (pos 0) ≡ getD (startOf dc (j / 16)) (j % 16) (pos 0)
+      at : (j : ℕ) → getD (spread (replicate 384 (pos 0)) dc 16) j (pos 0) ≡ getD (sourceStart dc (j / 16)) (j % 16) (pos 0)
       at j = elim (eq-or (j % 16) 0) [
         | inr o ↦ none j (λ k h e. o (omega arith)) ∙ sym (start-rest dc (j / 16) (j % 16) (omega arith) o)
         | inl e ↦ elim (lt-or (j / 16) 16) [
@@ -231,7 +231,7 @@ module _ (table : List ℕ) (f : Factors) (small : Bool) (s : List ℕ) where
   from-source (suc more) i m r e n = go (λ m r. from-source more (i + 1) m r (omega arith)) (run own s r) refl
     where
       own : Reading Coefficients
-      own = coded table (kindOf f small i) (coordinates i) (m .top) (m .left) (startOf (m .dc) i)
+      own = coded table (kindOf f small i) (coordinates i) (m .top) (m .left) (sourceStart (m .dc) i)
 
       starts : {x : Given Coefficients} → run own s r ≡ x → run (coded table (kindOf f small i) (coordinates i) (m .top) (m .left) (sixteenAt (flatTo i (m .dc) (m .blocks)) (16 * i))) s r ≡ x
       starts w = rw (sixteen-start (m .dc) (m .blocks) i (omega arith)) w

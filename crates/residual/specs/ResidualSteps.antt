@@ -25,14 +25,14 @@ use Rattle.header.specs.QuantizersLaws.{segment-ready, segment-refused}
 use Rattle.header.specs.declared.quantizers.Factors.{Factors}
 use Rattle.header.specs.declared.quantizers.Quantizers.{Quantizers}
 use Rattle.header.specs.declared.quantizers.Quantizers.the-variants as Q
-use Rattle.coefficients.specs.TokenLaws.{Sixteen, fromBlock, decoded}
-use Rattle.coefficients.specs.TokenSteps.{table-done}
-use Rattle.coefficients.specs.Tokens.{Coefficients, block, headerTable, tableOf}
-use Rattle.coefficients.specs.Tokens as tokens
-use Rattle.coefficients.specs.declared.tokens.Block.{Block}
-use Rattle.coefficients.specs.declared.tokens.Table.{Table}
+use Rattle.coefficients.specs.BlockLaws.{Sixteen, fromBlock, decoded}
+use Rattle.coefficients.specs.BlockSteps.{table-done}
+use Rattle.coefficients.specs.Block.{Coefficients, block, headerTable, tableOf}
+use Rattle.coefficients.specs.Block as tokens
+use Rattle.coefficients.specs.declared.block.Block.{Block}
+use Rattle.coefficients.specs.declared.block.Table.{Table}
 use Rattle.transform.specs.Transform.{samplesOf}
-use Rattle.residual.specs.Residual.{Model, Flags, ModelInRange, initial, coordinates, secondKind, kindOf, coded, flagged, spread, secondPlace, second, sixteenAt, stored, emptyOf, advance, blocksFrom, dcStage, cleared, residualOf, nothing, toCalled, flagsOf, argumentsOf, callOf, decodeOf, decodeHeaderOf}
+use Rattle.residual.specs.Residual.{Model, Flags, ModelInRange, initial, coordinates, secondKind, kindOf, coded, flagged, spread, secondPlace, second, sixteenAt, storedAt, emptyOf, advance, blocksFrom, dcStage, cleared, residualOf, noResidual, toResidualCalled, flagsOf, residualArguments, residualAnswer, residualCallOf, residualByHeaderOf}
 use Rattle.residual.specs.declared.Ended.the-variants as E
 use Rattle.residual.specs.declared.Residual.{Residual}
 use Rattle.residual.specs.declared.blocks.Kind.{Kind}
@@ -68,7 +68,7 @@ spread-next p dc k e h = rw add-one (ap₂ (λ (x : List ℤ) (y : ℤ). set x (
 
 -- ---- a block that the checked call read, in the context that the code worked out
 pub coded-read : (s : List ℕ) (r : Reader) (table : List ℕ) (k : Kind) (ctx : ℕ) (old : List ℤ) → Valid s r → length table ≡ 1056 → (k .kind < 4) × (k .first ≤ 1) → ctx < 3 → Sixteen old
-    → {x : Block} {l : List ℤ} → record { answer = x; out = l } ≡ tokens.decodeOf s r table (k .kind) ctx (k .first) (k .q0) (k .q1) old
+    → {x : Block} {l : List ℤ} → record { answer = x; out = l } ≡ tokens.blockCallOf s r table (k .kind) ctx (k .first) (k .q0) (k .q1) old
     → run (block table (k .kind) (k .q0) (k .q1) ctx (k .first) old) s r ≡ fromBlock l x
 coded-read s r table k ctx old v n g h o e =
     decoded s r table (k .kind) ctx (k .first) (k .q0) (k .q1) old v (record { size = n; kinds = g .0; near = h; start = g .1; each = o .each }) e
@@ -95,7 +95,7 @@ module _ (table : List ℕ) (f : Factors) (s : List ℕ) (m : Model) (r : Reader
     advance-missing e = run-stops _ s (coded table (kindOf f small i) (coordinates i) (m .top) (m .left) (sixteenAt (m .coefficients) (16 * i))) r e
 
     pub advance-ended : {c : Coefficients} {q : Reader} → run (coded table (kindOf f small i) (coordinates i) (m .top) (m .left) (sixteenAt (m .coefficients) (16 * i))) s r ≡ given c q
-        → run (advance table f small i m) s r ≡ given (flagged (kindOf f small i) (coordinates i) (c .end) (stored (m .coefficients) (16 * i) (c .values)) (m .empty && emptyOf c) m) q
+        → run (advance table f small i m) s r ≡ given (flagged (kindOf f small i) (coordinates i) (c .end) (storedAt (m .coefficients) (16 * i) (c .values)) (m .empty && emptyOf c) m) q
     unfolding advance
     advance-ended {c} {q} e = run-then _ s (coded table (kindOf f small i) (coordinates i) (m .top) (m .left) (sixteenAt (m .coefficients) (16 * i))) r e ∙ run-done _ s q
 
@@ -152,62 +152,62 @@ flags-fact {l} n e = record { long = n; each = go }
     ]
 
 module _ (table top left : List ℕ) (size : ℕ) where
-  pub arguments-fact : length top ≡ 9 → length left ≡ 9 → argumentsOf table top left size ≡ true → (length table ≡ 1056) × ((Flags top × Flags left) × (size ≡ 384))
+  pub arguments-fact : length top ≡ 9 → length left ≡ 9 → residualArguments table top left size ≡ true → (length table ≡ 1056) × ((Flags top × Flags left) × (size ≡ 384))
   arguments-fact t l e =
       let e1 = both-right (eqb (length table) 1056) _ e in
       let e2 = both-right (flagsOf top) _ e1 in
       (eqb-true _ _ (both-left _ _ e), ((flags-fact t (both-left _ _ e1), flags-fact l (both-left _ _ e2)), eqb-true _ _ (both-right (flagsOf left) _ e2)))
 
-  pub arguments-good : length table ≡ 1056 → Flags top → Flags left → size ≡ 384 → argumentsOf table top left size ≡ true
+  pub arguments-good : length table ≡ 1056 → Flags top → Flags left → size ≡ 384 → residualArguments table top left size ≡ true
   arguments-good n t l k = both-true (eq-eqb _ _ n) (both-true (flags-true top (t .each)) (both-true (flags-true left (l .each)) (eq-eqb _ _ k)))
 
 module _ (s : List ℕ) (r : Reader) (table : List ℕ) (f : Factors) (small skip : Bool) (top left : List ℕ) (old : List ℤ) where
   -- what the code returns with the numbers behind it
-  pub call-missing : run (residualOf table f small skip top left) s r ≡ missing → {q : Residual} → q ≡ nothing E.Missing → record { answer = q; out = old } ≡ callOf s r table f small skip top left old
-  unfolding callOf
-  call-missing e h = rw h (sym (ap (toCalled old) e))
+  pub call-missing : run (residualOf table f small skip top left) s r ≡ missing → {q : Residual} → q ≡ noResidual E.Missing → record { answer = q; out = old } ≡ residualAnswer s r table f small skip top left old
+  unfolding residualAnswer
+  call-missing e h = rw h (sym (ap (toResidualCalled old) e))
 
-  pub call-handed : {m : Model} {q : Reader} → run (residualOf table f small skip top left) s r ≡ given m q → {to : List ℤ} → to ≡ m .coefficients → record { answer = toCalled old (given m q) .answer; out = to } ≡ callOf s r table f small skip top left old
-  unfolding callOf
-  call-handed e h = rw h (sym (ap (toCalled old) e))
+  pub call-handed : {m : Model} {q : Reader} → run (residualOf table f small skip top left) s r ≡ given m q → {to : List ℤ} → to ≡ m .coefficients → record { answer = toResidualCalled old (given m q) .answer; out = to } ≡ residualAnswer s r table f small skip top left old
+  unfolding residualAnswer
+  call-handed e h = rw h (sym (ap (toResidualCalled old) e))
 
-  pub decode-passed : validOf s r ≡ true → argumentsOf table top left (length old) ≡ true → callOf s r table f small skip top left old ≡ decodeOf s r table f small skip top left old
-  unfolding decodeOf
-  decode-passed v a = rw (both-true v a, decodeOf)
+  pub decode-passed : validOf s r ≡ true → residualArguments table top left (length old) ≡ true → residualAnswer s r table f small skip top left old ≡ residualCallOf s r table f small skip top left old
+  unfolding residualCallOf
+  decode-passed v a = rw (both-true v a, residualCallOf)
 
-  pub decode-refused : validOf s r && argumentsOf table top left (length old) ≡ false → {q : Residual} → q ≡ nothing E.Refused → record { answer = q; out = old } ≡ decodeOf s r table f small skip top left old
-  unfolding decodeOf
-  decode-refused e h = rw (h, e, decodeOf)
+  pub decode-refused : validOf s r && residualArguments table top left (length old) ≡ false → {q : Residual} → q ≡ noResidual E.Refused → record { answer = q; out = old } ≡ residualCallOf s r table f small skip top left old
+  unfolding residualCallOf
+  decode-refused e h = rw (h, e, residualCallOf)
 
-  pub decode-reader : validOf s r ≡ false → {q : Residual} → q ≡ nothing E.Refused → record { answer = q; out = old } ≡ decodeOf s r table f small skip top left old
+  pub decode-reader : validOf s r ≡ false → {q : Residual} → q ≡ noResidual E.Refused → record { answer = q; out = old } ≡ residualCallOf s r table f small skip top left old
   decode-reader e = decode-refused (rw e)
 
-  pub decode-arguments : argumentsOf table top left (length old) ≡ false → {q : Residual} → q ≡ nothing E.Refused → record { answer = q; out = old } ≡ decodeOf s r table f small skip top left old
+  pub decode-arguments : residualArguments table top left (length old) ≡ false → {q : Residual} → q ≡ noResidual E.Refused → record { answer = q; out = old } ≡ residualCallOf s r table f small skip top left old
   decode-arguments e = decode-refused (both-false (validOf s r) e)
 
 -- ---- with a header
 module _ (s : List ℕ) (r : Reader) (h : List ℤ) (segment : ℕ) (small skip : Bool) (top left : List ℕ) (old : List ℤ) where
-  header-refused : headerOf h && ltb segment 4 ≡ false → {q : Residual} → q ≡ nothing E.Refused → record { answer = q; out = old } ≡ decodeHeaderOf s r h segment small skip top left old
-  unfolding decodeHeaderOf
-  header-refused e k = rw (k, e, decodeHeaderOf)
+  header-refused : headerOf h && ltb segment 4 ≡ false → {q : Residual} → q ≡ noResidual E.Refused → record { answer = q; out = old } ≡ residualByHeaderOf s r h segment small skip top left old
+  unfolding residualByHeaderOf
+  header-refused e k = rw (k, e, residualByHeaderOf)
 
-  pub header-passed : headerOf h && ltb segment 4 ≡ true → decodeOf s r (headerTable h) (factorsOf h segment) small skip top left old ≡ decodeHeaderOf s r h segment small skip top left old
-  unfolding decodeHeaderOf
-  header-passed e = rw (e, decodeHeaderOf)
+  pub header-passed : headerOf h && ltb segment 4 ≡ true → residualCallOf s r (headerTable h) (factorsOf h segment) small skip top left old ≡ residualByHeaderOf s r h segment small skip top left old
+  unfolding residualByHeaderOf
+  header-passed e = rw (e, residualByHeaderOf)
 
   -- what the answer of the quantizers says
   module _ {x : Quantizers} (e : x ≡ quantizersOf h segment) where
-    pub header-none : x ≡ Q.Refused → {q : Residual} → q ≡ nothing E.Refused → record { answer = q; out = old } ≡ decodeHeaderOf s r h segment small skip top left old
+    pub header-none : x ≡ Q.Refused → {q : Residual} → q ≡ noResidual E.Refused → record { answer = q; out = old } ≡ residualByHeaderOf s r h segment small skip top left old
     header-none n {q} k = go (headerOf h && ltb segment 4) refl
       where
-        go : (b : Bool) → headerOf h && ltb segment 4 ≡ b → record { answer = q; out = old } ≡ decodeHeaderOf s r h segment small skip top left old
+        go : (b : Bool) → headerOf h && ltb segment 4 ≡ b → record { answer = q; out = old } ≡ residualByHeaderOf s r h segment small skip top left old
         go true w = let g : x ≡ Q.Ready (factorsOf h segment) = e ∙ segment-ready h segment w in absurd (let z : _≡_ {A = ℕ} 0 1 = cc in omega arith)
         go false w = header-refused w k
 
-    pub header-some : {f : Factors} → x ≡ Q.Ready f → {t : Table} → t ≡ tableOf h → decodeOf s r (t .bytes) f small skip top left old ≡ decodeHeaderOf s r h segment small skip top left old
+    pub header-some : {f : Factors} → x ≡ Q.Ready f → {t : Table} → t ≡ tableOf h → residualCallOf s r (t .bytes) f small skip top left old ≡ residualByHeaderOf s r h segment small skip top left old
     header-some {f} k {t} j = go (headerOf h && ltb segment 4) refl
       where
-        go : (b : Bool) → headerOf h && ltb segment 4 ≡ b → decodeOf s r (t .bytes) f small skip top left old ≡ decodeHeaderOf s r h segment small skip top left old
+        go : (b : Bool) → headerOf h && ltb segment 4 ≡ b → residualCallOf s r (t .bytes) f small skip top left old ≡ residualByHeaderOf s r h segment small skip top left old
         go true w =
             let g : x ≡ Q.Ready (factorsOf h segment) = e ∙ segment-ready h segment w in
             let i : f ≡ factorsOf h segment = cc in

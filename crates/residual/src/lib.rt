@@ -2,7 +2,7 @@
 use crate::blocks::read;
 use crate::contexts::flags_fine;
 use crate::flat::hand_over;
-use coefficients::tokens::probabilities;
+use coefficients::block::probabilities;
 use header::quantizers::Factors;
 use header::quantizers::Quantizers;
 use header::quantizers::for_segment;
@@ -11,7 +11,7 @@ use reader::boolean::valid;
 ghost use mathlib.Core.Path.{_≡_};
 ghost use lib.ListN.{length};
 ghost use Rattle.reader.specs.BooleanLaws.{Valid};
-ghost use Rattle.residual.specs.Residual.{Flags, nothing, argumentsOf, callOf, decodeOf, decodeHeaderOf};
+ghost use Rattle.residual.specs.Residual.{Flags, noResidual, residualArguments, residualAnswer, residualCallOf, residualByHeaderOf};
 
 mod blocks;
 mod contexts;
@@ -32,7 +32,7 @@ pub struct Residual {
 }
 
 fn no_residual(answer: Ended) -> Residual
-    ensures { λ r. ⌜ r ≡ nothing answer ⌝ }
+    ensures { λ r. ⌜ r ≡ noResidual answer ⌝ }
 {
     Residual {
         answer: answer,
@@ -56,7 +56,7 @@ fn read_residual(
     requires { ⌜ Valid (now s) r × (length (now table) ≡ 1056) ⌝ }
     requires { ⌜ (Flags top × Flags left) × (length (now out) ≡ 384) ⌝ }
     ensures { λ q. ⌜ record { answer = q; out = now (out .exit) }
-        ≡ callOf (now (s .entry)) r (now (table .entry)) f small skip top left (now (out .entry)) ⌝ }
+        ≡ residualAnswer (now (s .entry)) r (now (table .entry)) f small skip top left (now (out .entry)) ⌝ }
 {
     let mut flat = [0; 384];
     let t = read(s, r, table, f, small, skip, top, left, &mut flat[..]);
@@ -76,7 +76,7 @@ fn read_residual(
 }
 
 fn arguments(table: &[u8], top: [u8; 9], left: [u8; 9], size: usize) -> bool
-    ensures { λ b. ⌜ b ≡ argumentsOf (now (table .entry)) top left size ⌝ }
+    ensures { λ b. ⌜ b ≡ residualArguments (now (table .entry)) top left size ⌝ }
 {
     (table.len() == 1056) & (flags_fine(top) & (flags_fine(left) & (size == 384)))
 }
@@ -94,7 +94,7 @@ pub fn decode(
     out: &mut [i32],
 ) -> Residual
     ensures { λ q. ⌜ record { answer = q; out = now (out .exit) }
-        ≡ decodeOf (now (s .entry)) r (now (table .entry)) f small skip top left (now (out .entry)) ⌝ }
+        ≡ residualCallOf (now (s .entry)) r (now (table .entry)) f small skip top left (now (out .entry)) ⌝ }
 {
     if !valid(s, r) {
         return no_residual(Ended::Refused);
@@ -118,7 +118,7 @@ pub fn decode_header(
     out: &mut [i32],
 ) -> Residual
     ensures { λ q. ⌜ record { answer = q; out = now (out .exit) }
-        ≡ decodeHeaderOf (now (s .entry)) r (now (h .entry)) segment small skip top left (now (out .entry)) ⌝ }
+        ≡ residualByHeaderOf (now (s .entry)) r (now (h .entry)) segment small skip top left (now (out .entry)) ⌝ }
 {
     let Quantizers::Ready(f) = for_segment(h, segment) else {
         return no_residual(Ended::Refused);

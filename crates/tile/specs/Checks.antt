@@ -9,7 +9,7 @@ use Rattle.numbers.specs.Tables.{allBelow}
 use Rattle.reader.specs.Boolean.{validOf, Valid}
 use Rattle.tile.specs.declared.Span.{Span}
 use Rattle.tile.specs.declared.Tile.{Tile}
-use Rattle.tile.specs.Partitions.{partOf, spanAt}
+use Rattle.tile.specs.Partitions.{contentsOf, spanAt}
 
 -- ---- 1: width and height, each a multiple of 16 in 16..16384
 unfoldable pub sideOf : ℕ → Bool
@@ -43,11 +43,11 @@ pub record Counted (n : ℕ) : Type 0 where
 unfoldable pub insideOf : ℕ → Span → Bool
 insideOf n s = leb (s .start + s .len) n
 
-unfoldable pub tokensOf : ℕ → Tile → Bool
-tokensOf n t = allBelow (t .count) (λ i. insideOf n (spanAt t i))
+unfoldable pub tokensFine : ℕ → Tile → Bool
+tokensFine n t = allBelow (t .count) (λ i. insideOf n (spanAt t i))
 
 unfoldable pub partitionsOf : List ℕ → Tile → Bool
-partitionsOf bytes t = insideOf (length bytes) (t .first) && tokensOf (length bytes) t && validOf (partOf bytes (t .first)) (t .reader)
+partitionsOf bytes t = insideOf (length bytes) (t .first) && tokensFine (length bytes) t && validOf (contentsOf bytes (t .first)) (t .reader)
 
 pub record Inside (n : ℕ) (s : Span) : Type 0 where
   pub fits : s .start + s .len ≤ n
@@ -55,4 +55,4 @@ pub record Inside (n : ℕ) (s : Span) : Type 0 where
 pub record Cut (bytes : List ℕ) (t : Tile) : Type 0 where
   pub first : Inside (length bytes) (t .first)
   pub tokens : (i : ℕ) → i < t .count → Inside (length bytes) (spanAt t i)
-  pub reader : Valid (partOf bytes (t .first)) (t .reader)
+  pub reader : Valid (contentsOf bytes (t .first)) (t .reader)

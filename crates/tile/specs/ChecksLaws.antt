@@ -14,9 +14,9 @@ use Rattle.reader.specs.Boolean.{validOf}
 use Rattle.reader.specs.BooleanLaws.{valid-test, valid-fact}
 use Rattle.tile.specs.declared.Span.{Span}
 use Rattle.tile.specs.declared.Tile.{Tile}
-use Rattle.tile.specs.Partitions.{partOf, noSpan, spanAt}
+use Rattle.tile.specs.Partitions.{contentsOf, noSpan, spanAt}
 use Rattle.tile.specs.PartitionsLaws.{span-past}
-use Rattle.tile.specs.Checks.{sideOf, sidesOf, Side, Sides, countOf, Counted, insideOf, tokensOf, partitionsOf, Inside, Cut}
+use Rattle.tile.specs.Checks.{sideOf, sidesOf, Side, Sides, countOf, Counted, insideOf, tokensFine, partitionsOf, Inside, Cut}
 
 -- ---- 1
 pub side-fact : (n : ℕ) → sideOf n ≡ true → Side n
@@ -75,25 +75,25 @@ module _ (n : ℕ) (s : Span) where
 
 -- the token partitions, as a loop tries them: one outside; or all inside, where past the eighth there is none
 module _ (n : ℕ) (t : Tile) where
-  tokens-fact : tokensOf n t ≡ true → (i : ℕ) → i < t .count → insideOf n (spanAt t i) ≡ true
-  unfolding tokensOf
+  tokens-fact : tokensFine n t ≡ true → (i : ℕ) → i < t .count → insideOf n (spanAt t i) ≡ true
+  unfolding tokensFine
   tokens-fact e i l = all-below (λ i. insideOf n (spanAt t i)) (t .count) e i l
 
   upto : (c : ℕ) → ((i : ℕ) → i < c → insideOf n (spanAt t i) ≡ true) → allBelow c (λ i. insideOf n (spanAt t i)) ≡ true
   upto zero f = refl
   upto (suc c) f = both-true (f c (omega arith)) (upto c (λ i l. f i (omega arith)))
 
-  tokens-test : ((i : ℕ) → i < t .count → insideOf n (spanAt t i) ≡ true) → tokensOf n t ≡ true
-  unfolding tokensOf
+  tokens-test : ((i : ℕ) → i < t .count → insideOf n (spanAt t i) ≡ true) → tokensFine n t ≡ true
+  unfolding tokensFine
   tokens-test f = upto (t .count) f
 
-  pub tokens-out : (i : ℕ) → i < t .count → insideOf n (spanAt t i) ≡ false → false ≡ tokensOf n t
-  tokens-out i l f = not-so (tokensOf n t) (λ e. never (tokens-fact e i l) f)
+  pub tokens-out : (i : ℕ) → i < t .count → insideOf n (spanAt t i) ≡ false → false ≡ tokensFine n t
+  tokens-out i l f = not-so (tokensFine n t) (λ e. never (tokens-fact e i l) f)
 
   past : (i : ℕ) → 8 ≤ i → insideOf n (spanAt t i) ≡ true
   past i h = rw (span-past t i h) (inside-test n noSpan (record { fits = omega arith }))
 
-  pub tokens-all : (i : ℕ) → ((k : ℕ) → k < i → insideOf n (spanAt t k) ≡ true) → (i ≡ t .count) ⊎ (i ≡ 8) → true ≡ tokensOf n t
+  pub tokens-all : (i : ℕ) → ((k : ℕ) → k < i → insideOf n (spanAt t k) ≡ true) → (i ≡ t .count) ⊎ (i ≡ 8) → true ≡ tokensFine n t
   tokens-all i f g = sym (tokens-test (λ k l. ⊎-elim (λ h. f k h) (λ h. past k (⊎-elim (λ q. absurd (omega arith)) (λ q. omega arith) g)) (lt-or k i)))
 
 -- all of them, as the code tries them
@@ -102,11 +102,11 @@ module _ (bytes : List ℕ) (t : Tile) where
   unfolding partitionsOf
   partitions-first e = rw (e, partitionsOf)
 
-  pub partitions-tokens : tokensOf (length bytes) t ≡ false → false ≡ partitionsOf bytes t
+  pub partitions-tokens : tokensFine (length bytes) t ≡ false → false ≡ partitionsOf bytes t
   unfolding partitionsOf
   partitions-tokens e = rw (both-false (insideOf (length bytes) (t .first)) e, partitionsOf)
 
-  pub partitions-reader : insideOf (length bytes) (t .first) ≡ true → tokensOf (length bytes) t ≡ true → validOf (partOf bytes (t .first)) (t .reader) ≡ partitionsOf bytes t
+  pub partitions-reader : insideOf (length bytes) (t .first) ≡ true → tokensFine (length bytes) t ≡ true → validOf (contentsOf bytes (t .first)) (t .reader) ≡ partitionsOf bytes t
   unfolding partitionsOf
   partitions-reader e f = rw (e, f, partitionsOf)
 
@@ -116,7 +116,7 @@ module _ (bytes : List ℕ) (t : Tile) where
   partitions-fact e =
       let n : ℕ = length bytes in
       let d : Bool = insideOf n (t .first) in
-      let k : Bool = tokensOf n t in
+      let k : Bool = tokensFine n t in
       let b = both-left (d && k) _ e in
       record {
         first = inside-fact _ _ (both-left d k b);

@@ -12,8 +12,8 @@ use Rattle.tile.specs.declared.Span.{Span}
 use Rattle.tile.specs.declared.Tile.{Tile}
 
 -- the contents of a span; what lies past the end of the bytes is not there
-unfoldable pub partOf : List ℕ → Span → List ℕ
-partOf bytes s = take (s .len) (drop (s .start) bytes)
+unfoldable pub contentsOf : List ℕ → Span → List ℕ
+contentsOf bytes s = take (s .len) (drop (s .start) bytes)
 
 -- token partition i: its span, of which there are eight, and its contents
 abbrev pub noSpan : Span
@@ -22,8 +22,8 @@ noSpan = record { start = 0; len = 0 }
 unfoldable pub spanAt : Tile → ℕ → Span
 spanAt t i = elim (ltb i 8) [ true ↦ getD (t .tokens) i noSpan | false ↦ noSpan ]
 
-abbrev pub tokenOf : List ℕ → Tile → ℕ → List ℕ
-tokenOf bytes t i = partOf bytes (spanAt t i)
+abbrev pub tokenContents : List ℕ → Tile → ℕ → List ℕ
+tokenContents bytes t i = contentsOf bytes (spanAt t i)
 
 -- a row reads the token partition of its number modulo the count (RFC 6386, section 9.5)
 unfoldable pub pickOf : (row count : ℕ) → ℕ
@@ -31,7 +31,7 @@ pickOf row count = elim (eqb count 0) [ true ↦ 0 | false ↦ row % count ]
 
 -- the reader that token partition i starts with; past the count there is none
 unfoldable pub readerOf : List ℕ → Tile → ℕ → Reader
-readerOf bytes t i = elim (ltb i (t .count)) [ true ↦ firstReader (tokenOf bytes t i) | false ↦ noReader ]
+readerOf bytes t i = elim (ltb i (t .count)) [ true ↦ firstReader (tokenContents bytes t i) | false ↦ noReader ]
 
 -- the eight of them
 unfoldable pub readersOf : List ℕ → Tile → List Reader

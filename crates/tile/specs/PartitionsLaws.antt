@@ -16,28 +16,28 @@ use Rattle.reader.specs.Boolean.{firstReader, noReader}
 use Rattle.reader.specs.BooleanLaws.{Bytes, Valid, first-valid}
 use Rattle.tile.specs.declared.Span.{Span}
 use Rattle.tile.specs.declared.Tile.{Tile}
-use Rattle.tile.specs.Partitions.{partOf, noSpan, spanAt, tokenOf, pickOf, readerOf, readersOf}
+use Rattle.tile.specs.Partitions.{contentsOf, noSpan, spanAt, tokenContents, pickOf, readerOf, readersOf}
 use Rattle.tile.specs.Checks.{Inside}
 
 -- ---- the contents of a span
 module _ (bytes : List ℕ) (s : Span) where
-  pub part-length : Inside (length bytes) s → length (partOf bytes s) ≡ s .len
-  unfolding partOf
+  pub part-length : Inside (length bytes) s → length (contentsOf bytes s) ≡ s .len
+  unfolding contentsOf
   part-length h = length-take-le (s .len) (drop (s .start) bytes) (rw length-drop (omega (arith, h .fits)))
 
-  part-most : length (partOf bytes s) ≤ s .len
-  unfolding partOf
+  part-most : length (contentsOf bytes s) ≤ s .len
+  unfolding contentsOf
   part-most = rw length-take (omega arith)
 
-  pub part-at : (i : ℕ) → i < s .len → getD (partOf bytes s) i 0 ≡ getD bytes (s .start + i) 0
-  unfolding partOf
+  pub part-at : (i : ℕ) → i < s .len → getD (contentsOf bytes s) i 0 ≡ getD bytes (s .start + i) 0
+  unfolding contentsOf
   part-at i h = rw (getD-take, getD-drop)
 
-  pub part-bytes : Bytes bytes → Bytes (partOf bytes s)
+  pub part-bytes : Bytes bytes → Bytes (contentsOf bytes s)
   part-bytes y i =
       ⊎-elim
       (λ l. rw (part-at i l) (y (s .start + i)))
-      (λ g. rw (List·getD-eq-default (partOf bytes s) 0 {n = i} (omega (arith, part-most))) (lit< tt))
+      (λ g. rw (List·getD-eq-default (contentsOf bytes s) 0 {n = i} (omega (arith, part-most))) (lit< tt))
       (lt-or i (s .len))
 
 -- a list's first n, where n is cut at its end
@@ -48,8 +48,8 @@ take-cut l k n c h = ⊎-elim
     c
 
 -- as the code cuts a span: its start and its length, each cut at the end of the bytes
-pub part-cut : (bytes : List ℕ) (s : Span) {a n : ℕ} → a ≤ s .start → (a ≡ s .start) ⊎ (a ≡ length bytes) → n ≤ s .len → (n ≡ s .len) ⊎ (n ≡ length bytes - a) → take (a + n - a) (drop a bytes) ≡ partOf bytes s
-unfolding partOf
+pub part-cut : (bytes : List ℕ) (s : Span) {a n : ℕ} → a ≤ s .start → (a ≡ s .start) ⊎ (a ≡ length bytes) → n ≤ s .len → (n ≡ s .len) ⊎ (n ≡ length bytes - a) → take (a + n - a) (drop a bytes) ≡ contentsOf bytes s
+unfolding contentsOf
 part-cut bytes s {a} {n} h c g d =
     let e : a + n - a ≡ n = omega arith in
     let f : drop a bytes ≡ drop (s .start) bytes =
@@ -62,11 +62,11 @@ part-cut bytes s {a} {n} h c g d =
     ap (λ (m : ℕ). take m (drop a bytes)) e ∙ k ∙ ap (take (s .len)) f
 
 -- the same contents, wherever the spans lie
-pub part-same : (b c : List ℕ) (s t : Span) → Inside (length b) s → Inside (length c) t → s .len ≡ t .len → ((i : ℕ) → i < s .len → getD b (s .start + i) 0 ≡ getD c (t .start + i) 0) → partOf b s ≡ partOf c t
+pub part-same : (b c : List ℕ) (s t : Span) → Inside (length b) s → Inside (length c) t → s .len ≡ t .len → ((i : ℕ) → i < s .len → getD b (s .start + i) 0 ≡ getD c (t .start + i) 0) → contentsOf b s ≡ contentsOf c t
 part-same b c s t f g e h =
-    let l : length (partOf b s) ≡ s .len = part-length b s f in
-    let k : length (partOf c t) ≡ t .len = part-length c t g in
-    ext-getD 0 (partOf b s) (partOf c t) (l ∙ e ∙ sym k)
+    let l : length (contentsOf b s) ≡ s .len = part-length b s f in
+    let k : length (contentsOf c t) ≡ t .len = part-length c t g in
+    ext-getD 0 (contentsOf b s) (contentsOf c t) (l ∙ e ∙ sym k)
     (λ i o. let a : i < s .len = rw l at o in part-at b s i a ∙ h i a ∙ sym (part-at c t i (omega arith)))
 
 -- ---- the spans of the token partitions
@@ -99,7 +99,7 @@ module _ (bytes : List ℕ) (t : Tile) where
   readers-length = length-build 8 (readerOf bytes t)
 
   module _ (i : ℕ) where
-    pub reader-first : i < t .count → readerOf bytes t i ≡ firstReader (tokenOf bytes t i)
+    pub reader-first : i < t .count → readerOf bytes t i ≡ firstReader (tokenContents bytes t i)
     unfolding readerOf
     reader-first h = rw (lt-ltb i (t .count) h, readerOf)
 
@@ -112,10 +112,10 @@ module _ (bytes : List ℕ) (t : Tile) where
     readers-at d h = getD-build 8 (readerOf bytes t) i d h
 
     -- THE LAW for callers of `openers`: the reader of a partition below the count is in range over it
-    pub readers-valid : (d : Reader) → Bytes bytes → i < 8 → i < t .count → Valid (tokenOf bytes t i) (getD (readersOf bytes t) i d)
-    readers-valid d y h l = rw (readers-at d h, reader-first l) (first-valid (tokenOf bytes t i) (part-bytes bytes (spanAt t i) y))
+    pub readers-valid : (d : Reader) → Bytes bytes → i < 8 → i < t .count → Valid (tokenContents bytes t i) (getD (readersOf bytes t) i d)
+    readers-valid d y h l = rw (readers-at d h, reader-first l) (first-valid (tokenContents bytes t i) (part-bytes bytes (spanAt t i) y))
 
 -- partitions of the same contents have the same reader
-pub readers-same : (b c : List ℕ) (t u : Tile) (i : ℕ) (d : Reader) → i < 8 → i < t .count → i < u .count → tokenOf b t i ≡ tokenOf c u i → getD (readersOf b t) i d ≡ getD (readersOf c u) i d
+pub readers-same : (b c : List ℕ) (t u : Tile) (i : ℕ) (d : Reader) → i < 8 → i < t .count → i < u .count → tokenContents b t i ≡ tokenContents c u i → getD (readersOf b t) i d ≡ getD (readersOf c u) i d
 readers-same b c t u i d h k l e =
     readers-at b t i d h ∙ reader-first b t i k ∙ ap firstReader e ∙ sym (readers-at c u i d h ∙ reader-first c u i l)

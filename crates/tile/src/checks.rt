@@ -5,7 +5,7 @@ use crate::partitions::least;
 use crate::partitions::part;
 use reader::boolean::valid;
 ghost use mathlib.Core.Path.{_≡_};
-ghost use Rattle.tile.specs.Checks.{sideOf, sidesOf, countOf, insideOf, tokensOf, partitionsOf};
+ghost use Rattle.tile.specs.Checks.{sideOf, sidesOf, countOf, insideOf, tokensFine, partitionsOf};
 
 // A side is a multiple of 16 in 16..=16384.
 pub fn side_fine(n: usize) -> bool
@@ -40,7 +40,7 @@ fn inside(n: usize, span: Span) -> bool
 
 // The same of the first `count` token partitions.
 fn tokens_inside(n: usize, tile: Tile) -> bool
-    ensures { λ r. ⌜ r ≡ tokensOf n tile ⌝ }
+    ensures { λ r. ⌜ r ≡ tokensFine n tile ⌝ }
 {
     let tokens = tile.tokens;
     let some = least(tile.count, 8);

@@ -7,7 +7,7 @@ ghost use mathlib.Core.Path.{_≡_};
 ghost use mathlib.Core.Logic.{_⊎_};
 ghost use Prim.Native.Nat.{_≤_};
 ghost use Rattle.reader.specs.Boolean.{noReader};
-ghost use Rattle.tile.specs.Partitions.{pickOf, partOf, spanAt, tokenOf, readerOf, readersOf};
+ghost use Rattle.tile.specs.Partitions.{pickOf, contentsOf, spanAt, tokenContents, readerOf, readersOf};
 
 // The token partition of a row; 0 where there is none.
 pub fn pick(row: usize, count: usize) -> usize
@@ -30,7 +30,7 @@ pub(crate) fn least(a: usize, b: usize) -> usize
 
 // The contents of a span: what lies past the end of the bytes is cut off.
 pub fn part(bytes: &[u8], span: Span) -> &[u8]
-    ensures { λ r. ⌜ now r ≡ partOf (now (bytes .entry)) span ⌝ }
+    ensures { λ r. ⌜ now r ≡ contentsOf (now (bytes .entry)) span ⌝ }
 {
     let n = bytes.len();
     let start = least(span.start, n);
@@ -51,7 +51,7 @@ fn span(tile: Tile, i: usize) -> Span
 
 // The contents of token partition i.
 pub fn token(bytes: &[u8], tile: Tile, i: usize) -> &[u8]
-    ensures { λ r. ⌜ now r ≡ tokenOf (now (bytes .entry)) tile i ⌝ }
+    ensures { λ r. ⌜ now r ≡ tokenContents (now (bytes .entry)) tile i ⌝ }
 {
     part(bytes, span(tile, i))
 }

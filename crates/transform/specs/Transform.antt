@@ -27,19 +27,19 @@ abbrev pub four {ℓ} : {A : Type ℓ} → (ℕ → A) → List A
 four f = f 0 ∷ f 1 ∷ f 2 ∷ f 3 ∷ []
 
 -- four of the sixteen coefficients
-abbrev pub rowOf : List ℤ → (from : ℕ) → List ℤ
-rowOf c from = four (λ x. at c (from + x))
+abbrev pub gridRow : List ℤ → (from : ℕ) → List ℤ
+gridRow c from = four (λ x. at c (from + x))
 
 -- the sixteen, row by row
 unfoldable pub gridOf : List ℤ → Grid
-gridOf c = four (λ y. rowOf c (4 * y))
+gridOf c = four (λ y. gridRow c (4 * y))
 
-abbrev pub columnOf : Grid → (x : ℕ) → List ℤ
-columnOf g x = four (λ y. cell g y x)
+abbrev pub gridColumn : Grid → (x : ℕ) → List ℤ
+gridColumn g x = four (λ y. cell g y x)
 
 -- columns for rows
 unfoldable pub transposeOf : Grid → Grid
-transposeOf g = four (columnOf g)
+transposeOf g = four (gridColumn g)
 
 -- ---- a line of four numbers through a transform
 -- k / 65536 of x
@@ -71,16 +71,16 @@ unfoldable pub rowsOf : (walsh : Bool) (bias : ℤ) → Grid → Grid
 rowsOf walsh bias g = four (λ y. lineOf walsh bias (getD g y []))
 
 -- the first pass: each column
-unfoldable pub verticalOf : (walsh : Bool) → Grid → Grid
-verticalOf walsh g = transposeOf (rowsOf walsh (pos 0) (transposeOf g))
+unfoldable pub verticalPass : (walsh : Bool) → Grid → Grid
+verticalPass walsh g = transposeOf (rowsOf walsh (pos 0) (transposeOf g))
 
 -- the second pass: each row, with the rounding of a division by 8
 abbrev pub biasOf : (walsh : Bool) → ℤ
 biasOf true = pos 3
 biasOf false = pos 4
 
-unfoldable pub horizontalOf : (walsh : Bool) → Grid → Grid
-horizontalOf walsh g = rowsOf walsh (biasOf walsh) g
+unfoldable pub horizontalPass : (walsh : Bool) → Grid → Grid
+horizontalPass walsh g = rowsOf walsh (biasOf walsh) g
 
 -- that division. A Walsh result is a coefficient again, so it is taken into 16 bits
 abbrev pub resultOf : (walsh : Bool) → ℤ → ℤ
@@ -92,15 +92,15 @@ resultsOf walsh g = build 16 (λ k. resultOf walsh (cell g (k / 4) (k % 4)))
 
 -- all of it: the sixteen results, row by row
 unfoldable pub samplesOf : (walsh : Bool) → (c : List ℤ) → List ℤ
-samplesOf walsh c = resultsOf walsh (horizontalOf walsh (verticalOf walsh (gridOf c)))
+samplesOf walsh c = resultsOf walsh (horizontalPass walsh (verticalPass walsh (gridOf c)))
 
 -- ---- the public call: 0 and the results, or 8 and zeros where a coefficient does not fit 16 bits
 abbrev pub fits16 : ℤ → Bool
 fits16 z = leZ (negsuc 32767) z && leZ z (pos 32767)
 
-unfoldable pub goodOf : List ℤ → Bool
-goodOf c = allBelow 16 (λ k. fits16 (at c k))
+unfoldable pub blockFits : List ℤ → Bool
+blockFits c = allBelow 16 (λ k. fits16 (at c k))
 
 unfoldable pub transformOf : (c : List ℤ) (walsh : Bool) → Transformed
 transformOf c walsh =
-    cond (goodOf c) (record { number = 0; samples = samplesOf walsh c }) (record { number = 8; samples = replicate 16 (pos 0) })
+    cond (blockFits c) (record { number = 0; samples = samplesOf walsh c }) (record { number = 8; samples = replicate 16 (pos 0) })

@@ -18,7 +18,7 @@ use Rattle.numbers.specs.Eval.{v, shr, know}
 use Rattle.numbers.specs.Hand.{known}
 use Rattle.numbers.specs.Bounds.{each-∷, each2-∷}
 use Rattle.numbers.specs.WrapLaws.{wrap-in, wrap-same}
-use Rattle.transform.specs.Transform.{Grid, cell, four, columnOf, transposeOf, scaledOf, passOf, lineOf, rowsOf, verticalOf, biasOf, horizontalOf, resultOf}
+use Rattle.transform.specs.Transform.{Grid, cell, four, gridColumn, transposeOf, scaledOf, passOf, lineOf, rowsOf, verticalPass, biasOf, horizontalPass, resultOf}
 
 -- a numeral between two others
 pub numeral-in : (z : ℤ) {l h : ℤ} → T (leZ l z && leZ z h) → In l h z
@@ -107,7 +107,7 @@ module _ {l h : ℤ} (z : In l h (pos 0)) where
 
 pub transpose-in : {l h : ℤ} {g : Grid} → In l h (pos 0) → Each2 l h g → Each2 l h (transposeOf g)
 unfolding transposeOf
-transpose-in {l} {h} {g} z e = lines-in z (columnOf g) (λ x. numbers-in z (λ y. cell g y x) (λ y. e .at y x))
+transpose-in {l} {h} {g} z e = lines-in z (gridColumn g) (λ x. numbers-in z (λ y. cell g y x) (λ y. e .at y x))
 
 pub rows-in : (walsh : Bool) {n : ℕ} {bias : ℤ} {g : Grid} → In (pos 0) (pos 4) bias → Each2 (negℤ (pos n)) (pos n) g
     → Each2 (negℤ (pos (6 * n + 8))) (pos (6 * n + 8)) (rowsOf walsh bias g)
@@ -120,13 +120,13 @@ bias-in true = numeral-in (pos 3) tt
 bias-in false = numeral-in (pos 4) tt
 
 -- numbers of 16 bits go no further than 200000 in the first pass, and those no further than 1200008 in the second
-pub vertical-in : (walsh : Bool) {g : Grid} → Each2 (negsuc 32767) (pos 32767) g → Each2 (negsuc 199999) (pos 200000) (verticalOf walsh g)
-unfolding verticalOf
+pub vertical-in : (walsh : Bool) {g : Grid} → Each2 (negsuc 32767) (pos 32767) g → Each2 (negsuc 199999) (pos 200000) (verticalPass walsh g)
+unfolding verticalPass
 vertical-in walsh e =
     each2-wider (transpose-in (near-zero 196616) (rows-in walsh (numeral-in (pos 0) tt) (transpose-in (near-zero 32768) (each2-wider e tt)))) tt
 
-pub horizontal-in : (walsh : Bool) {g : Grid} → Each2 (negsuc 199999) (pos 200000) g → Each2 (negsuc 1200007) (pos 1200008) (horizontalOf walsh g)
-unfolding horizontalOf
+pub horizontal-in : (walsh : Bool) {g : Grid} → Each2 (negsuc 199999) (pos 200000) g → Each2 (negsuc 1200007) (pos 1200008) (horizontalPass walsh g)
+unfolding horizontalPass
 horizontal-in walsh e = rows-in walsh (bias-in walsh) e
 
 -- a division rounds down below 0 too: -1 leaves -1

@@ -19,7 +19,7 @@ use Rattle.numbers.specs.Tables.{allBelow, all-below}
 use Rattle.numbers.specs.Tests.{lt-or, both-true, both-left, both-right, cond-at, not-so}
 use Rattle.numbers.specs.WrapLaws.{wrap-in}
 use Rattle.transform.specs.declared.Transformed.{Transformed}
-use Rattle.transform.specs.Transform.{Grid, at, cell, four, rowOf, gridOf, transposeOf, scaledOf, passOf, rowsOf, verticalOf, biasOf, horizontalOf, resultOf, resultsOf, samplesOf, fits16, goodOf, transformOf}
+use Rattle.transform.specs.Transform.{Grid, at, cell, four, gridRow, gridOf, transposeOf, scaledOf, passOf, rowsOf, verticalPass, biasOf, horizontalPass, resultOf, resultsOf, samplesOf, fits16, blockFits, transformOf}
 use Rattle.transform.specs.TransformBounds.{numeral-in, vertical-in, horizontal-in, result-in}
 
 -- ---- the scaled product
@@ -61,7 +61,7 @@ transpose-at g =
 
 -- ---- coefficients
 -- sixteen that fit 16 bits
-pub record Coefficients (c : List ℤ) : Type 0 where
+pub record CoefficientsIn (c : List ℤ) : Type 0 where
   pub fit : (k : ℕ) → k < 16 → In (negsuc 32767) (pos 32767) (at c k)
 
 fits-in : (z : ℤ) → fits16 z ≡ true → In (negsuc 32767) (pos 32767) z
@@ -74,31 +74,31 @@ below-all : (f : ℕ → Bool) (n : ℕ) → ((i : ℕ) → i < n → f i ≡ tr
 below-all f zero h = refl
 below-all f (suc n) h = both-true (h n (omega arith)) (below-all f n (λ i l. h i (omega arith)))
 
-pub good-fit : {c : List ℤ} → goodOf c ≡ true → Coefficients c
-unfolding goodOf
+pub good-fit : {c : List ℤ} → blockFits c ≡ true → CoefficientsIn c
+unfolding blockFits
 good-fit {c} e = record { fit = λ k h. fits-in (at c k) (all-below (λ i. fits16 (at c i)) 16 e k h) }
 
-pub fit-good : {c : List ℤ} → Coefficients c → goodOf c ≡ true
-unfolding goodOf
+pub fit-good : {c : List ℤ} → CoefficientsIn c → blockFits c ≡ true
+unfolding blockFits
 fit-good {c} f = below-all (λ i. fits16 (at c i)) 16 (λ i h. both-true (le-true (f .fit i h .low)) (le-true (f .fit i h .high)))
 
-pub grid-in : {c : List ℤ} → Coefficients c → Each2 (negsuc 32767) (pos 32767) (gridOf c)
+pub grid-in : {c : List ℤ} → CoefficientsIn c → Each2 (negsuc 32767) (pos 32767) (gridOf c)
 unfolding gridOf
 grid-in {c} f = each2-∷ (row 0 (lit< tt)) (each2-∷ (row 1 (lit< tt)) (each2-∷ (row 2 (lit< tt)) (each2-∷ (row 3 (lit< tt)) (each2-[] tt))))
   where
-    row : (y : ℕ) → y < 4 → Each (negsuc 32767) (pos 32767) (rowOf c (4 * y))
+    row : (y : ℕ) → y < 4 → Each (negsuc 32767) (pos 32767) (gridRow c (4 * y))
     row y h =
         let n : (x : ℕ) → x < 4 → In (negsuc 32767) (pos 32767) (at c (4 * y + x)) = λ x l. f .fit (4 * y + x) (omega arith) in
         each-∷ (n 0 (lit< tt)) (each-∷ (n 1 (lit< tt)) (each-∷ (n 2 (lit< tt)) (each-∷ (n 3 (lit< tt)) (each-[] tt))))
 
 -- ---- the answer: the results where all fit, else a refusal
-pub transform-good : {c : List ℤ} (walsh : Bool) → Coefficients c → transformOf c walsh ≡ record { number = 0; samples = samplesOf walsh c }
+pub transform-good : {c : List ℤ} (walsh : Bool) → CoefficientsIn c → transformOf c walsh ≡ record { number = 0; samples = samplesOf walsh c }
 unfolding transformOf
 transform-good walsh f = rw (fit-good f)
 
-pub transform-refused : {c : List ℤ} (walsh : Bool) → (Coefficients c → ⊥) → transformOf c walsh ≡ record { number = 8; samples = replicate 16 (pos 0) }
+pub transform-refused : {c : List ℤ} (walsh : Bool) → (CoefficientsIn c → ⊥) → transformOf c walsh ≡ record { number = 8; samples = replicate 16 (pos 0) }
 unfolding transformOf
-transform-refused {c} walsh n = rw (sym (not-so (goodOf c) (λ e. n (good-fit e))))
+transform-refused {c} walsh n = rw (sym (not-so (blockFits c) (λ e. n (good-fit e))))
 
 -- ---- the results: sixteen numbers no further out than 150001, refused or not, and those of Walsh in 16 bits
 each-build : {l h : ℤ} (n : ℕ) (f : ℕ → ℤ) → In l h (pos 0) → ((k : ℕ) → In l h (f k)) → Each l h (build n f)
@@ -110,16 +110,16 @@ each-build {l} {h} n f z p = record { at = go }
       | inr e ↦ rw (getD-build-past n f k (pos 0) e) z
     ]
 
-pub samples-in : {c : List ℤ} (walsh : Bool) → Coefficients c → Each (negsuc 150000) (pos 150001) (samplesOf walsh c)
+pub samples-in : {c : List ℤ} (walsh : Bool) → CoefficientsIn c → Each (negsuc 150000) (pos 150001) (samplesOf walsh c)
 unfolding samplesOf resultsOf
 samples-in walsh f =
     let e = horizontal-in walsh (vertical-in walsh (grid-in f)) in
     each-build 16 _ (numeral-in (pos 0) tt) (λ k. result-in walsh (e .at (k / 4) (k % 4)))
 
 module _ (c : List ℤ) where
-  answer : (walsh : Bool) (P : List ℤ → Type 0) → (Coefficients c → P (samplesOf walsh c)) → P (replicate 16 (pos 0)) → P (transformOf c walsh .samples)
+  answer : (walsh : Bool) (P : List ℤ → Type 0) → (CoefficientsIn c → P (samplesOf walsh c)) → P (replicate 16 (pos 0)) → P (transformOf c walsh .samples)
   unfolding transformOf
-  answer walsh P f z = cond-at (goodOf c) (λ (t : Transformed). P (t .samples)) (λ e. f (good-fit e)) (λ e. z)
+  answer walsh P f z = cond-at (blockFits c) (λ (t : Transformed). P (t .samples)) (λ e. f (good-fit e)) (λ e. z)
 
   pub length-transform : (walsh : Bool) → length (transformOf c walsh .samples) ≡ 16
   unfolding samplesOf resultsOf
@@ -161,12 +161,12 @@ plain-grid {c} p =
     z : (k : ℕ) → T (ltb 0 k) → T (ltb k 16) → at c k ≡ pos 0
     z k a b = p .zero k (lit< a) (lit< b)
 
-plain-vertical : (walsh : Bool) (d : ℤ) → verticalOf walsh (gridOf (d ∷ [])) ≡ four (λ y. d ∷ pos 0 ∷ pos 0 ∷ pos 0 ∷ [])
-unfolding gridOf transposeOf rowsOf verticalOf
+plain-vertical : (walsh : Bool) (d : ℤ) → verticalPass walsh (gridOf (d ∷ [])) ≡ four (λ y. d ∷ pos 0 ∷ pos 0 ∷ pos 0 ∷ [])
+unfolding gridOf transposeOf rowsOf verticalPass
 plain-vertical walsh d = rw (pass-plain walsh (pos 0) d, pass-zero walsh) (simp +ℤ-idr)
 
-plain-horizontal : (walsh : Bool) (d : ℤ) → horizontalOf walsh (four (λ y. d ∷ pos 0 ∷ pos 0 ∷ pos 0 ∷ [])) ≡ four (λ y. four (λ x. d +ℤ biasOf walsh))
-unfolding rowsOf horizontalOf
+plain-horizontal : (walsh : Bool) (d : ℤ) → horizontalPass walsh (four (λ y. d ∷ pos 0 ∷ pos 0 ∷ pos 0 ∷ [])) ≡ four (λ y. four (λ x. d +ℤ biasOf walsh))
+unfolding rowsOf horizontalPass
 plain-horizontal walsh d = rw pass-plain
 
 -- with every coefficient but the first 0, one number stands in all sixteen places

@@ -18,9 +18,9 @@ use Rattle.numbers.specs.Hand.{known}
 use Rattle.numbers.specs.Floor.{floor16-source, floor8-source}
 use Rattle.numbers.specs.WrapLaws.{signed16, wrapped-source}
 use Rattle.numbers.specs.Lists.{getD-build}
-use Rattle.transform.specs.Transform.{Grid, at, cell, gridOf, transposeOf, scaledOf, passOf, rowsOf, verticalOf, biasOf, horizontalOf, resultOf, resultsOf, samplesOf, transformOf}
+use Rattle.transform.specs.Transform.{Grid, at, cell, gridOf, transposeOf, scaledOf, passOf, rowsOf, verticalPass, biasOf, horizontalPass, resultOf, resultsOf, samplesOf, transformOf}
 use Rattle.transform.specs.TransformBounds.{vertical-in, horizontal-in}
-use Rattle.transform.specs.TransformLaws.{below-four, Coefficients, grid-in, transform-good}
+use Rattle.transform.specs.TransformLaws.{below-four, CoefficientsIn, grid-in, transform-good}
 
 -- ---- the source's definitions
 abbrev pub floor16 : ℤ → ℤ
@@ -99,17 +99,17 @@ pass-source false a b c d bias i j =
     (rw (e3, e4)) (rw (e1, e2)) (rw (e1, e2)) (rw (e3, e4))
 
 vertical-at : (c : List ℤ) (walsh : Bool) (x : ℕ) → x < 4 → (y : ℕ) → y < 4
-    → cell (verticalOf walsh (gridOf c)) y x ≡ at (passOf walsh (pos 0) (at c x) (at c (4 + x)) (at c (8 + x)) (at c (12 + x))) y
-unfolding gridOf transposeOf rowsOf verticalOf
+    → cell (verticalPass walsh (gridOf c)) y x ≡ at (passOf walsh (pos 0) (at c x) (at c (4 + x)) (at c (8 + x)) (at c (12 + x))) y
+unfolding gridOf transposeOf rowsOf verticalPass
 vertical-at c walsh =
-    below-four (λ x. (y : ℕ) → y < 4 → cell (verticalOf walsh (gridOf c)) y x ≡ at (passOf walsh (pos 0) (at c x) (at c (4 + x)) (at c (8 + x)) (at c (12 + x))) y)
+    below-four (λ x. (y : ℕ) → y < 4 → cell (verticalPass walsh (gridOf c)) y x ≡ at (passOf walsh (pos 0) (at c x) (at c (4 + x)) (at c (8 + x)) (at c (12 + x))) y)
     (below-four _ refl refl refl refl) (below-four _ refl refl refl refl) (below-four _ refl refl refl refl) (below-four _ refl refl refl refl)
 
 horizontal-at : (g : Grid) (walsh : Bool) (x y : ℕ) → y < 4
-    → cell (horizontalOf walsh g) y x ≡ at (passOf walsh (biasOf walsh) (cell g y 0) (cell g y 1) (cell g y 2) (cell g y 3)) x
-unfolding rowsOf horizontalOf
+    → cell (horizontalPass walsh g) y x ≡ at (passOf walsh (biasOf walsh) (cell g y 0) (cell g y 1) (cell g y 2) (cell g y 3)) x
+unfolding rowsOf horizontalPass
 horizontal-at g walsh x =
-    below-four (λ y. cell (horizontalOf walsh g) y x ≡ at (passOf walsh (biasOf walsh) (cell g y 0) (cell g y 1) (cell g y 2) (cell g y 3)) x) refl refl refl refl
+    below-four (λ y. cell (horizontalPass walsh g) y x ≡ at (passOf walsh (biasOf walsh) (cell g y 0) (cell g y 1) (cell g y 2) (cell g y 3)) x) refl refl refl refl
 
 pub result-source : (walsh : Bool) {z : ℤ} → In (negsuc 1200007) (pos 1200008) z → resultOf walsh z ≡ rounded z walsh
 result-source true {z} i =
@@ -117,9 +117,9 @@ result-source true {z} i =
     rw e (wrapped-source (In-wider (inside (know w64 (known (plainly i) ∷ []) (shr (v 0) 3) tt)) tt))
 result-source false {z} i = sym (floor8-source z (In-wider {l′ = negsuc 1073741823} {h′ = pos 1200008} i tt .low))
 
-module _ {c : List ℤ} (walsh : Bool) (f : Coefficients c) where
+module _ {c : List ℤ} (walsh : Bool) (f : CoefficientsIn c) where
   -- row y, column x of the first pass
-  pub vertical-source : (x y : ℕ) → x < 4 → y < 4 → cell (verticalOf walsh (gridOf c)) y x ≡ vertical c x y walsh
+  pub vertical-source : (x y : ℕ) → x < 4 → y < 4 → cell (verticalPass walsh (gridOf c)) y x ≡ vertical c x y walsh
   vertical-source x y p q =
       vertical-at c walsh x p y q ∙
       pass-source walsh (at c x) (at c (4 + x)) (at c (8 + x)) (at c (12 + x)) (pos 0) (In-wider (f .fit (4 + x) (omega arith)) tt)
@@ -129,14 +129,14 @@ module _ {c : List ℤ} (walsh : Bool) (f : Coefficients c) where
   pub sample-source : (k : ℕ) → k < 16 → at (samplesOf walsh c) k ≡ sample c k walsh
   unfolding samplesOf resultsOf
   sample-source k h =
-      let g = verticalOf walsh (gridOf c) in
+      let g = verticalPass walsh (gridOf c) in
       let e = vertical-in walsh (grid-in f) in
       let y = k / 4 in
       let x = k % 4 in
       let p : y < 4 = omega arith in
       let q : x < 4 = omega arith in
       let s = pass-source walsh (cell g y 0) (cell g y 1) (cell g y 2) (cell g y 3) (biasOf walsh) (In-wider (e .at y 1) tt) (In-wider (e .at y 3) tt) x q in
-      getD-build 16 (λ i. resultOf walsh (cell (horizontalOf walsh g) (i / 4) (i % 4))) k (pos 0) h ∙
+      getD-build 16 (λ i. resultOf walsh (cell (horizontalPass walsh g) (i / 4) (i % 4))) k (pos 0) h ∙
       result-source walsh (horizontal-in walsh e .at y x) ∙
       rw (horizontal-at g walsh x y p, s, vertical-source 0 y (lit< tt) p, vertical-source 1 y (lit< tt) p, vertical-source 2 y (lit< tt) p, vertical-source 3 y (lit< tt) p)
 

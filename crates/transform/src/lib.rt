@@ -7,9 +7,9 @@ ghost use lib.IntN.{ℤ, pos, negsuc, _+ℤ_};
 ghost use lib.ListN.{replicate};
 ghost use Rattle.numbers.specs.In.{In, Each, Each2};
 ghost use Rattle.numbers.specs.Wrap.{wrapZ};
-ghost use Rattle.transform.specs.Transform.{scaledOf, lineOf, transposeOf, gridOf, columnOf, rowOf, verticalOf, biasOf, horizontalOf};
-ghost use Rattle.transform.specs.Transform.{resultOf, resultsOf, samplesOf, goodOf, transformOf};
-ghost use Rattle.transform.specs.TransformLaws.{Coefficients, PlainTo};
+ghost use Rattle.transform.specs.Transform.{scaledOf, lineOf, transposeOf, gridOf, gridColumn, gridRow, verticalPass, biasOf, horizontalPass};
+ghost use Rattle.transform.specs.Transform.{resultOf, resultsOf, samplesOf, blockFits, transformOf};
+ghost use Rattle.transform.specs.TransformLaws.{CoefficientsIn, PlainTo};
 
 type Grid = [[i32; 4]; 4];
 
@@ -85,7 +85,7 @@ fn line(r: [i32; 4], bias: i32, walsh: bool) -> [i32; 4]
 // Number x of each row.
 fn column(g: Grid, x: usize) -> [i32; 4]
     requires { ⌜ x < 4 ⌝ }
-    ensures { λ r. ⌜ r ≡ columnOf g x ⌝ }
+    ensures { λ r. ⌜ r ≡ gridColumn g x ⌝ }
 {
     [g[0][x], g[1][x], g[2][x], g[3][x]]
 }
@@ -100,7 +100,7 @@ fn transpose(g: Grid) -> Grid
 // Four coefficients in order.
 fn row(c: &[i32; 16], at: usize) -> [i32; 4]
     requires { ⌜ at ≤ 12 ⌝ }
-    ensures { λ r. ⌜ r ≡ rowOf (now (c .entry)) at ⌝ }
+    ensures { λ r. ⌜ r ≡ gridRow (now (c .entry)) at ⌝ }
 {
     [c[at], c[at + 1], c[at + 2], c[at + 3]]
 }
@@ -153,7 +153,7 @@ fn bias(walsh: bool) -> i32
 // more than the compiler draws into the transform.
 fn vertical(g: Grid, walsh: bool) -> Grid
     requires { ⌜ Each2 (negsuc 32767) (pos 32767) g ⌝ }
-    ensures { λ r. ⌜ r ≡ verticalOf walsh g ⌝ }
+    ensures { λ r. ⌜ r ≡ verticalPass walsh g ⌝ }
 {
     let t = transpose(g);
     transpose([
@@ -167,7 +167,7 @@ fn vertical(g: Grid, walsh: bool) -> Grid
 // The second pass, over the rows.
 fn horizontal(g: Grid, walsh: bool) -> Grid
     requires { ⌜ Each2 (negsuc 199999) (pos 200000) g ⌝ }
-    ensures { λ r. ⌜ r ≡ horizontalOf walsh g ⌝ }
+    ensures { λ r. ⌜ r ≡ horizontalPass walsh g ⌝ }
 {
     let b = bias(walsh);
     [
@@ -188,7 +188,7 @@ fn shortcut(dc: i32, walsh: bool) -> [i32; 16]
 
 // One look at the coefficients. It goes on after one that does not fit or is not 0, so that the compiler can take several at once.
 fn look(c: &[i32; 16]) -> Seen
-    ensures { λ r. ⌜ r .fits ≡ goodOf (now (c .entry)) ⌝ }
+    ensures { λ r. ⌜ r .fits ≡ blockFits (now (c .entry)) ⌝ }
     ensures { λ r. ⌜ (r .plain ≡ true → PlainTo 16 (now (c .entry))) ⌝ }
 {
     let mut fits = true;
@@ -208,7 +208,7 @@ fn look(c: &[i32; 16]) -> Seen
 
 // The results of coefficients that fit. Each way names its transform by a constant, so that the compiler can join the passes.
 fn samples(c: &[i32; 16], walsh: bool, plain: bool) -> [i32; 16]
-    requires { ⌜ Coefficients (now c) ⌝ }
+    requires { ⌜ CoefficientsIn (now c) ⌝ }
     requires { ⌜ (plain ≡ true → PlainTo 16 (now c)) ⌝ }
     ensures { λ r. ⌜ r ≡ samplesOf walsh (now (c .entry)) ⌝ }
 {

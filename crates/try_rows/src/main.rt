@@ -1,7 +1,7 @@
 // Runs the worked numbers of the scope through the code and prints them: those of crates/promises/specs/Worked.antt, which are
 // proved of the definitions, and those that are only run.
-use coefficients::tokens::Block;
-use coefficients::tokens::decode;
+use coefficients::block::Block;
+use coefficients::block::decode;
 use filter::filter;
 use numbers::Wrapped;
 use numbers::wrap16;

@@ -10,7 +10,7 @@ use lib.ListN.{length, getD}
 use borrow.Author.Tests.{leb-true, eqb-true, le-leb, lt-leb, eq-eqb, ne-eqb}
 use Rattle.numbers.specs.Tests.{both-left, both-right}
 use Rattle.webp.specs.declared.read.Found.the-variants as F
-use Rattle.webp.specs.Webp.{byteAt, uint32At, riff, webp, vp8, fourCCAt, markedOf, sizedOf, lossyOf, sizeOf, filledOf, refusalOf, refusedOf, findOf}
+use Rattle.webp.specs.Webp.{byteAt, uint32At, riff, webp, vp8, fourCCAt, markedOf, sizedOf, lossyOf, chunkSize, filledOf, findRefusal, foundRefusal, findOf}
 
 -- ---- numbers of four bytes
 module _ (s : List ℕ) (i : ℕ) where
@@ -51,7 +51,7 @@ module _ (s : List ℕ) where
   unfolding filledOf
   filled-short h = rw (lt-leb _ _ h)
 
-  module _ {n : ℕ} (long : 20 ≤ length s) (e : n ≡ sizeOf s) where
+  module _ {n : ℕ} (long : 20 ≤ length s) (e : n ≡ chunkSize s) where
     pub filled-odds : (20 + n + n % 2 ≡ length s → ⊥) → false ≡ filledOf s
     unfolding filledOf
     filled-odds h = rw (le-leb _ _ long, ← e, ne-eqb _ _ h)
@@ -66,24 +66,24 @@ module _ (s : List ℕ) where
 
 -- ---- the number
 module _ (marked sized lossy filled : Bool) where
-  pub refusal-mark : marked ≡ false → 17 ≡ refusalOf marked sized lossy filled
-  unfolding refusalOf
+  pub refusal-mark : marked ≡ false → 17 ≡ findRefusal marked sized lossy filled
+  unfolding findRefusal
   refusal-mark e = rw e
 
-  pub refusal-size : marked ≡ true → sized ≡ false → 18 ≡ refusalOf marked sized lossy filled
-  unfolding refusalOf
+  pub refusal-size : marked ≡ true → sized ≡ false → 18 ≡ findRefusal marked sized lossy filled
+  unfolding findRefusal
   refusal-size e f = rw (e, f)
 
-  pub refusal-kind : marked ≡ true → sized ≡ true → lossy ≡ false → 19 ≡ refusalOf marked sized lossy filled
-  unfolding refusalOf
+  pub refusal-kind : marked ≡ true → sized ≡ true → lossy ≡ false → 19 ≡ findRefusal marked sized lossy filled
+  unfolding findRefusal
   refusal-kind e f g = rw (e, f, g)
 
-  pub refusal-chunk : marked ≡ true → sized ≡ true → lossy ≡ true → filled ≡ false → 18 ≡ refusalOf marked sized lossy filled
-  unfolding refusalOf
+  pub refusal-chunk : marked ≡ true → sized ≡ true → lossy ≡ true → filled ≡ false → 18 ≡ findRefusal marked sized lossy filled
+  unfolding findRefusal
   refusal-chunk e f g h = rw (e, f, g, h)
 
-  pub refusal-none : marked ≡ true → sized ≡ true → lossy ≡ true → filled ≡ true → 0 ≡ refusalOf marked sized lossy filled
-  unfolding refusalOf
+  pub refusal-none : marked ≡ true → sized ≡ true → lossy ≡ true → filled ≡ true → 0 ≡ findRefusal marked sized lossy filled
+  unfolding findRefusal
   refusal-none e f g h = rw (e, f, g, h)
 
 -- ---- what a file that is not refused has
@@ -93,15 +93,15 @@ pub record Fits (s : List ℕ) : Type 0 where
   pub size : uint32At s 4 + 8 ≡ length s
   pub vp8 : fourCCAt s 12 vp8 ≡ true
   pub long : 20 ≤ length s
-  pub ends : 20 + sizeOf s + sizeOf s % 2 ≡ length s
-  pub pad : (sizeOf s % 2 ≡ 0) ⊎ (byteAt s (20 + sizeOf s) ≡ 0)
+  pub ends : 20 + chunkSize s + chunkSize s % 2 ≡ length s
+  pub pad : (chunkSize s % 2 ≡ 0) ⊎ (byteAt s (20 + chunkSize s) ≡ 0)
 
 or-true : (a b : Bool) → a || b ≡ true → (a ≡ true) ⊎ (b ≡ true)
 or-true true b e = inl refl
 or-true false b e = inr e
 
-none-refused : (a b c d : Bool) → refusalOf a b c d ≡ 0 → (a ≡ true) × (b ≡ true) × (c ≡ true) × (d ≡ true)
-unfolding refusalOf
+none-refused : (a b c d : Bool) → findRefusal a b c d ≡ 0 → (a ≡ true) × (b ≡ true) × (c ≡ true) × (d ≡ true)
+unfolding findRefusal
 none-refused false b c d e = absurd (omega arith)
 none-refused true false c d e = absurd (omega arith)
 none-refused true true false d e = absurd (omega arith)
@@ -111,7 +111,7 @@ none-refused true true true true e = (refl, refl, refl, refl)
 fits-facts : (s : List ℕ) → markedOf s ≡ true → sizedOf s ≡ true → lossyOf s ≡ true → filledOf s ≡ true → Fits s
 unfolding markedOf sizedOf lossyOf filledOf
 fits-facts s p q r t =
-    let ends : Bool = eqb (20 + sizeOf s + sizeOf s % 2) (length s) in
+    let ends : Bool = eqb (20 + chunkSize s + chunkSize s % 2) (length s) in
     let rest = both-right (leb 20 (length s)) _ t in
     record {
       riff = both-left _ _ p;
@@ -120,24 +120,24 @@ fits-facts s p q r t =
       vp8 = r;
       long = leb-true 20 _ (both-left _ _ t);
       ends = eqb-true _ _ (both-left ends _ rest);
-      pad = ⊎-elim (λ e. inl (eqb-true _ _ e)) (λ e. inr (eqb-true _ _ e)) (or-true (eqb (sizeOf s % 2) 0) _ (both-right ends _ rest));
+      pad = ⊎-elim (λ e. inl (eqb-true _ _ e)) (λ e. inr (eqb-true _ _ e)) (or-true (eqb (chunkSize s % 2) 0) _ (both-right ends _ rest));
     }
 
-pub fits : (s : List ℕ) → refusedOf s ≡ 0 → Fits s
+pub fits : (s : List ℕ) → foundRefusal s ≡ 0 → Fits s
 fits s e = let f = none-refused (markedOf s) (sizedOf s) (lossyOf s) (filledOf s) e in fits-facts s (f .0) (f .1) (f .2) (f .3)
 
 -- ---- the reader's answer, as the code finds it
 module _ (s : List ℕ) where
-  pub find-good : refusedOf s ≡ 0 → F.At 20 (sizeOf s) ≡ findOf s
+  pub find-good : foundRefusal s ≡ 0 → F.At 20 (chunkSize s) ≡ findOf s
   unfolding findOf
   find-good e = rw (eq-eqb _ _ e, findOf)
 
-  pub find-bad : (refusedOf s ≡ 0 → ⊥) → F.Refused (refusedOf s) ≡ findOf s
+  pub find-bad : (foundRefusal s ≡ 0 → ⊥) → F.Refused (foundRefusal s) ≡ findOf s
   unfolding findOf
   find-bad e = rw (ne-eqb _ _ e, findOf)
 
-module _ (s : List ℕ) {a b c d : Bool} {n : ℕ} (p : a ≡ markedOf s) (q : b ≡ sizedOf s) (r : c ≡ lossyOf s) (t : d ≡ filledOf s) (e : n ≡ refusalOf a b c d) where
-  number-is : n ≡ refusedOf s
+module _ (s : List ℕ) {a b c d : Bool} {n : ℕ} (p : a ≡ markedOf s) (q : b ≡ sizedOf s) (r : c ≡ lossyOf s) (t : d ≡ filledOf s) (e : n ≡ findRefusal a b c d) where
+  number-is : n ≡ foundRefusal s
   number-is = rw (← p, ← q, ← r, ← t) e
 
   pub find-refused : (n ≡ 0 → ⊥) → F.Refused n ≡ findOf s
@@ -146,5 +146,5 @@ module _ (s : List ℕ) {a b c d : Bool} {n : ℕ} (p : a ≡ markedOf s) (q : b
   pub find-long : n ≡ 0 → 20 ≤ length s
   find-long z = fits s (sym number-is ∙ z) .long
 
-  pub find-at : {m : ℕ} → n ≡ 0 → m ≡ sizeOf s → F.At 20 m ≡ findOf s
+  pub find-at : {m : ℕ} → n ≡ 0 → m ≡ chunkSize s → F.At 20 m ≡ findOf s
   find-at z f = rw f (find-good s (sym number-is ∙ z))

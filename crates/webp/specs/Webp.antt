@@ -70,47 +70,47 @@ unfoldable pub lossyOf : List ℕ → Bool
 lossyOf s = fourCCAt s 12 vp8
 
 -- 2.3: the chunk with its pad byte ends where the bytes end, and a pad byte is 0
-abbrev pub sizeOf : List ℕ → ℕ
-sizeOf s = uint32At s 16
+abbrev pub chunkSize : List ℕ → ℕ
+chunkSize s = uint32At s 16
 
 unfoldable pub filledOf : List ℕ → Bool
 filledOf s =
     leb 20 (length s)
-    && (eqb (20 + sizeOf s + sizeOf s % 2) (length s) && (eqb (sizeOf s % 2) 0 || eqb (byteAt s (20 + sizeOf s)) 0))
+    && (eqb (20 + chunkSize s + chunkSize s % 2) (length s) && (eqb (chunkSize s % 2) 0 || eqb (byteAt s (20 + chunkSize s)) 0))
 
 -- the first that fails gives its number
-unfoldable pub refusalOf : (marked sized lossy filled : Bool) → ℕ
-refusalOf false sized lossy filled = 17
-refusalOf true false lossy filled = 18
-refusalOf true true false filled = 19
-refusalOf true true true false = 18
-refusalOf true true true true = 0
+unfoldable pub findRefusal : (marked sized lossy filled : Bool) → ℕ
+findRefusal false sized lossy filled = 17
+findRefusal true false lossy filled = 18
+findRefusal true true false filled = 19
+findRefusal true true true false = 18
+findRefusal true true true true = 0
 
-abbrev pub refusedOf : List ℕ → ℕ
-refusedOf s = refusalOf (markedOf s) (sizedOf s) (lossyOf s) (filledOf s)
+abbrev pub foundRefusal : List ℕ → ℕ
+foundRefusal s = findRefusal (markedOf s) (sizedOf s) (lossyOf s) (filledOf s)
 
 -- THE READER: the frame is the chunk's payload
 unfoldable pub findOf : List ℕ → Found
-findOf s = elim (eqb (refusedOf s) 0) [ true ↦ F.At 20 (sizeOf s) | false ↦ F.Refused (refusedOf s) ]
+findOf s = elim (eqb (foundRefusal s) 0) [ true ↦ F.At 20 (chunkSize s) | false ↦ F.Refused (foundRefusal s) ]
 
 -- ---- the writer
-pub record Ended : Type 0 where
+pub record WriteEnded : Type 0 where
   pub answer : Wrapped
   pub out : List ℕ
 
 -- a file at the start of the room, what lies behind it unchanged; 16 where the room is too small
-unfoldable pub placedOf : List ℕ → List ℕ → Ended
-placedOf file out =
+unfoldable pub writtenInto : List ℕ → List ℕ → WriteEnded
+writtenInto file out =
     elim (leb (length file) (length out)) [
       | true ↦ record { answer = W.Written (length file); out = file ++ drop (length file) out }
       | false ↦ record { answer = W.Refused 16; out = out }
     ]
 
 -- THE WRITER; 18 where the RIFF size would pass its most
-unfoldable pub wrapOf : List ℕ → List ℕ → Ended
+unfoldable pub wrapOf : List ℕ → List ℕ → WriteEnded
 wrapOf frame out =
     elim (leb (riffSize (length frame)) mostSize) [
-      | true ↦ placedOf (fileOf frame) out
+      | true ↦ writtenInto (fileOf frame) out
       | false ↦ record { answer = W.Refused 18; out = out }
     ]
 

@@ -10,10 +10,11 @@ use lib.Dec.{leb, eqb}
 use lib.ListN.{length, getD, take, drop, length-append, length-drop, take-append-drop}
 use lib.Seq.{take-append-seam, drop-drop, getD-take, getD-drop, getD-append-add, length-take-le}
 use borrow.Author.Tests.{eqb-true, eq-eqb}
+pub use Rattle.numbers.specs.Lists.{Bytes}
 use Rattle.numbers.specs.Tests.{eq-or, both-left, both-right, both-true}
 use Rattle.numbers.specs.Lists.{build-listed, built, constant, getD-constant, _∷≡_}
 use Rattle.webp.specs.declared.read.Found.the-variants as F
-use Rattle.webp.specs.Webp.{byteAt, uint32At, uint32Of, riff, webp, vp8, fourCCAt, padOf, riffSize, fileOf, markedOf, sizedOf, lossyOf, sizeOf, filledOf, refusedOf, findOf}
+use Rattle.webp.specs.Webp.{byteAt, uint32At, uint32Of, riff, webp, vp8, fourCCAt, padOf, riffSize, fileOf, markedOf, sizedOf, lossyOf, chunkSize, filledOf, foundRefusal, findOf}
 use Rattle.webp.specs.ReadLaws.{Fits, fits, fourCC-long, sized-long, filled-even, filled-pad, refusal-none, find-good, find-bad}
 use Rattle.webp.specs.WriteLaws.{headOf, head-length, file-parts, file-length}
 
@@ -41,7 +42,7 @@ module _ (frame : List ℕ) (fits : length frame ≤ 4294967274) where
   unfolding uint32At fileOf
   file-riff = uint32-back (riffSize (length frame)) (omega arith)
 
-  file-size : sizeOf (fileOf frame) ≡ length frame
+  file-size : chunkSize (fileOf frame) ≡ length frame
   unfolding uint32At fileOf
   file-size = uint32-back (length frame) (omega arith)
 
@@ -90,10 +91,6 @@ module _ (frame : List ℕ) (fits : length frame ≤ 4294967274) where
 unfoldable four : List ℕ → ℕ → List ℕ
 four s i = byteAt s i ∷ byteAt s (i + 1) ∷ byteAt s (i + 2) ∷ byteAt s (i + 3) ∷ []
 
--- every number of the list is a byte
-abbrev pub Bytes : List ℕ → Type 0
-Bytes s = (i : ℕ) → byteAt s i < 256
-
 module _ (s : List ℕ) (i : ℕ) where
   four-mark : (c : List ℕ) → fourCCAt s i c ≡ true → four s i ≡ getD c 0 0 ∷ getD c 1 0 ∷ getD c 2 0 ∷ getD c 3 0 ∷ []
   unfolding four fourCCAt
@@ -117,40 +114,40 @@ module _ (s : List ℕ) (f : Fits s) where
       built (take 20 s) 20 (byteAt s) 0 (length-take-le 20 s (f .long)) (λ i h. getD-take 20 s i 0 h)
       ∙ build-listed 20 (byteAt s)
 
-  behind : drop (20 + sizeOf s) s ≡ padOf (sizeOf s)
-  behind = constant (drop (20 + sizeOf s) s) (sizeOf s % 2) 0 (rw length-drop (omega (arith, f .ends))) zero-at
+  behind : drop (20 + chunkSize s) s ≡ padOf (chunkSize s)
+  behind = constant (drop (20 + chunkSize s) s) (chunkSize s % 2) 0 (rw length-drop (omega (arith, f .ends))) zero-at
     where
-      zero-at : (i : ℕ) → i < sizeOf s % 2 → getD (drop (20 + sizeOf s) s) i 0 ≡ 0
+      zero-at : (i : ℕ) → i < chunkSize s % 2 → getD (drop (20 + chunkSize s) s) i 0 ≡ 0
       zero-at i h =
           ⊎-elim
           (λ e. absurd (omega arith))
-          (λ e. let z : 20 + sizeOf s + i ≡ 20 + sizeOf s = omega arith in rw (getD-drop (20 + sizeOf s) s i 0, z) e)
+          (λ e. let z : 20 + chunkSize s + i ≡ 20 + chunkSize s = omega arith in rw (getD-drop (20 + chunkSize s) s i 0, z) e)
           (f .pad)
 
-  head-read : Bytes s → take 20 s ≡ headOf (sizeOf s)
+  head-read : Bytes s → take 20 s ≡ headOf (chunkSize s)
   unfolding headOf
   head-read b =
-      let e : uint32At s 4 ≡ riffSize (sizeOf s) = omega (arith, f .size, f .ends) in
+      let e : uint32At s 4 ≡ riffSize (chunkSize s) = omega (arith, f .size, f .ends) in
       front
       ∙ rw (four-mark s 0 riff (f .riff), four-size s 4 b, four-mark s 8 webp (f .webp), four-mark s 12 vp8 (f .vp8), four-size s 16 b, e)
 
-  frame-length : length (take (sizeOf s) (drop 20 s)) ≡ sizeOf s
-  frame-length = length-take-le (sizeOf s) (drop 20 s) (rw length-drop (omega (arith, f .ends)))
+  frame-length : length (take (chunkSize s) (drop 20 s)) ≡ chunkSize s
+  frame-length = length-take-le (chunkSize s) (drop 20 s) (rw length-drop (omega (arith, f .ends)))
 
-  fits-file : Bytes s → fileOf (take (sizeOf s) (drop 20 s)) ≡ s
+  fits-file : Bytes s → fileOf (take (chunkSize s) (drop 20 s)) ≡ s
   fits-file b =
-      let n : ℕ = sizeOf s in
+      let n : ℕ = chunkSize s in
       sym (file-parts (take n (drop 20 s)))
       ∙ rw (frame-length, ← head-read b, ← behind, ← drop-drop n 20 s, append-assoc, take-append-drop n (drop 20 s), take-append-drop 20 s)
 
 -- what an answer of the reader says
 pub record Place (s : List ℕ) (start len : ℕ) : Type 0 where
   pub first : start ≡ 20
-  pub size : len ≡ sizeOf s
+  pub size : len ≡ chunkSize s
   pub fits : Fits s
 
 pub found : (s : List ℕ) {start len : ℕ} → findOf s ≡ F.At start len → Place s start len
-found s {start} {len} e = elim (eq-or (refusedOf s) 0) [
+found s {start} {len} e = elim (eq-or (foundRefusal s) 0) [
   | inl z ↦
       let g = find-good s z in
       record { first = cc; size = cc; fits = fits s z }

@@ -2,7 +2,7 @@
 use Prim.Native.Nat.{ℕ}
 use mathlib.Core.Path.{_≡_, refl}
 use mathlib.Core.List.{List, [], _∷_, _++_}
-use Rattle.webp.specs.Webp.{uint32At, uint32Of, riff, webp, vp8, fourCCAt, fileOf, markedOf, sizedOf, lossyOf, filledOf, refusalOf, findOf, foundNumberOf, foundStartOf, foundLengthOf}
+use Rattle.webp.specs.Webp.{uint32At, uint32Of, riff, webp, vp8, fourCCAt, fileOf, markedOf, sizedOf, lossyOf, filledOf, findRefusal, findOf, foundNumberOf, foundStartOf, foundLengthOf}
 
 -- a row: the bytes, and what the reader must say of them
 pub record Row : Type 0 where
@@ -65,5 +65,5 @@ table =
     ∷ []
 
 pub worked : given table ≡ wanted table
-unfolding uint32At fourCCAt fileOf markedOf sizedOf lossyOf filledOf refusalOf findOf
+unfolding uint32At fourCCAt fileOf markedOf sizedOf lossyOf filledOf findRefusal findOf
 worked = refl

@@ -10,7 +10,7 @@ use borrow.Author.Tests.{le-leb, lt-leb}
 use Rattle.numbers.specs.Tests.{lt-or}
 use Rattle.webp.specs.declared.write.Wrapped.{Wrapped}
 use Rattle.webp.specs.declared.write.Wrapped.the-variants as W
-use Rattle.webp.specs.Webp.{uint32Of, riff, webp, vp8, padOf, riffSize, mostSize, fileOf, Ended, placedOf, wrapOf}
+use Rattle.webp.specs.Webp.{uint32Of, riff, webp, vp8, padOf, riffSize, mostSize, fileOf, WriteEnded, writtenInto, wrapOf}
 
 -- ---- twenty bytes before a frame of n
 unfoldable pub headOf : ℕ → List ℕ
@@ -79,17 +79,17 @@ module _ (frame out : List ℕ) where
   unfolding wrapOf
   wrap-long h = let l : 4294967286 < riffSize (length frame) = omega arith in rw (lt-leb _ _ l, wrapOf)
 
-  wrap-fits : length frame ≤ 4294967274 → wrapOf frame out ≡ placedOf (fileOf frame) out
+  wrap-fits : length frame ≤ 4294967274 → wrapOf frame out ≡ writtenInto (fileOf frame) out
   unfolding wrapOf
   wrap-fits h = let l : riffSize (length frame) ≤ 4294967286 = omega arith in rw (le-leb _ _ l, wrapOf)
 
   pub wrap-small : length frame ≤ 4294967274 → length out < 20 + length frame + length frame % 2 → record { answer = W.Refused 16; out = out } ≡ wrapOf frame out
-  unfolding placedOf
-  wrap-small h k = let l : length out < length (fileOf frame) = rw (file-length frame) k in rw (wrap-fits h, lt-leb _ _ l, placedOf)
+  unfolding writtenInto
+  wrap-small h k = let l : length out < length (fileOf frame) = rw (file-length frame) k in rw (wrap-fits h, lt-leb _ _ l, writtenInto)
 
   pub wrap-good : length frame ≤ 4294967274 → 20 + length frame + length frame % 2 ≤ length out → record { answer = W.Written (20 + length frame + length frame % 2); out = fileOf frame ++ drop (length (fileOf frame)) out } ≡ wrapOf frame out
-  unfolding placedOf
-  wrap-good h k = let l : length (fileOf frame) ≤ length out = rw (file-length frame) k in rw (wrap-fits h, le-leb _ _ l, placedOf, file-length frame)
+  unfolding writtenInto
+  wrap-good h k = let l : length (fileOf frame) ≤ length out = rw (file-length frame) k in rw (wrap-fits h, le-leb _ _ l, writtenInto, file-length frame)
 
   pub wrap-laid : {a b c d : List ℕ} → length frame ≤ 4294967274 → 20 + length frame + length frame % 2 ≤ length out
       → a ≡ headOf (length frame) → b ≡ laid out 0 a → c ≡ laid b 20 frame → d ≡ laid c (20 + length frame) (take (length frame % 2 - 0) (0 ∷ []))
@@ -114,8 +114,8 @@ module _ (frame out : List ℕ) where
   Said (W.Written n) after = Whole frame out n after
   Said (W.Refused n) after = Not frame out n after
 
-  said : (e : Ended) → e ≡ wrapOf frame out → Said (e .answer) (e .out) → Said (wrapOf frame out .answer) (wrapOf frame out .out)
-  said e p = subst (λ (r : Ended). Said (r .answer) (r .out)) p
+  said : (e : WriteEnded) → e ≡ wrapOf frame out → Said (e .answer) (e .out) → Said (wrapOf frame out .answer) (wrapOf frame out .out)
+  said e p = subst (λ (r : WriteEnded). Said (r .answer) (r .out)) p
 
   wrap-said : Said (wrapOf frame out .answer) (wrapOf frame out .out)
   wrap-said =
@@ -129,7 +129,7 @@ module _ (frame out : List ℕ) where
       (lt-or 4294967274 (length frame))
 
   pub written : {n : ℕ} {after : List ℕ} → wrapOf frame out ≡ record { answer = W.Written n; out = after } → Whole frame out n after
-  written e = subst (λ (r : Ended). Said (r .answer) (r .out)) e wrap-said
+  written e = subst (λ (r : WriteEnded). Said (r .answer) (r .out)) e wrap-said
 
   pub not-written : {n : ℕ} {after : List ℕ} → wrapOf frame out ≡ record { answer = W.Refused n; out = after } → Not frame out n after
-  not-written e = subst (λ (r : Ended). Said (r .answer) (r .out)) e wrap-said
+  not-written e = subst (λ (r : WriteEnded). Said (r .answer) (r .out)) e wrap-said

@@ -2,7 +2,7 @@
 ghost use mathlib.Core.Path.{_≡_};
 ghost use Prim.Native.Nat.{_+_, _<_, _≤_};
 ghost use lib.ListN.{length};
-ghost use Rattle.webp.specs.Webp.{byteAt, uint32At, fourCCAt, markedOf, sizedOf, lossyOf, filledOf, refusalOf, findOf};
+ghost use Rattle.webp.specs.Webp.{byteAt, uint32At, fourCCAt, markedOf, sizedOf, lossyOf, filledOf, findRefusal, findOf};
 
 // Where the frame stands in the file.
 pub enum Found {
@@ -89,7 +89,7 @@ fn filled(s: &[u8]) -> bool
 
 // The number of the first test that fails, or 0.
 fn refusal(marked: bool, sized: bool, lossy: bool, filled: bool) -> u32
-    ensures { λ r. ⌜ r ≡ refusalOf marked sized lossy filled ⌝ }
+    ensures { λ r. ⌜ r ≡ findRefusal marked sized lossy filled ⌝ }
 {
     if !marked {
         return 17;

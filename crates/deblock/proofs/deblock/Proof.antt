@@ -2,7 +2,7 @@
 use mathlib.Core.Path.{_≡_, sym, _∙_}
 use borrow.Author.Needs.{needs}
 use lib.ListN.{length}
-use Rattle.deblock.specs.Deblock.{refusalOf}
+use Rattle.deblock.specs.Deblock.{deblockRefusal}
 use Rattle.deblock.specs.ChecksLaws.{Fine, fine, luma-whole, blue-whole, red-whole, refused, done, picture-simple, picture-normal}
 use Rattle.deblock.proofs.deblock.Statement.{statement}
 use Rattle.deblock.proofs.deblock.Tie as tie
@@ -11,7 +11,7 @@ abbrev start : tie.Else1 → tie.Start
 start c = c .before .before .before .before .before .before
 
 -- past the checks
-zero : (c : tie.Else1) → let a = start c .args in 0 ≡ refusalOf (a .width) (a .height) (length (a .y .now)) (length (a .u .now)) (length (a .v .now)) (a .strengths .now)
+zero : (c : tie.Else1) → let a = start c .args in 0 ≡ deblockRefusal (a .width) (a .height) (length (a .y .now)) (length (a .u .now)) (length (a .v .now)) (a .strengths .now)
 zero c = sym (c .if1 .left) ∙ c .before .refusal .ensures
 
 good : (c : tie.Else1) → let a = start c .args in Fine (a .width) (a .height) (length (a .y .now)) (length (a .u .now)) (length (a .v .now)) (a .strengths .now)

@@ -3,7 +3,7 @@ use mathlib.Core.Path.{ap, _∙_}
 use borrow.Author.Needs.{needs}
 use denote.Ref.{now}
 use Rattle.filter.specs.declared.answers.Rule.{Rule}
-use Rattle.filter.specs.Kernel.{samplesOf, stepsOf, movedOf, filterOf}
+use Rattle.filter.specs.Kernel.{samplesAcross, stepsOf, movedOf, filterOf}
 use Rattle.filter.proofs.filter.Statement.{statement}
 use Rattle.filter.proofs.filter.Tie as tie
 
@@ -11,7 +11,7 @@ returns : tie.Need-returns
 unfolding filterOf
 returns c =
     let e = now (c .before .before .args .e) in
-    c .acted .ensures ∙ ap (λ (r : Rule). movedOf e (stepsOf r (samplesOf e))) (c .before .rule .ensures)
+    c .acted .ensures ∙ ap (λ (r : Rule). movedOf e (stepsOf r (samplesAcross e))) (c .before .rule .ensures)
 
 pub filter-spec : {M : Type 1} → statement M
 filter-spec = tie.close (tie.spec (λ c κs. search needs) (λ c κs. search needs) returns)

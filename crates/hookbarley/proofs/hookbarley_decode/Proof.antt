@@ -1,7 +1,7 @@
 use Rattle.tile.specs.declared.Tile.{Tile}
 use Rattle.lent.specs.Memory.{Memory, memoryOf}
 use Rattle.picture.specs.Checks.{Call, callOf}
-use Rattle.hookbarley.specs.Calls.{spansOf}
+use Rattle.hookbarley.specs.Calls.{spansFrom}
 use Rattle.hookbarley.specs.CallsLaws.{called-starts, called-lengths, called-found}
 use borrow.Author.Needs.{needs}
 use Rattle.hookbarley.proofs.hookbarley_decode.Statement.{statement}
@@ -17,7 +17,7 @@ abbrev call : tie.Start → Call
 call c =
     let a = c .args in
     callOf (a .bytes .now)
-    (record { first = record { start = a .start; len = a .len }; tokens = spansOf (a .starts .now) (a .lengths .now); reader = record { at = a .at; range = a .range; shifts = a .shifts; window = a .window }; count = a .count; width = a .width; height = a .height })
+    (record { first = record { start = a .start; len = a .len }; tokens = spansFrom (a .starts .now) (a .lengths .now); reader = record { at = a .at; range = a .range; shifts = a .shifts; window = a .window }; count = a .count; width = a .width; height = a .height })
     (a .header .now)
 
 abbrev lent : tie.Start → Memory

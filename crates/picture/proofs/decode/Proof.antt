@@ -8,7 +8,7 @@ use Rattle.picture.proofs.decode.Statement.{statement}
 use Rattle.picture.proofs.decode.Tie as tie
 use Rattle.picture.proofs.decode.Reads as reads
 use Rattle.picture.proofs.decode.Lts as lts
-use Rattle.coefficients.proofs.tokens.probabilities.Reads as probabilities-reads
+use Rattle.coefficients.proofs.block.probabilities.Reads as probabilities-reads
 use Rattle.picture.proofs.checks.refusal.Reads as refusal-reads
 use Rattle.lent.proofs.memory.blank.Reads as blank-reads
 use Rattle.picture.proofs.rows.rows.Reads as rows-reads

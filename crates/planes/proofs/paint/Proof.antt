@@ -6,7 +6,7 @@ use native.Mathlib.Omega.{arith}
 use borrow.Author.Needs.{needs}
 use borrow.Author.Tests.{not-true, not-false}
 use lib.ListN.{length}
-use Rattle.planes.specs.Paint.{modesFine, squareFine, paintFine}
+use Rattle.planes.specs.Paint.{paintModesFine, squareFine, paintFine}
 use Rattle.planes.specs.PaintLaws.{modes-size, square-tiled, fine-good}
 use Rattle.planes.specs.Places.{size-some}
 use Rattle.planes.proofs.Turns.{refused-modes, refused-square, refused-coefficients, all-fine, done}
@@ -14,7 +14,7 @@ use Rattle.planes.proofs.paint.Statement.{statement}
 use Rattle.planes.proofs.paint.Tie as tie
 
 -- past the first check, and the second
-modes : (c : tie.Else1) → let a = c .before .before .before .args in modesFine (a .size) (a .small) (a .mode) (a .modes .now) ≡ true
+modes : (c : tie.Else1) → let a = c .before .before .before .args in paintModesFine (a .size) (a .small) (a .mode) (a .modes .now) ≡ true
 modes c = sym (c .before .modes-fine .ensures) ∙ not-false _ (c .if1 .left)
 
 square : (c : tie.Else2) → let a = c .before .before .before .before .before .args in squareFine (length (a .plane .now)) (a .stride) (a .column) (a .row) (a .size) ≡ true

@@ -11,7 +11,7 @@ use Rattle.numbers.specs.Know.{round, inside-read}
 use Rattle.numbers.specs.Eval.{Var}
 use Rattle.numbers.specs.Hand.{known, answered}
 use Rattle.numbers.specs.Lists.{_∷≡_}
-use Rattle.transform.specs.Transform.{lineOf, rowsOf, biasOf, horizontalOf}
+use Rattle.transform.specs.Transform.{lineOf, rowsOf, biasOf, horizontalPass}
 use Rattle.transform.specs.TransformBounds.{bias-in}
 use Rattle.transform.proofs.horizontal.Statement.{statement}
 use Rattle.transform.proofs.horizontal.Tie as tie
@@ -30,7 +30,7 @@ row : (c : tie.After-bias) (y : ℕ) {q : List ℤ} → let r : List ℤ = getD 
 row c y e = e ∙ ap (λ (x : ℤ). lineOf (c .before .args .walsh) x (getD (c .before .args .t1) y [])) (b c .is .eq)
 
 returns : tie.Need-returns
-unfolding rowsOf horizontalOf
+unfolding rowsOf horizontalPass
 returns c =
     let c3 = c .before .before in
     let c2 = c3 .before .before in

@@ -16,7 +16,7 @@ use mir.Val.{ofZ}
 use Rattle.numbers.specs.Hand.{back, same-bits}
 use Rattle.numbers.specs.Tables.{allBelow}
 use Rattle.numbers.specs.Tests.{both-left, both-right}
-use Rattle.transform.specs.Transform.{at, fits16, goodOf}
+use Rattle.transform.specs.Transform.{at, fits16, blockFits}
 use Rattle.transform.specs.TransformLaws.{PlainTo}
 use Rattle.transform.proofs.look.Statement.{statement}
 use Rattle.transform.proofs.look.Tie as tie
@@ -65,7 +65,7 @@ loop-again c =
     )
 
 returns : tie.Need-returns Inv-loop μ-loop
-unfolding goodOf
+unfolding blockFits
 returns c =
     let l = c .before .loop in
     let e : l .k ≡ 16 = omega arith in

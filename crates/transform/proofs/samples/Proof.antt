@@ -9,9 +9,9 @@ use lib.ListN.{replicate}
 use mir.Syntax.{w32}
 use Rattle.numbers.specs.In.{Each2}
 use Rattle.numbers.specs.Hand.{there, passed}
-use Rattle.transform.specs.Transform.{Grid, gridOf, verticalOf, biasOf, horizontalOf, resultOf, samplesOf}
+use Rattle.transform.specs.Transform.{Grid, gridOf, verticalPass, biasOf, horizontalPass, resultOf, samplesOf}
 use Rattle.transform.specs.TransformBounds.{vertical-in, horizontal-in}
-use Rattle.transform.specs.TransformLaws.{Coefficients, grid-in, shortcut}
+use Rattle.transform.specs.TransformLaws.{CoefficientsIn, grid-in, shortcut}
 use Rattle.transform.proofs.samples.Statement.{statement}
 use Rattle.transform.proofs.samples.Tie as tie
 
@@ -19,14 +19,14 @@ shortcut-requires : tie.Need-shortcut-requires
 shortcut-requires c κs = passed w32 (c .before .before .pre .0 .fit 0 (lit< tt)) tt tt
 
 -- what each stage requires, from what the stages before it answered
-module _ (w : Bool) {cs : List ℤ} {g : Grid} (f : Coefficients cs) (a : g ≡ gridOf cs) where
+module _ (w : Bool) {cs : List ℤ} {g : Grid} (f : CoefficientsIn cs) (a : g ≡ gridOf cs) where
   ask-vertical : Each2 (negsuc 32767) (pos 32767) g
   ask-vertical = rw a (grid-in f)
 
-  ask-horizontal : {u : Grid} → u ≡ verticalOf w g → Each2 (negsuc 199999) (pos 200000) u
+  ask-horizontal : {u : Grid} → u ≡ verticalPass w g → Each2 (negsuc 199999) (pos 200000) u
   ask-horizontal b = rw b (vertical-in w ask-vertical)
 
-  ask-results : {u h : Grid} → u ≡ verticalOf w g → h ≡ horizontalOf w u → Each2 (negsuc 1200007) (pos 1200008) h
+  ask-results : {u h : Grid} → u ≡ verticalPass w g → h ≡ horizontalPass w u → Each2 (negsuc 1200007) (pos 1200008) h
   ask-results b c = rw c (horizontal-in w (ask-horizontal b))
 
 returns : tie.Need-returns

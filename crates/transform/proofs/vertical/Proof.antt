@@ -7,7 +7,7 @@ use lib.IntN.{pos, negsuc}
 use lib.ListN.{getD}
 use Rattle.numbers.specs.In.{In, Each, Each2}
 use Rattle.numbers.specs.Lists.{_∷≡_}
-use Rattle.transform.specs.Transform.{Grid, transposeOf, rowsOf, verticalOf}
+use Rattle.transform.specs.Transform.{Grid, transposeOf, rowsOf, verticalPass}
 use Rattle.transform.specs.TransformBounds.{numeral-in, near-zero, each2-wider, transpose-in}
 use Rattle.transform.proofs.vertical.Statement.{statement}
 use Rattle.transform.proofs.vertical.Tie as tie
@@ -19,7 +19,7 @@ ask s x =
     (record { at = e .at x }, numeral-in _ tt)
 
 returns : tie.Need-returns
-unfolding rowsOf verticalOf
+unfolding rowsOf verticalPass
 returns c =
     let c4 = c .before in
     let c3 = c4 .before .before in

@@ -4,7 +4,7 @@ use Rattle.try_rows.proofs.held.Statement.{statement}
 use Rattle.try_rows.proofs.held.Tie as tie
 use Rattle.try_rows.proofs.held.Reads as reads
 use Rattle.try_rows.proofs.held.Lts as lts
-use Rattle.coefficients.proofs.tokens.decode.Reads as decode-reads
+use Rattle.coefficients.proofs.block.decode.Reads as decode-reads
 use Rattle.reader.proofs.boolean.open.Reads as open-reads
 use Rattle.try_rows.proofs.first.Reads as first-reads
 use Rattle.try_rows.proofs.kind.Reads as kind-reads

@@ -3,7 +3,7 @@ use borrow.Author.Needs.{needs}
 use Prim.Native.Nat.{_-_}
 use mathlib.Core.Path.{refl}
 use Rattle.numbers.specs.Lists.{Filled, filled-none, filled-next, filled-all}
-use Rattle.casefile.specs.CaseFile.{entryAt, headerOf}
+use Rattle.casefile.specs.CaseFile.{entryAt, caseHeader}
 use Rattle.casefile.proofs.layout.header.Statement.{statement}
 use Rattle.casefile.proofs.layout.header.Tie as tie
 
@@ -44,7 +44,7 @@ loop-again : tie.Need-loop-again Inv-loop μ-loop
 loop-again c = filled-next _ (search needs) (entry-stored _ _ (c .before .half .ensures) (c .signed .ensures)) (c .before .before .before .loop .inv)
 
 returns : tie.Need-returns Inv-loop μ-loop
-unfolding headerOf
+unfolding caseHeader
 returns c = filled-all (search needs) (c .before .loop .inv)
 
 pub header-spec : {M : Type 1} → statement M

@@ -3,7 +3,7 @@ use native.Mathlib.Omega.{arith}
 use mathlib.Core.Path.{refl}
 use borrow.Author.Needs.{needs}
 use Rattle.numbers.specs.Lists.{Filled, filled-none, filled-next, filled-all}
-use Rattle.casefile.specs.CaseFile.{slotOf, spansOf}
+use Rattle.casefile.specs.CaseFile.{slotOf, caseSpans}
 use Rattle.casefile.proofs.layout.spans.Statement.{statement}
 use Rattle.casefile.proofs.layout.spans.Tie as tie
 
@@ -20,7 +20,7 @@ loop-again : tie.Need-loop-again Inv-loop μ-loop
 loop-again c = filled-next _ (search needs) (c .slot .ensures) (c .before .before .loop .inv)
 
 returns : tie.Need-returns Inv-loop μ-loop
-unfolding spansOf
+unfolding caseSpans
 returns c = filled-all (search needs) (c .before .loop .inv)
 
 pub spans-spec : {M : Type 1} → statement M

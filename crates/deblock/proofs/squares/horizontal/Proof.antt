@@ -2,7 +2,7 @@
 use native.Mathlib.Omega.{arith}
 use borrow.Author.Needs.{needs}
 use Rattle.deblock.specs.Located.{level-at, level-in}
-use Rattle.deblock.specs.Deblock.{horizontalOf}
+use Rattle.deblock.specs.Deblock.{horizontalEdges}
 use Rattle.deblock.proofs.squares.horizontal.Statement.{statement}
 use Rattle.deblock.proofs.squares.horizontal.Tie as tie
 
@@ -16,7 +16,7 @@ sweep-requires : tie.Need-sweep-requires
 sweep-requires c κs = (level-in (c .before .before .pre), c .before .before .pre .some)
 
 returns : tie.Need-returns
-unfolding horizontalOf
+unfolding horizontalEdges
 returns c = c .before .before .sweep .ensures
 
 pub horizontal-spec : {M : Type 1} → statement M

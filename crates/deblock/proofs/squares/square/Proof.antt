@@ -7,7 +7,7 @@ use borrow.Author.Tests.{eq-eqb, ne-eqb}
 use borrow.Author.Needs.{needs}
 use lib.Dec.{eqb}
 use lib.ListN.{length}
-use Rattle.deblock.specs.Deblock.{when, outerEdge, innerEdge, verticalOf, horizontalOf, verticalsOf}
+use Rattle.deblock.specs.Deblock.{when, outerEdge, innerEdge, verticalEdges, horizontalEdges, verticalsOf}
 use Rattle.deblock.specs.DeblockLaws.{when-yes, when-no, when-long, length-vertical, length-horizontal, length-inner-v, length-inner-h, square-is}
 use Rattle.deblock.specs.Located.{past-first, square-left, square-top}
 use Rattle.deblock.proofs.squares.square.Statement.{statement}
@@ -18,7 +18,7 @@ abbrev start : tie.Joined1 → tie.Start
 start c = c .before .before .before .before .before
 
 -- the plane after each of the first three parts
-first : (c : tie.Joined1) → let a = start c .args in c .if1 .p ≡ when (not (eqb (a .column) 0)) (verticalOf (outerEdge (a .simple) (a .t)) (a .w) (a .column * a .n) (a .row * a .n) (a .n)) (a .p .now)
+first : (c : tie.Joined1) → let a = start c .args in c .if1 .p ≡ when (not (eqb (a .column) 0)) (verticalEdges (outerEdge (a .simple) (a .t)) (a .w) (a .column * a .n) (a .row * a .n) (a .n)) (a .p .now)
 first c =
     let o = c .before .before .before .outer-of .ensures in
     ⊎-elim (λ v. when-yes _ _ (ap not (ne-eqb _ 0 (v .0 .taken))) (v .5 ∙ rw (← o) (v .2 .ensures))) (λ v. when-no _ _ (ap not (eq-eqb _ 0 (v .0 .left))) (v .1)) (c .if1 .came)
@@ -28,7 +28,7 @@ second c =
     let o = c .before .before .before .inner-of .ensures in
     ⊎-elim (λ v. when-yes _ _ (v .0 .taken) (v .5 ∙ rw (← o) (v .2 .ensures))) (λ v. when-no _ _ (v .0 .left) (v .1)) (c .if2 .came)
 
-third : (c : tie.Joined3) → let a = start (c .before .before) .args in c .if3 .p ≡ when (not (eqb (a .row) 0)) (horizontalOf (outerEdge (a .simple) (a .t)) (a .w) (a .column * a .n) (a .row * a .n) (a .n)) (c .before .if2 .p)
+third : (c : tie.Joined3) → let a = start (c .before .before) .args in c .if3 .p ≡ when (not (eqb (a .row) 0)) (horizontalEdges (outerEdge (a .simple) (a .t)) (a .w) (a .column * a .n) (a .row * a .n) (a .n)) (c .before .if2 .p)
 third c =
     let o = c .before .before .before .before .before .outer-of .ensures in
     ⊎-elim (λ v. when-yes _ _ (ap not (ne-eqb _ 0 (v .0 .taken))) (v .5 ∙ rw (← o) (v .2 .ensures))) (λ v. when-no _ _ (ap not (eq-eqb _ 0 (v .0 .left))) (v .1)) (c .if3 .came)

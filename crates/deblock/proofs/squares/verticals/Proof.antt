@@ -3,13 +3,13 @@ use Prim.Native.Nat.{ℕ, _+_, _-_, _*_, _/_, _≤_}
 use mathlib.Core.Path.{_≡_, refl, sym, _∙_}
 use native.Mathlib.Omega.{arith}
 use Rattle.deblock.specs.Located.{size-eight, square-upright}
-use Rattle.deblock.specs.Deblock.{turns, verticalOf, verticalsOf}
+use Rattle.deblock.specs.Deblock.{turns, verticalEdges, verticalsOf}
 use Rattle.deblock.specs.DeblockLaws.{turns-none, turns-next, length-verticals}
 use Rattle.deblock.proofs.squares.verticals.Statement.{statement}
 use Rattle.deblock.proofs.squares.verticals.Tie as tie
 
 abbrev Inv-loop : tie.InvT-loop
-Inv-loop p₀ w x y n g j₀ j-end p j = (j ≤ j-end) × (j-end ≡ n / 4 - 1) × (p ≡ turns (λ (k : ℕ). verticalOf g w (x + 4 * k + 4) y n) j p₀)
+Inv-loop p₀ w x y n g j₀ j-end p j = (j ≤ j-end) × (j-end ≡ n / 4 - 1) × (p ≡ turns (λ (k : ℕ). verticalEdges g w (x + 4 * k + 4) y n) j p₀)
 
 abbrev μ-loop : tie.MeasureT-loop
 μ-loop p₀ w x y n g j₀ j-end p j = j-end - j

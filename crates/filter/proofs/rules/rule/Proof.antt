@@ -6,17 +6,17 @@ use borrow.Author.Tests.{not-true, not-false}
 use denote.Ref.{now}
 use Rattle.filter.specs.declared.answers.Rule.{Rule}
 use Rattle.filter.specs.declared.answers.Rule.the-variants.{Rough, HighVariance, MacroblockEdge, InnerEdge}
-use Rattle.filter.specs.Kernel.{samplesOf, withinLimit, ruleOf}
+use Rattle.filter.specs.Kernel.{samplesAcross, withinLimit, ruleOf}
 use Rattle.filter.specs.KernelLaws.{rule-edge-failed, rule-simple, rule-rough, rule-smooth}
 use Rattle.filter.proofs.rules.rule.Statement.{statement}
 use Rattle.filter.proofs.rules.rule.Tie as tie
 
 -- the rule of the arguments
 abbrev here : tie.Start → Rule
-here s = let a = s .args in ruleOf (samplesOf (now (a .e))) (a .simple) (a .edge) (a .limit) (a .inner) (a .threshold)
+here s = let a = s .args in ruleOf (samplesAcross (now (a .e))) (a .simple) (a .edge) (a .limit) (a .inner) (a .threshold)
 
 -- the edge test held
-within : (c : tie.Else1) → let a = c .before .before .args in withinLimit (samplesOf (now (a .e))) (a .limit) ≡ true
+within : (c : tie.Else1) → let a = c .before .before .args in withinLimit (samplesAcross (now (a .e))) (a .limit) ≡ true
 within c = sym (c .before .within-limit .ensures) ∙ not-false _ (c .if1 .left)
 
 -- and the six pairs are smooth

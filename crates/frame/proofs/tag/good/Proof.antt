@@ -1,4 +1,4 @@
-use Rattle.frame.specs.Tag.{goodOf}
+use Rattle.frame.specs.Tag.{tagFine}
 use borrow.Author.Needs.{needs}
 use Rattle.frame.proofs.tag.good.Statement.{statement}
 use Rattle.frame.proofs.tag.good.Tie as tie
@@ -22,7 +22,7 @@ height-requires : tie.Need-height-requires
 height-requires c κs = search needs
 
 returns : tie.Need-returns
-unfolding goodOf
+unfolding tagFine
 returns c = rw (c .before .before .before .before .before .three .ensures .0, c .before .before .before .before .byte .ensures .0, c .before .before .before .byte2 .ensures .0, c .before .before .byte3 .ensures .0, c .before .width .ensures .0, c .height .ensures .0)
 
 pub good-spec : {M : Type 1} → statement M

@@ -3,7 +3,7 @@ use mathlib.Core.Bool.{true}
 use borrow.Author.Tests.{not-true, not-false}
 use Rattle.header.specs.Header.{headerOf}
 use Rattle.header.specs.HeaderLaws.{header-length, header-each}
-use Rattle.header.specs.declared.frame.Taken.the-variants as T
+use Rattle.numbers.specs.declared.Checked.the-variants as T
 use Rattle.header.specs.FrameLaws.{frame-good, frame-refused}
 use borrow.Author.Needs.{needs}
 use Rattle.header.proofs.frame.take.Statement.{statement}

@@ -8,7 +8,7 @@ use borrow.Author.Tests.{not-true, not-false}
 use Rattle.numbers.specs.Eval.{Var, v, _⊕_, fits, is}
 use Rattle.numbers.specs.Hand.{known, there}
 use Rattle.header.proofs.Machine.{machine, said}
-use Rattle.header.specs.Own.{segmented-base, segmented-own, segmented-sum}
+use Rattle.header.specs.OwnLaws.{segmented-base, segmented-own, segmented-sum}
 use borrow.Author.Needs.{needs}
 use Rattle.header.proofs.own.segmented.Statement.{statement}
 use Rattle.header.proofs.own.segmented.Tie as tie

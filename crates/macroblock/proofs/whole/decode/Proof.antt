@@ -3,7 +3,7 @@ use mathlib.Core.Bool.{true}
 use mathlib.Core.Path.{_≡_, sym, _∙_}
 use borrow.Author.Tests.{not-true, not-false}
 use borrow.Author.Needs.{needs}
-use Rattle.macroblock.specs.Macroblock.{readyOf, laidOf}
+use Rattle.macroblock.specs.Macroblock.{readyOf, placeFine}
 use Rattle.macroblock.specs.DecodeLaws.{ready-out, laid-out, decode-passed, decode-unready, decode-unlaid}
 use Rattle.macroblock.proofs.whole.decode.Statement.{statement}
 use Rattle.macroblock.proofs.whole.decode.Tie as tie
@@ -33,7 +33,7 @@ start e = e .before .before .before .before .before .before .before .before .bef
 able : (e : tie.Else2) → (let a = start e .args in readyOf (a .first .now) (a .tokens .now) (a .readers) (a .frame) (length (a .table .now)) (a .around) ≡ true)
 able e = sym (e .before .before .before .ready .ensures .0) ∙ not-false _ (e .before .before .if1 .left)
 
-fine : (e : tie.Else2) → (let a = start e .args in laidOf (length (a .y .now)) (length (a .u .now)) (length (a .v .now)) (a .place) ≡ true)
+fine : (e : tie.Else2) → (let a = start e .args in placeFine (length (a .y .now)) (length (a .u .now)) (length (a .v .now)) (a .place) ≡ true)
 fine e = sym (e .before .laid .ensures) ∙ not-false _ (e .if2 .left)
 
 step-requires : tie.Need-step-requires

@@ -1,7 +1,7 @@
 use mathlib.Core.Path.{_≡_}
 use Rattle.lent.specs.Memory.{Memory, memoryOf}
 use Rattle.lent.specs.Records.{columnAt}
-use Rattle.macroblock.specs.Macroblock.{Planes, Finished, Step, finished, stepOf, toCalled}
+use Rattle.macroblock.specs.Macroblock.{Planes, Finished, Step, finished, stepOf, toMacroblockCalled}
 use Rattle.picture.specs.Picture.{besideOf, planesIn}
 use Rattle.picture.specs.TurnLaws.{Ends, ends-of, call-is, column-is, turn-stopped, turn-done}
 use Rattle.picture.proofs.Answers.{not-done}
@@ -36,7 +36,7 @@ step c =
 abbrev painted : tie.After-decode → Planes
 painted c = let l = c .decode .last .1 .1 .1 .1 .1 .1 .1 in record { y = l .0; u = l .1 .0; v = l .1 .1 .0 }
 
-answer : (c : tie.After-decode) → record { answer = c .decode .result; planes = painted c } ≡ toCalled (planesIn (before c)) (step c)
+answer : (c : tie.After-decode) → record { answer = c .decode .result; planes = painted c } ≡ toMacroblockCalled (planesIn (before c)) (step c)
 answer c =
     let p = start c .pre in
     call-is _ _ _ _ _ _ _ _ _ (c .decode .ensures)

@@ -2,14 +2,14 @@
 use mathlib.Core.Path.{_≡_, sym}
 use Prim.Native.Nat.{ℕ, _+_, _-_, _≤_}
 use native.Mathlib.Omega.{arith}
-use Rattle.planes.specs.Paint.{nearOf, firstOf}
+use Rattle.planes.specs.Paint.{nearOf, firstPlaces}
 use Rattle.planes.specs.PaintLaws.{first-none, first-next}
 use Rattle.planes.specs.Places.{reach-above}
 use Rattle.planes.proofs.edges.first_above.Statement.{statement}
 use Rattle.planes.proofs.edges.first_above.Tie as tie
 
 abbrev Inv-loop : tie.InvT-loop
-Inv-loop p w x y size e₀ k₀ e k = (k ≤ size) × (e ≡ firstOf k (λ (j : ℕ). nearOf p w (x + 1 + j) y))
+Inv-loop p w x y size e₀ k₀ e k = (k ≤ size) × (e ≡ firstPlaces k (λ (j : ℕ). nearOf p w (x + 1 + j) y))
 
 abbrev μ-loop : tie.MeasureT-loop
 μ-loop p w x y size e₀ k₀ e k = size - k

@@ -4,13 +4,13 @@ use mathlib.Core.Path.{_≡_, sym, ap, _∙_}
 use Prim.Native.Nat.{ℕ, zero, suc, _<_, _≤_}
 use native.Mathlib.Omega.{arith}
 use borrow.Author.Needs.{needs}
-use Rattle.planes.specs.Predict.{smallOf}
+use Rattle.planes.specs.Predict.{smallBlock}
 use Rattle.planes.proofs.predict.small_block.Statement.{statement}
 use Rattle.planes.proofs.predict.small_block.Tie as tie
 
 -- the arm of a mode
-arm : (s : tie.Start) (k : ℕ) {r : List ℕ} → s .args .mode ≡ k → r ≡ smallOf k (s .args .e) → r ≡ smallOf (s .args .mode) (s .args .e)
-arm s k m h = h ∙ ap (λ (x : ℕ). smallOf x (s .args .e)) (sym m)
+arm : (s : tie.Start) (k : ℕ) {r : List ℕ} → s .args .mode ≡ k → r ≡ smallBlock k (s .args .e) → r ≡ smallBlock (s .args .mode) (s .args .e)
+arm s k m h = h ∙ ap (λ (x : ℕ). smallBlock x (s .args .e)) (sym m)
 
 -- what the last arm knows: m is none of the numbers below n
 abbrev None : ℕ → ℕ → Type 0

@@ -4,19 +4,19 @@ use Prim.Native.Nat.{_≤_, _*_, _-_}
 use native.Mathlib.Numerals.{add-one}
 use native.Mathlib.Omega.{arith}
 use borrow.Author.Needs.{needs}
-use Rattle.planes.specs.Predict.{sumOf}
+use Rattle.planes.specs.Predict.{sumOfFirst}
 use Rattle.planes.specs.PredictLaws.{size-le}
 use Rattle.planes.proofs.predict.sum.Statement.{statement}
 use Rattle.planes.proofs.predict.sum.Tie as tie
 
 abbrev Inv-loop : tie.InvT-loop
-Inv-loop size l total₀ i₀ total i = (i ≤ size) × (total ≡ sumOf l i) × (total ≤ 255 * i)
+Inv-loop size l total₀ i₀ total i = (i ≤ size) × (total ≡ sumOfFirst l i) × (total ≤ 255 * i)
 
 abbrev μ-loop : tie.MeasureT-loop
 μ-loop size l total₀ i₀ total i = size - i
 
 loop-holds : tie.Need-loop-holds Inv-loop μ-loop
-unfolding sumOf
+unfolding sumOfFirst
 loop-holds c = (omega arith, refl, omega arith)
 
 array-read-wide : tie.Need-array-read-wide Inv-loop μ-loop
@@ -26,7 +26,7 @@ add-total : tie.Need-add-total Inv-loop μ-loop
 add-total c = omega (arith, size-le (c .before .before .before .pre))
 
 loop-again : tie.Need-loop-again Inv-loop μ-loop
-unfolding sumOf
+unfolding sumOfFirst
 loop-again c = (omega arith, rw add-one (cc), omega arith)
 
 returns : tie.Need-returns Inv-loop μ-loop

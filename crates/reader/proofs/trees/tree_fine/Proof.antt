@@ -3,7 +3,7 @@ use mathlib.Core.Path.{_≡_, sym, _∙_}
 use mathlib.Core.Bool.{true}
 use native.Mathlib.Omega.{arith}
 use borrow.Author.Tests.{not-true, not-false}
-use Rattle.reader.specs.Trees.{entriesOf}
+use Rattle.reader.specs.Trees.{treeEntries}
 use Rattle.reader.specs.TreesLaws.{tree-not, tree-entry, tree-fact, tree-start, entries-none, entries-next, tree-all}
 use Rattle.reader.proofs.trees.tree_fine.Statement.{statement}
 use Rattle.reader.proofs.trees.tree_fine.Tie as tie
@@ -12,7 +12,7 @@ use Rattle.reader.proofs.trees.tree_fine.Lts as lts
 use Rattle.reader.proofs.trees.leads.Reads as leads-reads
 
 abbrev Inv-loop : tie.InvT-loop
-Inv-loop probs tree start n k₀ k = (k ≤ n + n) × (entriesOf n tree k ≡ true)
+Inv-loop probs tree start n k₀ k = (k ≤ n + n) × (treeEntries n tree k ≡ true)
 
 abbrev μ-loop : tie.MeasureT-loop
 μ-loop probs tree start n k₀ k = n + n - k

@@ -8,7 +8,7 @@ use lib.Dec.{leb}
 use borrow.Author.Tests.{le-leb, lt-leb, not-true, not-false}
 use Rattle.reader.specs.declared.boolean.Reader.{Reader}
 use Rattle.reader.specs.declared.boolean.Symbol.{Symbol}
-use Rattle.reader.specs.Boolean.{given, toSymbol, partOf, grow, decidedOf, symbolOf}
+use Rattle.reader.specs.Boolean.{given, toSymbol, chosenOf, grow, decidedOf, symbolOf}
 use Rattle.reader.specs.BooleanLaws.{symbol-missing, symbol-is, from-part, decided-inside}
 use borrow.Author.Needs.{needs}
 use Rattle.reader.proofs.boolean.Reader.read_apart.Statement.{statement}
@@ -52,7 +52,7 @@ yes c = sym (le-leb _ _ (c .if3 .taken))
 no : (c : tie.Else3) → false ≡ leb (256 * c .before .split .result) (c .before .before .before .before .before .args .self .window)
 no c = sym (lt-leb _ _ (c .if3 .left))
 
-at-bit : (c : tie.After-split) {b : Bool} {q : Reader} {g : Symbol} → (let a = c .before .before .before .before .args in q ≡ partOf (a .self) (c .split .result) b → g ≡ toSymbol (given b (grow 7 (a .s .now) q)) → b ≡ leb (256 * c .split .result) (a .self .window) → g ≡ toSymbol (symbolOf (a .s .now) (a .self) (a .prob)))
+at-bit : (c : tie.After-split) {b : Bool} {q : Reader} {g : Symbol} → (let a = c .before .before .before .before .args in q ≡ chosenOf (a .self) (c .split .result) b → g ≡ toSymbol (given b (grow 7 (a .s .now) q)) → b ≡ leb (256 * c .split .result) (a .self .window) → g ≡ toSymbol (symbolOf (a .s .now) (a .self) (a .prob)))
 at-bit c {b} e h f =
     let a = c .before .before .before .before .args in
     h

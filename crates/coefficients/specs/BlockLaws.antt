@@ -1,0 +1,252 @@
+-- The laws of tokens and blocks that another crate cites.
+use Prim.Native.Nat.{ℕ, zero, suc, _+_, _-_, _*_, _≤_, _<_, _^_}
+use native.Mathlib.Omega.{arith}
+use mathlib.Core.Bool.{Bool, true, false, _&&_}
+use mathlib.Core.List.{List, []}
+use mathlib.Core.Logic.{_⊎_, inl, inr, ⊎-elim}
+use mathlib.Core.Path.{_≡_, refl, sym, _∙_, ap}
+use lib.Dec.{ltb, leb, lit<}
+use lib.IntN.{ℤ, pos, negsuc}
+use lib.ListN.{length, getD, set, length-set, List·getD-eq-default}
+use borrow.Author.Tests.{ltb-true, leb-true, lt-ltb, le-ltb, le-leb, eq-eqb, ne-eqb}
+use Rattle.numbers.specs.Bounds.{each-set}
+use Rattle.numbers.specs.In.{In, Each}
+use Rattle.numbers.specs.Lists.{length-build, getD-build}
+use Rattle.numbers.specs.Parts.{le-true}
+use Rattle.numbers.specs.Tables.{allOf, allBelow, all-of-any, all-below}
+use Rattle.numbers.specs.Tests.{lt-or, eq-or, not-first, both-left, both-right, both-true}
+use Rattle.numbers.specs.WrapLaws.{wrap-in}
+use Rattle.reader.specs.Boolean.{Given, given, missing, validOf}
+use Rattle.reader.specs.BooleanLaws.{Bytes, Valid, valid-test}
+use Rattle.header.specs.Entries.{coefficientProbability, entryCount}
+use Rattle.header.specs.Header.{entry, probabilityOf}
+use Rattle.header.specs.HeaderLaws.{probability-below}
+use Rattle.reader.specs.Extra.{toNumber}
+use Rattle.reader.specs.ExtraLaws.{extra-within, fromNumber}
+use Rattle.reader.specs.Reading.{run, Within, ends}
+use Rattle.reader.specs.ReadingLaws.{never-both, within-symbol, within-bind, within-more}
+use Rattle.reader.specs.Token.{token}
+use Rattle.reader.specs.TokenLaws.{eleven-at, token-fits}
+use Rattle.reader.specs.declared.boolean.Reader.{Reader}
+use Rattle.reader.specs.declared.extra.Number.{Number}
+use Rattle.coefficients.specs.BlockSteps.{place-below, decode-passed, decode-refused, table-refused, table-done}
+use Rattle.coefficients.specs.Block.{categories, bases, category, magnitude, signOf, signedValue, zigzag, quantizerAt, contextAfter, toSigned, magnitudeOf, signedOf, numericOf, numberAnswer, signedAnswer, headerTable, probabilitiesAt, probabilityPlace, Coefficients, blockFrom, block, BlockCalled, toBlockCalled, blockOf, sixteenBits, blockArguments, blockCallOf, tableOf}
+use Rattle.coefficients.specs.declared.block.Block.{Block}
+use Rattle.coefficients.specs.declared.block.Block.the-variants as K
+use Rattle.coefficients.specs.declared.block.Signed.{Signed}
+use Rattle.coefficients.specs.declared.block.Signed.the-variants as G
+use Rattle.coefficients.specs.declared.block.Table.{Table}
+use Rattle.numbers.specs.declared.Checked.the-variants as H
+
+-- ---- what each grammar gives, and how much it asks
+-- the categories' tables: bytes, few of them, and every number from 1 to 2114
+abbrev fineOf : ℕ → List ℕ → Bool
+fineOf base ps = leb 1 base && (leb (base + 2 ^ length ps) 2115 && (leb (length ps) 11 && allOf (λ p. ltb p 256) ps))
+
+categories-fine : allBelow 6 (λ c. fineOf (getD bases c 0) (getD categories c [])) ≡ true
+unfolding categories bases
+categories-fine = refl
+
+-- a token's number is 1..2114, and at most eleven symbols
+abbrev pub Magnitude : ℕ → Type 0
+Magnitude v = (1 ≤ v) × (v ≤ 2114)
+
+category-within : (base : ℕ) (ps : List ℕ) → fineOf base ps ≡ true → Within Magnitude 11 (category base ps)
+category-within base ps e =
+    let e1 = both-right (leb 1 base) _ e in
+    let e2 = both-right (leb (base + 2 ^ length ps) 2115) _ e1 in
+    let l : 1 ≤ base = leb-true _ _ (both-left _ _ e) in
+    let h : base + 2 ^ length ps ≤ 2115 = leb-true _ _ (both-left _ _ e1) in
+    let k : length ps ≤ 11 = leb-true _ _ (both-left _ _ e2) in
+    let y : Bytes ps = λ i. ltb-true _ _ (all-of-any (λ p. ltb p 256) ps 0 refl (both-right (leb (length ps) 11) _ e2) i) in
+    within-more (omega arith) (within-bind {k = 0} (extra-within ps y) (λ v g. ends (omega arith, omega arith)))
+
+pub magnitude-within : (t : ℕ) → 2 ≤ t → t ≤ 11 → Within Magnitude 11 (magnitude t)
+unfolding magnitude
+magnitude-within t l h =
+    ⊎-elim
+    (λ (k : t < 6). rw (lt-ltb t 6 k, magnitude) (ends {a = t - 1} (omega arith, omega arith)))
+    (λ (k : 6 ≤ t). rw (le-ltb t 6 k, magnitude) (category-within _ _ (all-below (λ c. fineOf (getD bases c 0) (getD categories c [])) 6 categories-fine (t - 6) (omega arith))))
+    (lt-or t 6)
+
+abbrev pub SixteenBits : ℤ → Type 0
+SixteenBits z = In (negsuc 32767) (pos 32767) z
+
+pub signed-within : (t q : ℕ) → 2 ≤ t → t ≤ 11 → Within SixteenBits 12 (signedValue t q)
+unfolding signedValue
+signed-within t q l h =
+    within-bind {k = 1} (magnitude-within t l h) (λ v g. within-bind {k = 0} (within-symbol (lit< tt)) (λ b u. ends (wrap-in (signOf b (v * q)))))
+
+-- sixteen numbers of 16 bits
+pub record Sixteen (values : List ℤ) : Type 0 where
+  pub long : length values ≡ 16
+  pub each : Each (negsuc 32767) (pos 32767) values
+
+pub record Fine (first : ℕ) (x : Coefficients) : Type 0 where
+  pub low : first ≤ x .end
+  pub high : x .end ≤ 16
+  pub values : Sixteen (x .values)
+
+pub set-sixteen : {values : List ℤ} {v : ℤ} (i : ℕ) → Sixteen values → SixteenBits v → Sixteen (set values i v)
+set-sixteen {values} {v} i x h = record { long = length-set values i v ∙ x .long; each = each-set values i (x .each) h }
+
+module _ (table : List ℕ) (kind q0 q1 : ℕ) (y : Bytes table) (first : ℕ) where
+  from-within : (left n ctx : ℕ) (z : Bool) (values : List ℤ) → first ≤ n → n + left ≡ 16 → Sixteen values → Within (Fine first) (left * 19) (blockFrom table kind q0 q1 left n ctx z values)
+  unfolding blockFrom
+  from-within zero n ctx z values l e x = ends (record { low = l; high = omega arith; values = x })
+  from-within (suc left) n ctx z values l e x =
+      within-more (omega arith) (within-bind {k = 12 + left * 19} (token-fits table (probabilityPlace kind n ctx) z y) (λ t h.
+      ⊎-elim
+      (λ (a : t ≡ 0). rw (eq-eqb t 0 a) (ends (record { low = l; high = omega arith; values = x })))
+      (λ (a : t ≡ 0 → ⊥).
+      ⊎-elim
+      (λ (b : t ≡ 1). rw (ne-eqb t 0 a, eq-eqb t 1 b) (within-more (omega arith) (from-within left (n + 1) 0 true values (omega arith) (omega arith) x)))
+      (λ (b : t ≡ 1 → ⊥). rw (ne-eqb t 0 a, ne-eqb t 1 b) (within-bind {k = left * 19} (signed-within t (quantizerAt n q0 q1) (omega arith) (omega arith)) (λ v i. from-within left (n + 1) (contextAfter t) false (set values (getD zigzag n 0) v) (omega arith) (omega arith) (set-sixteen (getD zigzag n 0) x i))))
+      (eq-or t 1))
+      (eq-or t 0)))
+
+  -- at most 19 symbols a position: 7 of the tree, 11 extra bits, 1 sign
+  pub block-within : (ctx : ℕ) (values : List ℤ) → first ≤ 1 → Sixteen values → Within (Fine first) (19 * (16 - first)) (block table kind q0 q1 ctx first values)
+  block-within ctx values l x = within-more (omega arith) (from-within (16 - first) first ctx false values (omega arith) (omega arith) x)
+
+-- ---- the public calls of a token: what an answer says of the grammar
+pub magnituded : (s : List ℕ) (t : ℕ) (r : Reader) {x : Number} → x ≡ magnitudeOf s t r → run (magnitude t) s r ≡ fromNumber x
+unfolding magnitudeOf
+magnituded s t r e = from (run (magnitude t) s r) ∙ ap fromNumber (sym e)
+  where
+    from : (g : Given ℕ) → g ≡ fromNumber (toNumber g)
+    from (given v q) = refl
+    from missing = refl
+
+abbrev pub fromSigned : Signed → Given ℤ
+fromSigned (G.Value v r) = given v r
+fromSigned G.Missing = missing
+fromSigned G.Refused = missing
+
+module _ (s : List ℕ) (t q : ℕ) (r : Reader) where
+  pub signeded : {x : Signed} → x ≡ signedOf s t q r → run (signedValue t q) s r ≡ fromSigned x
+  unfolding signedOf
+  signeded e = from (run (signedValue t q) s r) ∙ ap fromSigned (sym e)
+    where
+      from : (g : Given ℤ) → g ≡ fromSigned (toSigned g)
+      from (given v q) = refl
+      from missing = refl
+
+numeric : {t : ℕ} → 2 ≤ t → t ≤ 11 → numericOf t ≡ true
+numeric l h = both-true (le-leb _ _ l) (le-leb _ _ h)
+
+module _ (s : List ℕ) (t : ℕ) (r : Reader) where
+  pub number-good : Valid s r → 2 ≤ t → t ≤ 11 → magnitudeOf s t r ≡ numberAnswer s t r
+  unfolding numberAnswer
+  number-good v l h = rw (both-true (valid-test s r v) (numeric l h), numberAnswer)
+
+  -- THE LAW for callers of `number`
+  pub number-answered : Valid s r → 2 ≤ t → t ≤ 11 → {x : Number} → x ≡ numberAnswer s t r → run (magnitude t) s r ≡ fromNumber x
+  number-answered v l h e = magnituded s t r (e ∙ sym (number-good v l h))
+
+  module _ (q : ℕ) where
+    pub signed-good : Valid s r → 2 ≤ t → t ≤ 11 → signedOf s t q r ≡ signedAnswer s t q r
+    unfolding signedAnswer
+    signed-good v l h = rw (both-true (valid-test s r v) (numeric l h), signedAnswer)
+
+    -- THE LAW for callers of `dequant`
+    pub signed-answered : Valid s r → 2 ≤ t → t ≤ 11 → {x : Signed} → x ≡ signedAnswer s t q r → run (signedValue t q) s r ≡ fromSigned x
+    signed-answered v l h e = signeded s t q r (e ∙ sym (signed-good v l h))
+
+-- ---- the public call of a block
+-- what it asks of its arguments besides the reader
+pub record Good (table : List ℕ) (kind ctx first : ℕ) (old : List ℤ) : Type 0 where
+  pub size : length table ≡ 1056
+  pub kinds : kind < 4
+  pub near : ctx < 3
+  pub start : first ≤ 1
+  pub each : Each (negsuc 32767) (pos 32767) old
+
+small-test : (l : List ℤ) → Each (negsuc 32767) (pos 32767) l → (n : ℕ) → sixteenBits l n ≡ true
+unfolding sixteenBits
+small-test l e zero = refl
+small-test l e (suc n) = both-true (small-test l e n) (both-true (le-true (e .at n .low)) (le-true (e .at n .high)))
+
+-- what an answer, with the numbers behind it, says of the grammar
+abbrev pub fromBlock : List ℤ → Block → Given Coefficients
+fromBlock l (K.Ended n r) = given (record { end = n; values = l }) r
+fromBlock l K.Missing = missing
+fromBlock l K.Refused = missing
+
+abbrev fromBlockCalled : BlockCalled → Given Coefficients
+fromBlockCalled c = fromBlock (c .out) (c .answer)
+
+from-called : (old : List ℤ) (g : Given Coefficients) → g ≡ fromBlockCalled (toBlockCalled old g)
+from-called old (given x r) = refl
+from-called old missing = refl
+
+module _ (s : List ℕ) (r : Reader) (table : List ℕ) (kind ctx first q0 q1 : ℕ) (old : List ℤ) where
+  -- with good arguments it is the inner definition
+  pub decode-good : Valid s r → Good table kind ctx first old → blockOf s r table kind ctx first q0 q1 old ≡ blockCallOf s r table kind ctx first q0 q1 old
+  decode-good v g =
+      decode-passed s r table kind ctx first q0 q1 old (valid-test s r v)
+      (both-true (eq-eqb _ _ (g .size)) (both-true (lt-ltb _ _ (g .kinds)) (both-true (lt-ltb _ _ (g .near)) (le-leb _ _ (g .start)))))
+      (small-test old (g .each) 16)
+
+  -- THE LAW for callers of `decode`
+  pub decoded : Valid s r → Good table kind ctx first old → {x : Block} {l : List ℤ} → record { answer = x; out = l } ≡ blockCallOf s r table kind ctx first q0 q1 old → run (block table kind q0 q1 ctx first old) s r ≡ fromBlock l x
+  unfolding blockOf
+  decoded v g e = from-called old (run (block table kind q0 q1 ctx first old) s r) ∙ ap fromBlockCalled (decode-good v g ∙ sym e)
+
+  -- an answer that is no end leaves the numbers as they were, whatever the arguments
+  pub decode-kept : {x : Block} {l : List ℤ} → record { answer = x; out = l } ≡ blockCallOf s r table kind ctx first q0 q1 old → fromBlock l x ≡ missing → l ≡ old
+  unfolding blockCallOf blockOf
+  decode-kept {x} {l} e m = ap (λ (c : BlockCalled). c .out) e ∙ go (validOf s r && (blockArguments table kind ctx first && sixteenBits old 16)) refl
+    where
+      given-not : (g : Given Coefficients) → fromBlockCalled (toBlockCalled old g) ≡ missing → toBlockCalled old g .out ≡ old
+      given-not (given x r) f = absurd (never-both refl f)
+      given-not missing f = refl
+
+      go : (b : Bool) → validOf s r && (blockArguments table kind ctx first && sixteenBits old 16) ≡ b → blockCallOf s r table kind ctx first q0 q1 old .out ≡ old
+      go true k =
+          let w : blockCallOf s r table kind ctx first q0 q1 old ≡ toBlockCalled old (run (block table kind q0 q1 ctx first old) s r) = rw (k, blockCallOf) in
+          ap (λ (c : BlockCalled). c .out) w ∙ given-not (run (block table kind q0 q1 ctx first old) s r) (sym (ap fromBlockCalled (e ∙ w)) ∙ m)
+      go false k = ap (λ (c : BlockCalled). c .out) (sym (decode-refused s r table kind ctx first q0 q1 old k))
+
+-- ---- a header's table
+pub length-header : (h : List ℤ) → length (headerTable h) ≡ 1056
+unfolding headerTable
+length-header h = length-build 1056 _
+
+pub header-at : (h : List ℤ) (i : ℕ) → i < 1056 → getD (headerTable h) i 0 ≡ probabilityOf (entry h (coefficientProbability + i))
+unfolding headerTable
+header-at h i l = getD-build 1056 _ i 0 l
+
+pub header-bytes : (h : List ℤ) → Bytes (headerTable h)
+header-bytes h i =
+    ⊎-elim
+    (λ (l : i < 1056). rw (header-at h i l) (probability-below (entry h (coefficientProbability + i))))
+    (λ (l : 1056 ≤ i). rw (List·getD-eq-default (headerTable h) 0 {n = i} (rw (length-header h) l)) (lit< tt))
+    (lt-or i 1056)
+
+-- the eleven probabilities of a position are the header's, from entry coefficientProbability + ((kind * 8 + band) * 3 + ctx) * 11 on
+pub header-probability : (h : List ℤ) (kind n ctx j : ℕ) → kind < 4 → ctx < 3 → j < 11 → getD (probabilitiesAt (headerTable h) kind n ctx) j 0 ≡ probabilityOf (entry h (coefficientProbability + (probabilityPlace kind n ctx + j)))
+header-probability h kind n ctx j k c l = eleven-at (headerTable h) (probabilityPlace kind n ctx) j l ∙ header-at h (probabilityPlace kind n ctx + j) (omega (arith, place-below kind n ctx k c))
+
+-- what the table of an answer is
+module _ (h : List ℤ) {x : Table} (e : x ≡ tableOf h) where
+  pub table-taken : x .answer ≡ H.Done → (length h ≡ entryCount) × (x .bytes ≡ headerTable h)
+  table-taken f =
+      elim (eq-or (length h) entryCount) [
+        | inl k ↦ let g : x ≡ record { answer = H.Done; bytes = headerTable h } = e ∙ sym (table-done h k refl) in (k, ap (λ (y : Table). y .bytes) g)
+        | inr k ↦ let g : x .answer ≡ H.Refused = ap (λ (y : Table). y .answer) (e ∙ sym (table-refused h k)) in absurd (let z : _≡_ {A = ℕ} 0 1 = cc in omega arith)
+      ]
+
+  pub table-not : x .answer ≡ H.Refused → length h ≡ entryCount → ⊥
+  table-not f k = let g : x .answer ≡ H.Done = ap (λ (y : Table). y .answer) (e ∙ sym (table-done h k refl)) in let z : _≡_ {A = ℕ} 0 1 = cc in omega arith
+
+-- ---- for `let .. else`: every answer but the one taken apart says that a byte is missing
+pub not-signed : (tag : Signed → ℕ) → ((v : ℤ) (r : Reader) → tag (G.Value v r) ≡ 0) → (x : Signed) → (tag x ≡ 1) ⊎ (tag x ≡ 2) → fromSigned x ≡ missing
+not-signed tag z (G.Value v r) e = absurd (not-first e (z v r))
+not-signed tag z G.Missing e = refl
+not-signed tag z G.Refused e = refl
+
+pub not-ended : (tag : Block → ℕ) → ((n : ℕ) (r : Reader) → tag (K.Ended n r) ≡ 0) → (l : List ℤ) (x : Block) → (tag x ≡ 1) ⊎ (tag x ≡ 2) → fromBlock l x ≡ missing
+not-ended tag z l (K.Ended n r) e = absurd (not-first e (z n r))
+not-ended tag z l K.Missing e = refl
+not-ended tag z l K.Refused e = refl
