@@ -10,7 +10,7 @@ use Rattle.numbers.specs.Lists.{build}
 use Rattle.numbers.specs.Wrap.{wrapZ}
 use Rattle.reader.specs.Boolean.{Given, given, missing, validOf, noReader}
 use Rattle.reader.specs.Extra.{extra, toNumber}
-use Rattle.header.specs.Entries.{coefficientProbability, entryCount}
+use Rattle.header.specs.Entries.{coefficientProbability, entryCount, probabilityCount}
 use Rattle.header.specs.Header.{entry, probabilityOf}
 use Rattle.reader.specs.Reading.{Reading, done, symbol, run, _>>=_}
 use Rattle.reader.specs.Token.{token, elevenAt}
@@ -113,7 +113,7 @@ module _ (table : List ℕ) (kind q0 q1 : ℕ) where
 
 -- ---- the header's 1056 probabilities as bytes: each entry modulo 256
 unfoldable pub headerTable : List ℤ → List ℕ
-headerTable h = build 1056 (λ i. probabilityOf (entry h (coefficientProbability + i)))
+headerTable h = build probabilityCount (λ i. probabilityOf (entry h (coefficientProbability + i)))
 
 -- ---- the calls' answers
 abbrev pub toSigned : Given ℤ → Signed
@@ -155,7 +155,7 @@ sixteenBits l zero = true
 sixteenBits l (suc n) = sixteenBits l n && (leZ (negsuc 32767) (getD l n (pos 0)) && leZ (getD l n (pos 0)) (pos 32767))
 
 abbrev pub blockArguments : List ℕ → ℕ → ℕ → ℕ → Bool
-blockArguments table kind ctx first = eqb (length table) 1056 && (ltb kind 4 && (ltb ctx 3 && leb first 1))
+blockArguments table kind ctx first = eqb (length table) probabilityCount && (ltb kind 4 && (ltb ctx 3 && leb first 1))
 
 module _ (s : List ℕ) (r : Reader) where
   -- with the arguments in range
@@ -183,7 +183,7 @@ unfoldable pub tableOf : List ℤ → Table
 tableOf h =
     elim (eqb (length h) entryCount) [
       | true ↦ record { answer = H.Done; bytes = headerTable h }
-      | false ↦ record { answer = H.Refused; bytes = replicate 1056 0 }
+      | false ↦ record { answer = H.Refused; bytes = replicate probabilityCount 0 }
     ]
 
 -- ---- the answers as numbers and values: 7 where the tokens run out, 9 for a refusal, whose values are zero

@@ -18,7 +18,7 @@ use Rattle.numbers.specs.Tests.{lt-or, eq-or, not-first, both-left, both-right,
 use Rattle.numbers.specs.WrapLaws.{wrap-in}
 use Rattle.reader.specs.Boolean.{Given, given, missing, validOf}
 use Rattle.reader.specs.BooleanLaws.{Bytes, Valid, valid-test}
-use Rattle.header.specs.Entries.{coefficientProbability, entryCount}
+use Rattle.header.specs.Entries.{coefficientProbability, entryCount, probabilityCount}
 use Rattle.header.specs.Header.{entry, probabilityOf}
 use Rattle.header.specs.HeaderLaws.{probability-below}
 use Rattle.reader.specs.Extra.{toNumber}
@@ -156,7 +156,7 @@ module _ (s : List ℕ) (t : ℕ) (r : Reader) where
 -- ---- the public call of a block
 -- what it asks of its arguments besides the reader
 pub record Good (table : List ℕ) (kind ctx first : ℕ) (old : List ℤ) : Type 0 where
-  pub size : length table ≡ 1056
+  pub size : length table ≡ probabilityCount
   pub kinds : kind < 4
   pub near : ctx < 3
   pub start : first ≤ 1
@@ -209,20 +209,20 @@ module _ (s : List ℕ) (r : Reader) (table : List ℕ) (kind ctx first q0 q1 : 
       go false k = ap (λ (c : BlockCalled). c .out) (sym (decode-refused s r table kind ctx first q0 q1 old k))
 
 -- ---- a header's table
-pub length-header : (h : List ℤ) → length (headerTable h) ≡ 1056
+pub length-header : (h : List ℤ) → length (headerTable h) ≡ probabilityCount
 unfolding headerTable
-length-header h = length-build 1056 _
+length-header h = length-build probabilityCount _
 
-pub header-at : (h : List ℤ) (i : ℕ) → i < 1056 → getD (headerTable h) i 0 ≡ probabilityOf (entry h (coefficientProbability + i))
+pub header-at : (h : List ℤ) (i : ℕ) → i < probabilityCount → getD (headerTable h) i 0 ≡ probabilityOf (entry h (coefficientProbability + i))
 unfolding headerTable
-header-at h i l = getD-build 1056 _ i 0 l
+header-at h i l = getD-build probabilityCount _ i 0 l
 
 pub header-bytes : (h : List ℤ) → Bytes (headerTable h)
 header-bytes h i =
     ⊎-elim
-    (λ (l : i < 1056). rw (header-at h i l) (probability-below (entry h (coefficientProbability + i))))
-    (λ (l : 1056 ≤ i). rw (List·getD-eq-default (headerTable h) 0 {n = i} (rw (length-header h) l)) (lit< tt))
-    (lt-or i 1056)
+    (λ (l : i < probabilityCount). rw (header-at h i l) (probability-below (entry h (coefficientProbability + i))))
+    (λ (l : probabilityCount ≤ i). rw (List·getD-eq-default (headerTable h) 0 {n = i} (rw (length-header h) l)) (lit< tt))
+    (lt-or i probabilityCount)
 
 -- the eleven probabilities of a position are the header's, from entry coefficientProbability + ((kind * 8 + band) * 3 + ctx) * 11 on
 pub header-probability : (h : List ℤ) (kind n ctx j : ℕ) → kind < 4 → ctx < 3 → j < 11 → getD (probabilitiesAt (headerTable h) kind n ctx) j 0 ≡ probabilityOf (entry h (coefficientProbability + (probabilityPlace kind n ctx + j)))

@@ -14,7 +14,7 @@ use borrow.Author.Tests.{ltb-true, leb-true, eqb-true, lt-ltb, eq-eqb, ne-eqb}
 use Rattle.numbers.specs.Tables.{all-of-any}
 use Rattle.numbers.specs.Tests.{both-left, both-right, both-true, both-false}
 use Rattle.numbers.specs.Wrap.{wrapZ}
-use Rattle.header.specs.Entries.{entryCount}
+use Rattle.header.specs.Entries.{entryCount, probabilityCount}
 use Rattle.reader.specs.Boolean.{given, missing, validOf}
 use Rattle.reader.specs.Extra.{extra, toNumber}
 use Rattle.reader.specs.Reading.{done, symbol, run}
@@ -31,7 +31,7 @@ pub band-below : (n : ℕ) → getD bands n 0 < 8
 unfolding bands
 band-below n = ltb-true _ _ (all-of-any (λ x. ltb x 8) bands 0 refl refl n)
 
-pub place-below : (kind n ctx : ℕ) → kind < 4 → ctx < 3 → probabilityPlace kind n ctx + 11 ≤ 1056
+pub place-below : (kind n ctx : ℕ) → kind < 4 → ctx < 3 → probabilityPlace kind n ctx + 11 ≤ probabilityCount
 unfolding probabilityPlace
 place-below kind n ctx k c = omega (arith, band-below n)
 
@@ -140,9 +140,9 @@ pub small-next : (l : List ℤ) (n : ℕ) {b : Bool} {x : ℤ} → b ≡ sixteen
 unfolding sixteenBits
 small-next l n e f = rw (add-one, e, f)
 
-pub arguments-fact : (table : List ℕ) (kind ctx first : ℕ) → blockArguments table kind ctx first ≡ true → (length table ≡ 1056) × ((kind < 4) × ((ctx < 3) × (first ≤ 1)))
+pub arguments-fact : (table : List ℕ) (kind ctx first : ℕ) → blockArguments table kind ctx first ≡ true → (length table ≡ probabilityCount) × ((kind < 4) × ((ctx < 3) × (first ≤ 1)))
 arguments-fact table kind ctx first e =
-    let e1 = both-right (eqb (length table) 1056) _ e in
+    let e1 = both-right (eqb (length table) probabilityCount) _ e in
     let e2 = both-right (ltb kind 4) _ e1 in
     (eqb-true _ _ (both-left _ _ e), (ltb-true _ _ (both-left _ _ e1), (ltb-true _ _ (both-left _ _ e2), leb-true _ _ (both-right (ltb ctx 3) _ e2))))
 
@@ -165,7 +165,7 @@ module _ (s : List ℕ) (r : Reader) (table : List ℕ) (kind ctx first q0 q1 : 
   decode-values e = decode-refused (both-false (validOf s r) (both-false (blockArguments table kind ctx first) e))
 
 -- ---- with a header
-pub table-refused : (h : List ℤ) → (length h ≡ entryCount → ⊥) → record { answer = H.Refused; bytes = replicate 1056 0 } ≡ tableOf h
+pub table-refused : (h : List ℤ) → (length h ≡ entryCount → ⊥) → record { answer = H.Refused; bytes = replicate probabilityCount 0 } ≡ tableOf h
 unfolding tableOf
 table-refused h f = rw (ne-eqb _ _ f, tableOf)
 

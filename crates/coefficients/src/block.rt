@@ -2,6 +2,7 @@
 // (RFC 6386, sections 13 and 14.1). A token itself is `reader::token::walk_token`.
 use header::entries::COEFFICIENT_PROBABILITY;
 use header::entries::ENTRY_COUNT;
+use header::entries::PROBABILITY_COUNT;
 use header::entries::probability;
 use numbers::Checked;
 use numbers::Wrapped;
@@ -17,6 +18,7 @@ ghost use mathlib.Core.Path.{_≡_};
 ghost use Prim.Native.Nat.{ℕ, _+_, _*_, _<_, _≤_};
 ghost use lib.ListN.{length, getD};
 ghost use lib.IntN.{pos, negsuc};
+ghost use Rattle.header.specs.Entries.{probabilityCount};
 ghost use Rattle.numbers.specs.In.{In};
 ghost use Rattle.numbers.specs.Wrap.{wrapZ};
 ghost use Rattle.reader.specs.BooleanLaws.{Valid};
@@ -61,7 +63,7 @@ pub enum Block {
 // The 1056 probabilities of a header as bytes; zeros where it was refused.
 pub struct Table {
     pub answer: Checked,
-    pub bytes: [u8; 1056],
+    pub bytes: [u8; PROBABILITY_COUNT],
 }
 
 // ---- the number of a token
@@ -156,7 +158,7 @@ fn entry(table: &[u8; 16], n: usize) -> usize
 fn place(table: &[u8; 16], kind: usize, n: usize, ctx: usize) -> usize
     requires { ⌜ now table ≡ bands ⌝ }
     requires { ⌜ (kind < 4) × ((n < 16) × (ctx < 3)) ⌝ }
-    ensures { λ r. ⌜ (r ≡ probabilityPlace kind n ctx) × (r + 11 ≤ 1056) ⌝ }
+    ensures { λ r. ⌜ (r ≡ probabilityPlace kind n ctx) × (r + 11 ≤ probabilityCount) ⌝ }
 {
     ((kind * 8 + entry(table, n)) * 3 + ctx) * 11
 }
@@ -186,7 +188,7 @@ pub(crate) fn read_block(
     out: &mut [i32; 16],
 ) -> Block
     requires { ⌜ Valid (now s) r ⌝ }
-    requires { ⌜ (length (now table) ≡ 1056) × ((kind < 4) × ((ctx < 3) × (first ≤ 1))) ⌝ }
+    requires { ⌜ (length (now table) ≡ probabilityCount) × ((kind < 4) × ((ctx < 3) × (first ≤ 1))) ⌝ }
     ensures { λ a. ⌜ record { answer = a; out = now (out .exit) }
         ≡ blockOf (now (s .entry)) r (now (table .entry)) kind ctx first q0 q1 (now (out .entry)) ⌝ }
 {
@@ -278,7 +280,7 @@ pub fn dequant(s: &[u8], r: Reader, token: u8, q: u16) -> Signed
 fn arguments(table: &[u8], kind: usize, ctx: usize, first: usize) -> bool
     ensures { λ r. ⌜ r ≡ blockArguments (now (table .entry)) kind ctx first ⌝ }
 {
-    (table.len() == 1056) & ((kind < 4) & ((ctx < 3) & (first <= 1)))
+    (table.len() == PROBABILITY_COUNT) & ((kind < 4) & ((ctx < 3) & (first <= 1)))
 }
 
 // A block: where it ended, its numbers stored into `out`, which every other answer leaves as it was.
@@ -312,7 +314,7 @@ pub fn decode(
 pub fn probabilities(h: &[i32]) -> Table
     ensures { λ r. ⌜ r ≡ tableOf (now (h .entry)) ⌝ }
 {
-    let mut bytes = [0u8; 1056];
+    let mut bytes = [0u8; PROBABILITY_COUNT];
     if h.len() != ENTRY_COUNT {
         return Table {
             answer: Checked::Refused,
@@ -320,7 +322,7 @@ pub fn probabilities(h: &[i32]) -> Table
         };
     }
     let mut i = 0;
-    while i < 1056 {
+    while i < PROBABILITY_COUNT {
         bytes[i] = probability(h[COEFFICIENT_PROBABILITY + i]);
         i = i + 1;
     }

@@ -4,6 +4,7 @@ use Prim.Native.Nat.{ℕ, zero, suc, _+_}
 use mathlib.Core.List.{List}
 use mathlib.Core.Bool.{Bool, true, false}
 use lib.ListN.{getD, set, replicate}
+use Rattle.header.specs.Entries.{probabilityCount}
 use Rattle.reader.specs.Reading.{Reading, done, _>>=_, symbol}
 use Rattle.reader.specs.Extra.{extra}
 use Rattle.frame.specs.declared.fields.Signed.{Signed}
@@ -147,7 +148,7 @@ probsFrom (suc n) i table = do
   probsFrom n (i + 1) (set table i p)
 
 unfoldable pub probs : Reading (List ℕ)
-probs = probsFrom 1056 0 defaultProbs
+probs = probsFrom probabilityCount 0 defaultProbs
 
 -- ---- frame_header()
 unfoldable pub header : Reading Header

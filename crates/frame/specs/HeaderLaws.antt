@@ -8,6 +8,7 @@ use lib.Dec.{ltb, lit<, lit≤}
 use lib.ListN.{length, getD, set, replicate, length-replicate}
 use lib.Pow.{pow-mono}
 use borrow.Author.Tests.{ltb-true, lt-ltb}
+use Rattle.header.specs.Entries.{probabilityCount}
 use Rattle.numbers.specs.Lists.{set-keeps}
 use Rattle.numbers.specs.Tables.{all-of-any}
 use Rattle.reader.specs.declared.boolean.Reader.{Reader}
@@ -167,7 +168,7 @@ probs-from-within (suc n) i table y =
 
 probs-within : Within Bytes 9504 probs
 unfolding probs
-probs-within = probs-from-within 1056 0 defaultProbs default-bytes
+probs-within = probs-from-within probabilityCount 0 defaultProbs default-bytes
 
 -- ---- THE LAW of the coded header
 pub header-within : Within FineTaken 9730 header

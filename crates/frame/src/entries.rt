@@ -7,6 +7,7 @@ use crate::fields::Segments;
 use crate::fields::Signed;
 use crate::fields::Three;
 use header::entries;
+use header::entries::PROBABILITY_COUNT;
 ghost use mathlib.Core.Path.{_≡_};
 ghost use Prim.Native.Nat.{_<_};
 ghost use Rattle.frame.specs.Fine.{FineTaken};
@@ -132,7 +133,13 @@ fn numbers(h: Header) -> [Signed; 38]
 }
 
 // What stands at entry i: the numbers, then the coefficient probabilities, then the skip flag and its probability.
-fn number_at(first: [Signed; 38], probs: &[u32; 1056], skip: u32, chance: u32, i: usize) -> Signed
+fn number_at(
+    first: [Signed; 38],
+    probs: &[u32; PROBABILITY_COUNT],
+    skip: u32,
+    chance: u32,
+    i: usize,
+) -> Signed
     requires { ⌜ i < 1096 ⌝ }
     ensures { λ r. ⌜ r ≡ numberAt first (now (probs .entry)) skip chance i ⌝ }
 {

@@ -5,6 +5,7 @@ use crate::literal::literal;
 use crate::literal::nowhere;
 use crate::tables::defaults;
 use crate::tables::updates;
+use header::entries::PROBABILITY_COUNT;
 use reader::boolean::Reader;
 use reader::boolean::Symbol;
 ghost use Rattle.frame.specs.Header.{prob, probs};
@@ -35,7 +36,7 @@ pub(crate) fn probs(s: &[u8], r: Reader) -> GotProbs
     let mut table = defaults();
     let mut next = r;
     let mut i = 0;
-    while i < 1056 {
+    while i < PROBABILITY_COUNT {
         let q = prob(s, next, chances[i], table[i]);
         table[i] = q.value;
         next = q.next;

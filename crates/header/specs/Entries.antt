@@ -74,6 +74,10 @@ uvacDelta = 36
 abbrev pub coefficientProbability : ℕ
 coefficientProbability = 38
 
+-- so many of them, 4 kinds * 8 bands * 3 contexts * 11 nodes
+abbrev pub probabilityCount : ℕ
+probabilityCount = 1056
+
 -- 1094: macroblocks have a skip flag
 abbrev pub skipsOn : ℕ
 skipsOn = 1094

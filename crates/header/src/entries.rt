@@ -39,6 +39,8 @@ pub const UVAC_DELTA: usize = 36;
 
 pub const COEFFICIENT_PROBABILITY: usize = 38;
 
+pub const PROBABILITY_COUNT: usize = 1056;
+
 pub const SKIPS_ON: usize = 1094;
 
 pub const SKIP_PROBABILITY: usize = 1095;

@@ -8,6 +8,7 @@ use native.Mathlib.Omega.{arith}
 use borrow.Author.Tests.{eqb-true, ltb-true, leb-true, lt-ltb, le-ltb, le-leb, lt-leb, eq-eqb}
 use lib.Dec.{ltb, leb, eqb}
 use lib.ListN.{length, getD, List·getD-eq-default}
+use Rattle.header.specs.Entries.{probabilityCount}
 use Rattle.numbers.specs.Tests.{both-left, both-right, both-true, both-false}
 use Rattle.reader.specs.Boolean.{validOf}
 use Rattle.reader.specs.BooleanLaws.{Valid, valid-test, valid-fact}
@@ -83,7 +84,7 @@ module _ (first tokens : List ℕ) (readers : Readers) (f : Frame) (table : List
       let t = readers .token in
       let two = both-left (validOf first r && validOf tokens t) _ e in
       let e1 = both-right (validOf first r && validOf tokens t) _ e in
-      let e2 = both-right (eqb (length table) 1056) _ e1 in
+      let e2 = both-right (eqb (length table) probabilityCount) _ e1 in
       let contexts = both-left (contextFine top && contextFine left) _ e2 in
       let levels = both-right (contextFine top && contextFine left) _ e2 in
       let a = both-left (contextFine top) _ contexts in

@@ -6,6 +6,7 @@ use mathlib.Core.List.{List, [], _∷_}
 use lib.Dec.{ltb, leb, eqb}
 use lib.IntN.{ℤ}
 use lib.ListN.{length, getD, take, drop, replicate}
+use Rattle.header.specs.Entries.{probabilityCount}
 use Rattle.reader.specs.Boolean.{Given, given, missing, validOf}
 use Rattle.reader.specs.Reading.{run}
 use Rattle.reader.specs.declared.boolean.Reader.{Reader}
@@ -145,7 +146,7 @@ levelsFine l = (leb (getD l 0 0) 63 && leb (getD l 1 0) 63) && (leb (getD l 2 0)
 unfoldable pub readyOf : (first tokens : List ℕ) → Readers → Frame → (size : ℕ) → Around → Bool
 readyOf first tokens readers f size around =
     (validOf first (readers .first) && validOf tokens (readers .token))
-    && (eqb size 1056
+    && (eqb size probabilityCount
     && ((contextFine (around .top) && contextFine (around .left))
     && (levelsFine (f .large) && levelsFine (f .small))))
 

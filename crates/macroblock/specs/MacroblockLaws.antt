@@ -8,6 +8,7 @@ use native.Mathlib.Omega.{arith}
 use lib.IntN.{ℤ, pos, negsuc}
 use lib.ListN.{length, getD, take, drop, length-take, length-drop, replicate, List·getD-eq-default}
 use lib.Seq.{getD-take, getD-drop}
+use Rattle.header.specs.Entries.{probabilityCount}
 use Rattle.numbers.specs.Tests.{lt-or, never}
 use Rattle.numbers.specs.In.{In, Each}
 use Rattle.numbers.specs.Parts.{of-le}
@@ -63,7 +64,7 @@ pub record Painting (m : Macroblock) (c : List ℤ) : Type 0 where
 pub record Ready (first tokens : List ℕ) (readers : Readers) (f : Frame) (table : List ℕ) (around : Around) : Type 0 where
   pub reader : Valid first (readers .first)
   pub token : Valid tokens (readers .token)
-  pub size : length table ≡ 1056
+  pub size : length table ≡ probabilityCount
   pub contexts : contextsOf (around .top .modes) (around .left .modes) ≡ true
   pub top : Flags (around .top .flags)
   pub left : Flags (around .left .flags)
@@ -72,7 +73,7 @@ pub record Ready (first tokens : List ℕ) (readers : Readers) (f : Frame) (tabl
 -- of these, what the tokens ask
 pub record Tokens (tokens : List ℕ) (t : Reader) (f : Frame) (table : List ℕ) (around : Around) : Type 0 where
   pub token : Valid tokens t
-  pub size : length table ≡ 1056
+  pub size : length table ≡ probabilityCount
   pub top : Flags (around .top .flags)
   pub left : Flags (around .left .flags)
   pub sound : Sound f

@@ -2,6 +2,7 @@
 use crate::arguments::Around;
 use crate::arguments::Place;
 use crate::arguments::Readers;
+use header::entries::PROBABILITY_COUNT;
 use header::frame::Frame;
 use modes::contexts::context_fine;
 use reader::boolean::valid;
@@ -50,7 +51,7 @@ pub(crate) fn ready(
     let r = readers.first;
     let t = readers.token;
     (valid(first, r) & valid(tokens, t))
-        & ((size == 1056) & (around_fine(around) & frame_fine(frame)))
+        & ((size == PROBABILITY_COUNT) & (around_fine(around) & frame_fine(frame)))
 }
 
 fn area(rows: usize, width: usize) -> usize

@@ -8,6 +8,7 @@ use native.Mathlib.Omega.{arith}
 use native.Mathlib.Nat.{mod-lt, div-lt-iff-lt-mul, mul-comm, mul-le-mul-right}
 use lib.ListN.{length, getD, set, length-set}
 use lib.Seq.{getD-set-same, getD-set-other}
+use Rattle.header.specs.Entries.{probabilityCount}
 use Rattle.numbers.specs.Tests.{eq-or, both-left, both-right}
 use Rattle.reader.specs.declared.boolean.Reader.{Reader}
 use Rattle.reader.specs.Boolean.{noReader}
@@ -58,7 +59,7 @@ step-at P k S = refl
 pub record Shared (P : Picture) : Type 0 where
   pub least : 1 ≤ P .count
   pub most : P .count ≤ 8
-  pub size : length (P .table) ≡ 1056
+  pub size : length (P .table) ≡ probabilityCount
   pub bytes : Bytes (P .table)
   pub sound : Sound (P .frame)
   pub wide : P .wide ≤ 1024

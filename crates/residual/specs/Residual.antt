@@ -7,6 +7,7 @@ use mathlib.Core.Path.{_≡_}
 use lib.Dec.{ltb, leb, eqb}
 use lib.IntN.{ℤ, pos, negsuc}
 use lib.ListN.{length, getD, set, replicate}
+use Rattle.header.specs.Entries.{probabilityCount}
 use Rattle.numbers.specs.Flags.{bitOf}
 use Rattle.numbers.specs.In.{Each}
 use Rattle.numbers.specs.Lists.{build}
@@ -166,7 +167,7 @@ abbrev pub flagsOf : List ℕ → Bool
 flagsOf l = allBelow 9 (λ i. leb (getD l i 0) 1)
 
 abbrev pub residualArguments : (table : List ℕ) → (top left : List ℕ) → (size : ℕ) → Bool
-residualArguments table top left size = eqb (length table) 1056 && (flagsOf top && (flagsOf left && eqb size 384))
+residualArguments table top left size = eqb (length table) probabilityCount && (flagsOf top && (flagsOf left && eqb size 384))
 
 module _ (s : List ℕ) (r : Reader) where
   unfoldable pub residualAnswer : (table : List ℕ) → Factors → (small skip : Bool) → (top left : List ℕ) → (old : List ℤ) → ResidualCalled

@@ -9,6 +9,7 @@ use lib.Dec.{ltb}
 use lib.IntN.{ℤ, pos, negsuc}
 use lib.ListN.{length, getD, set, replicate, length-set, length-replicate}
 use borrow.Author.Tests.{lt-ltb, le-ltb}
+use Rattle.header.specs.Entries.{probabilityCount}
 use Rattle.numbers.specs.Flags.{bitOf}
 use Rattle.numbers.specs.Bounds.{each-set}
 use Rattle.numbers.specs.In.{Each}
@@ -175,7 +176,7 @@ module _ (table : List ℕ) (f : Factors) (y : Bytes table) where
 -- ---- the public call
 -- what it asks of its arguments besides the reader
 pub record Good (table top left : List ℕ) (old : List ℤ) : Type 0 where
-  pub size : length table ≡ 1056
+  pub size : length table ≡ probabilityCount
   pub top-flags : Flags top
   pub left-flags : Flags left
   pub long : length old ≡ 384

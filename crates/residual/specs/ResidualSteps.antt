@@ -10,6 +10,7 @@ use borrow.Author.Tests.{leb-true, eqb-true, le-leb, eq-eqb}
 use mathlib.Core.List.{List}
 use lib.IntN.{ℤ, pos}
 use lib.ListN.{length, getD, set, replicate, List·getD-eq-default}
+use Rattle.header.specs.Entries.{probabilityCount}
 use Rattle.numbers.specs.Runs.{placed, placed-next}
 use Rattle.numbers.specs.Tables.{allBelow, all-below}
 use Rattle.numbers.specs.Tests.{lt-or, both-left, both-right, both-true, both-false}
@@ -51,7 +52,7 @@ turnOf false m l = missing
 -- what every part asks, and leaves
 pub record Held (s table : List ℕ) (m : State) (flat : List ℤ) : Type 0 where
   pub reader : Valid s (m .reader)
-  pub size : length table ≡ 1056
+  pub size : length table ≡ probabilityCount
   pub whole : ModelInRange (modelOf m flat)
 
 -- ---- the flat list, one store at a time
@@ -67,7 +68,7 @@ unfolding spread
 spread-next p dc k e h = rw add-one (ap₂ (λ (x : List ℤ) (y : ℤ). set x (16 * k) y) e h)
 
 -- ---- a block that the checked call read, in the context that the code worked out
-pub coded-read : (s : List ℕ) (r : Reader) (table : List ℕ) (k : Kind) (ctx : ℕ) (old : List ℤ) → Valid s r → length table ≡ 1056 → (k .kind < 4) × (k .first ≤ 1) → ctx < 3 → Sixteen old
+pub coded-read : (s : List ℕ) (r : Reader) (table : List ℕ) (k : Kind) (ctx : ℕ) (old : List ℤ) → Valid s r → length table ≡ probabilityCount → (k .kind < 4) × (k .first ≤ 1) → ctx < 3 → Sixteen old
     → {x : Block} {l : List ℤ} → record { answer = x; out = l } ≡ tokens.blockCallOf s r table (k .kind) ctx (k .first) (k .q0) (k .q1) old
     → run (block table (k .kind) (k .q0) (k .q1) ctx (k .first) old) s r ≡ fromBlock l x
 coded-read s r table k ctx old v n g h o e =
@@ -152,13 +153,13 @@ flags-fact {l} n e = record { long = n; each = go }
     ]
 
 module _ (table top left : List ℕ) (size : ℕ) where
-  pub arguments-fact : length top ≡ 9 → length left ≡ 9 → residualArguments table top left size ≡ true → (length table ≡ 1056) × ((Flags top × Flags left) × (size ≡ 384))
+  pub arguments-fact : length top ≡ 9 → length left ≡ 9 → residualArguments table top left size ≡ true → (length table ≡ probabilityCount) × ((Flags top × Flags left) × (size ≡ 384))
   arguments-fact t l e =
-      let e1 = both-right (eqb (length table) 1056) _ e in
+      let e1 = both-right (eqb (length table) probabilityCount) _ e in
       let e2 = both-right (flagsOf top) _ e1 in
       (eqb-true _ _ (both-left _ _ e), ((flags-fact t (both-left _ _ e1), flags-fact l (both-left _ _ e2)), eqb-true _ _ (both-right (flagsOf left) _ e2)))
 
-  pub arguments-good : length table ≡ 1056 → Flags top → Flags left → size ≡ 384 → residualArguments table top left size ≡ true
+  pub arguments-good : length table ≡ probabilityCount → Flags top → Flags left → size ≡ 384 → residualArguments table top left size ≡ true
   arguments-good n t l k = both-true (eq-eqb _ _ n) (both-true (flags-true top (t .each)) (both-true (flags-true left (l .each)) (eq-eqb _ _ k)))
 
 module _ (s : List ℕ) (r : Reader) (table : List ℕ) (f : Factors) (small skip : Bool) (top left : List ℕ) (old : List ℤ) where

@@ -18,6 +18,7 @@ ghost use mathlib.Core.Bool.{true};
 ghost use Prim.Native.Nat.{_+_, _<_, _≤_};
 ghost use lib.IntN.{pos};
 ghost use lib.ListN.{length, getD, set, replicate};
+ghost use Rattle.header.specs.Entries.{probabilityCount};
 ghost use Rattle.numbers.specs.Flags.{bitOf};
 ghost use Rattle.reader.specs.BooleanLaws.{Valid};
 ghost use Rattle.reader.specs.Reading.{run};
@@ -99,7 +100,7 @@ fn context_at(m: State, p: FlagsAt) -> usize
 
 // One block in its context. The state is not handed on: only its reader is needed.
 fn read_coded(s: &[u8], table: &[u8], r: Reader, k: Kind, ctx: usize, c: &mut [i32; 16]) -> Block
-    requires { ⌜ Valid (now s) r × (length (now table) ≡ 1056) ⌝ }
+    requires { ⌜ Valid (now s) r × (length (now table) ≡ probabilityCount) ⌝ }
     requires { ⌜ ((k .kind < 4) × (k .first ≤ 1)) × (ctx < 3) ⌝ }
     requires { ⌜ Sixteen (now c) ⌝ }
     ensures { λ a. ⌜ run (block (now (table .entry)) (k .kind) (k .q0) (k .q1) ctx (k .first) (now (c .entry))) (now (s .entry)) r
@@ -253,7 +254,7 @@ pub(crate) fn read(
     left: [u8; 9],
     flat: &mut [i32],
 ) -> Turn
-    requires { ⌜ Valid (now s) r × (length (now table) ≡ 1056) ⌝ }
+    requires { ⌜ Valid (now s) r × (length (now table) ≡ probabilityCount) ⌝ }
     requires { ⌜ (Flags top × Flags left) × (now flat ≡ replicate 384 (pos 0)) ⌝ }
     ensures { λ t. ⌜ run (residualOf (now (table .entry)) f small skip top left) (now (s .entry)) r
         ≡ turnOf (t .ended) (t .state) (now (flat .exit)) ⌝ }

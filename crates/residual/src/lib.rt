@@ -3,6 +3,7 @@ use crate::blocks::read;
 use crate::contexts::flags_fine;
 use crate::flat::hand_over;
 use coefficients::block::probabilities;
+use header::entries::PROBABILITY_COUNT;
 use header::quantizers::Factors;
 use header::quantizers::Quantizers;
 use header::quantizers::for_segment;
@@ -10,6 +11,7 @@ use reader::boolean::Reader;
 use reader::boolean::valid;
 ghost use mathlib.Core.Path.{_≡_};
 ghost use lib.ListN.{length};
+ghost use Rattle.header.specs.Entries.{probabilityCount};
 ghost use Rattle.reader.specs.BooleanLaws.{Valid};
 ghost use Rattle.residual.specs.Residual.{Flags, noResidual, residualArguments, residualAnswer, residualCallOf, residualByHeaderOf};
 
@@ -53,7 +55,7 @@ fn read_residual(
     left: [u8; 9],
     out: &mut [i32],
 ) -> Residual
-    requires { ⌜ Valid (now s) r × (length (now table) ≡ 1056) ⌝ }
+    requires { ⌜ Valid (now s) r × (length (now table) ≡ probabilityCount) ⌝ }
     requires { ⌜ (Flags top × Flags left) × (length (now out) ≡ 384) ⌝ }
     ensures { λ q. ⌜ record { answer = q; out = now (out .exit) }
         ≡ residualAnswer (now (s .entry)) r (now (table .entry)) f small skip top left (now (out .entry)) ⌝ }
@@ -78,7 +80,7 @@ fn read_residual(
 fn arguments(table: &[u8], top: [u8; 9], left: [u8; 9], size: usize) -> bool
     ensures { λ b. ⌜ b ≡ residualArguments (now (table .entry)) top left size ⌝ }
 {
-    (table.len() == 1056) & (flags_fine(top) & (flags_fine(left) & (size == 384)))
+    (table.len() == PROBABILITY_COUNT) & (flags_fine(top) & (flags_fine(left) & (size == 384)))
 }
 
 // The residual of a macroblock: the reader after it, its flags, its 384 coefficients in `out`, which every other answer leaves as it was.
