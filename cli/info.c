@@ -1,6 +1,7 @@
 /* hookbarley info: what a frame's header says, and what decoding it gave. */
 #include "answers.h"
 #include "commands.h"
+#include <inttypes.h>
 
 /* Places in the header, as include/hookbarley.h lists them. */
 enum {
@@ -56,6 +57,13 @@ static void print_modes(const struct picture *p) {
     printf("  by segment  %zu, %zu, %zu, %zu; skipped %zu\n", segment[0], segment[1], segment[2], segment[3], skipped);
 }
 
+/* The symbols read, beside the most that as many macroblocks can read: those finished and, where it was cut, one more. */
+static void print_cost(const struct picture *p) {
+    uint64_t asked = p->finished + (p->number != HOOKBARLEY_WHOLE);
+    printf("  symbols     %" PRIu64 " of at most %" PRIu64 " from the first partition", p->first_reads, asked * HOOKBARLEY_FIRST_MOST);
+    printf(", %" PRIu64 " of at most %" PRIu64 " of tokens\n", p->token_reads, asked * HOOKBARLEY_TOKEN_MOST);
+}
+
 static void print_frame(struct frame frame, const struct picture *p) {
     printf("  frame       %zu bytes", frame.length);
     if (has_picture(p->number)) {
@@ -66,7 +74,9 @@ static void print_frame(struct frame frame, const struct picture *p) {
     printf("  answer      ");
     print_answer(stdout, p->number, p);
     printf("\n");
-    if (has_picture(p->number)) print_modes(p);
+    if (!has_picture(p->number)) return;
+    print_cost(p);
+    print_modes(p);
 }
 
 static int info_file(const char *path, struct tally *tally) {

@@ -27,7 +27,7 @@ void picture_decode(struct picture *p, struct frame frame, enum filter filter) {
     p->blocks = hookbarley_blocks(&p->tile);
     p->room = memory(hookbarley_room(&p->tile));
     hookbarley_lend(&p->tile, p->room, &p->memory);
-    p->number = hookbarley_picture(frame.bytes, frame.length, p->header, &p->tile, &p->memory, &p->finished);
+    p->number = hookbarley_picture(frame.bytes, frame.length, p->header, &p->tile, &p->memory, &p->finished, &p->first_reads, &p->token_reads);
     p->filtered = "unfiltered";
     if (has_picture(p->number) && filter != FILTER_NONE && p->level) deblock(p);
 }

@@ -15,6 +15,7 @@ struct picture {
     struct hookbarley_memory memory;
     uint8_t *room;           /* what the memory is cut from */
     size_t blocks, finished; /* macroblocks, and those finished */
+    uint64_t first_reads, token_reads; /* symbols read from the first partition and from token partitions */
     int level;               /* the frame's filter level; where it is 0 nothing is filtered (docs/DIFFERENCES.md) */
     const char *filtered;    /* "unfiltered", "simple filter" or "normal filter" */
 };

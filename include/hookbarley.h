@@ -33,7 +33,7 @@ enum hookbarley_number {
 };
 
 /* Decodes one picture. Checks are made in the order of the numbers above (9 first), and after 1 to 5 and 9 nothing lent has changed
- * and *finished is 0. After 6 and 7 the macroblocks 0..*finished-1 (raster order) stand finished, every other sample is 128, the
+ * and *finished and both counts are 0. After 6 and 7 the macroblocks 0..*finished-1 (raster order) stand finished, every other sample is 128, the
  * modes and strengths of the others are 0. What the lent memory held before never matters. A partition runs out where one of the eight
  * bits that decide a symbol lies past its end; it may have any length, 0 too.
  *
@@ -64,6 +64,9 @@ enum hookbarley_number {
  * strengths        lent: 4 bytes a macroblock for the loop filter (limit 0..189, inner 0..63, threshold 0..2, inside 1 where the inner
  *                  edges are filtered)
  * finished         the macroblocks finished
+ * first_reads, token_reads   what it cost: the symbols read from the first partition and from token partitions, those of a macroblock that
+ *                  ran out too, up to the symbol that is missing. At most HOOKBARLEY_FIRST_MOST and HOOKBARLEY_TOKEN_MOST a macroblock,
+ *                  over the macroblocks finished and, after 6 and 7, one more
  */
 uint32_t hookbarley_decode(const uint8_t *bytes, size_t bytes_len,
                            size_t first_start, size_t first_length,
@@ -79,7 +82,10 @@ uint32_t hookbarley_decode(const uint8_t *bytes, size_t bytes_len,
                            uint8_t *columns, size_t columns_len,
                            uint8_t *modes, size_t modes_len,
                            uint8_t *strengths, size_t strengths_len,
-                           size_t *finished);
+                           size_t *finished, uint64_t *first_reads, uint64_t *token_reads);
+
+/* The most symbols that a macroblock reads from the first partition, and from its token partition. */
+enum { HOOKBARLEY_FIRST_MOST = 119, HOOKBARLEY_TOKEN_MOST = 7296 };
 
 /* Deblocks a picture in place (RFC 6386, section 15): macroblocks in raster order, in each the left edge unless column 0, inner vertical
  * edges, the top edge unless row 0, inner horizontal edges. What hookbarley_decode left is never refused. Checks are made in this
@@ -194,10 +200,11 @@ uint32_t hookbarley_webp_wrap(const uint8_t *frame, size_t frame_length, uint8_t
  *     struct hookbarley_tile tile;
  *     struct hookbarley_memory memory;
  *     size_t finished;
+ *     uint64_t first_reads, token_reads;
  *     uint32_t number = hookbarley_take(frame, length, header, &tile);
  *     if (number) return number;
  *     hookbarley_lend(&tile, malloc(hookbarley_room(&tile)), &memory);
- *     number = hookbarley_picture(frame, length, header, &tile, &memory, &finished);
+ *     number = hookbarley_picture(frame, length, header, &tile, &memory, &finished, &first_reads, &token_reads);
  *     if (header[18]) hookbarley_deblock_picture(&tile, &memory);
  *     draw(memory.y, memory.u, memory.v, &tile);
  */
@@ -229,12 +236,14 @@ static inline uint32_t hookbarley_take(const uint8_t *frame, size_t length, int3
 
 /* hookbarley_decode of what was taken. */
 static inline uint32_t hookbarley_picture(const uint8_t *frame, size_t length, const int32_t *header, const struct hookbarley_tile *t,
-                                          const struct hookbarley_memory *m, size_t *finished) {
+                                          const struct hookbarley_memory *m, size_t *finished,
+                                          uint64_t *first_reads, uint64_t *token_reads) {
     size_t chroma = t->width / 2 * (t->height / 2), blocks = hookbarley_blocks(t);
     return hookbarley_decode(frame, length, t->first_start, t->first_length, t->token_starts, 8, t->token_lengths, 8,
                              t->at, (uint32_t)t->range, (uint32_t)t->shifts, (uint32_t)t->window, t->count, header, HOOKBARLEY_ENTRIES,
                              t->width, t->height, m->y, t->width * t->height, m->u, chroma, m->v, chroma,
-                             m->columns, 13 * (t->width / 16), m->modes, 20 * blocks, m->strengths, 4 * blocks, finished);
+                             m->columns, 13 * (t->width / 16), m->modes, 20 * blocks, m->strengths, 4 * blocks,
+                             finished, first_reads, token_reads);
 }
 
 /* hookbarley_deblock of what was decoded. */

@@ -10,7 +10,8 @@ row, seed (2 bytes), the partitions' lengths (2 bytes each), and for above and l
 big-endian. The planes are 48 by 32 luma samples and 24 by 16 of chroma, filled from the seed before each case.
 
 A line: the answer's number, the sums of Y, U and V, the four strengths, segment, skip, small, chroma, the sixteen luma modes,
-what is left for below and for the right (four modes and nine flags each), and the places of the two readers.
+what is left for below and for the right (four modes and nine flags each), the places of the two readers, and the symbols read from the two
+partitions.
 """
 import random
 
@@ -21,10 +22,10 @@ WIDTH, HEIGHT = 48, 32
 
 class Encoder:
     def __init__(self):
-        self.low, self.range, self.shifts, self.needed = 0, 255, 0, 0
+        self.low, self.range, self.shifts, self.needed = 0, 255, 0, []
 
     def put(self, bit, prob):
-        self.needed = self.shifts + 8  # the eight bits that decide it begin behind the shifts so far
+        self.needed.append(self.shifts + 8)  # the eight bits that decide it begin behind the shifts so far
         split = 1 + ((self.range - 1) * prob >> 8)
         if bit:
             self.low += split
@@ -41,7 +42,11 @@ class Encoder:
     def bytes(self):
         """As many bytes as decide the last symbol, and not one more: a reader loads zeros past them."""
         size = -(-(self.shifts + 8) // 8)
-        return (self.low << 8 * size - 8 - self.shifts).to_bytes(size, "big")[:-(-self.needed // 8)]
+        return (self.low << 8 * size - 8 - self.shifts).to_bytes(size, "big")[:-(-max(self.needed, default=0) // 8)]
+
+    def reads(self, size):
+        """How many symbols so many bytes decide."""
+        return sum(n <= 8 * size for n in self.needed)
 
     def place(self):
         """Where a reader is after the last symbol: it loaded two bytes, and one at each eighth shift."""
@@ -359,7 +364,8 @@ def case(h, mb, column, row, seed, top, left, cut=None):
         below, right, places = modes[12:] + above, modes[3::4] + beside, [first.place(), tokens.place()]
     else:
         modes, below, right, places = [0] * 16, [0] * 13, [0] * 13, [0, 0]
-    words = [answer, y.sum(), u.sum(), v.sum(), *rest, *["".join(map(str, d)) for d in (modes, below, right)], *places]
+    reads = [first.reads(len(s)), 0 if answer == 6 else tokens.reads(len(t))]
+    words = [answer, y.sum(), u.sum(), v.sum(), *rest, *["".join(map(str, d)) for d in (modes, below, right)], *places, *reads]
     data = bytes([column, row]) + b"".join(n.to_bytes(2, "big") for n in (seed, len(s), len(t))) + bytes(top + left)
     return data + s + t, " ".join(map(str, words))
 
@@ -422,4 +428,5 @@ def main():
     print(len(cases), "cases")
 
 
-main()
+if __name__ == "__main__":
+    main()

@@ -17,11 +17,12 @@ static int decode(const uint8_t *frame, size_t length) {
     struct hookbarley_tile tile;
     struct hookbarley_memory memory;
     size_t finished;
+    uint64_t first_reads, token_reads; /* what it cost, for whoever plans by it */
     uint32_t number = hookbarley_take(frame, length, header, &tile);
     if (number) return refused(number);
     hookbarley_lend(&tile, malloc(hookbarley_room(&tile)), &memory);
     if (!memory.y) return 2;
-    number = hookbarley_picture(frame, length, header, &tile, &memory, &finished);
+    number = hookbarley_picture(frame, length, header, &tile, &memory, &finished, &first_reads, &token_reads);
     if (header[18]) hookbarley_deblock_picture(&tile, &memory);
     fprintf(stderr, "%u %zu %zu %zu\n", number, finished, tile.true_width, tile.true_height);
     printf("P5\n%zu %zu\n255\n", tile.true_width, tile.true_height);

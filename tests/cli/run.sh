@@ -78,7 +78,7 @@ cmp -s -n $((7 * 16 * 256)) $out/c.yuv $out/u.yuv || bad "$what: the finished ro
 [ "$(wc -c <$out/c.yuv)" -eq 98304 ] || bad "$what: not a whole picture"
 { printf '\020\175\000' && tail -c +4 $out/tile.vp8; } >$out/modes.vp8 # a first partition of 1000 bytes
 hb 1 decode $out/modes.vp8 $out/m.pgm && warned 'cut: 6, the first partition, which holds the modes, ran out in macroblock'
-hb 1 info $out/cut.vp8 && said "$stop" && said 'small 123'
+hb 1 info $out/cut.vp8 && said "$stop" && said 'small 123' && said 'of at most 14756 from the first partition' && said 'of at most 904704 of tokens'
 
 # Refused: the number in words, and nothing is written.
 refused() { # refused NUMBER FILE

@@ -1,14 +1,15 @@
 /* The picture call from outside, with damaged input: damaged DIR N SEED [random].
  *
- * DIR holds NNNN.case and expected-memory-m102.txt (tests/outside/README.md). Every lent buffer and every input stands between
+ * DIR holds NNNN.case, expected-memory-m102.txt and expected-counts-m102.txt (tests/outside/README.md). Every lent buffer and every input stands between
  * pages that may not be touched: once ending at the page behind it, once starting at the page before it. The inputs are lent
  * through a view that may only be read. Memory to be written is poisoned, each time with another byte. Run here:
- *   whole   every tile of DIR: number, k and the six memories as expected-memory-m102.txt says;
+ *   whole   every tile of DIR: number, k and the six memories as expected-memory-m102.txt says, the symbols read as expected-counts-m102.txt;
  *   cut     every tile, every partition, every shorter length: finished macroblocks equal the whole tile's, the rest is 128 and 0,
- *           column memory is as after macroblock k - 1, k never falls as the length rises;
+ *           column memory is as after macroblock k - 1; k and the symbols read never fall as the length rises;
  *   apart   every tile of two partitions or more, every partition: another content leaves the macroblock rows above alone;
  *   random  N inputs made from SEED, valid, damaged and absurd: the number is the one this file works out (1 to 5, 9) or 0, 6, 7,
- *           refusals leave the poison, both runs agree, the rest is 128 and 0, a further cut keeps what is finished;
+ *           refusals leave the poison and read nothing, both runs agree, the rest is 128 and 0, no more symbols are read than so many
+ *           macroblocks can read, a further cut keeps what is finished;
  *   refused every set of reasons to refuse: the number is that of the first check, nothing is written;
  *   kernel  the edge kernel: numbers of the scope, other lengths answer 9 and change nothing;
  *   deblock after each answer above, both kinds: what a plain filter of this file makes of the planes, strengths in memory that may only be
@@ -24,10 +25,10 @@
 #include <sys/mman.h>
 #include <unistd.h>
 
-enum { Y, U, V, COLUMNS, MODES, STRENGTHS, LENT, BYTES = LENT, STARTS, LENGTHS, HEADER, FINISHED, BUFFERS };
+enum { Y, U, V, COLUMNS, MODES, STRENGTHS, LENT, BYTES = LENT, STARTS, LENGTHS, HEADER, FINISHED, FIRST_READS, TOKEN_READS, BUFFERS };
 enum { GUARD = 1 << 20, SLACK = 64 };
-static const char *const names[] = {"y", "u", "v", "columns", "modes", "strengths", "bytes", "starts", "lengths", "header", "finished"};
-static const size_t capacities[] = {1 << 18, 1 << 16, 1 << 16, 1 << 14, 5 << 12, 1 << 12, 1 << 17, 1 << 12, 1 << 12, 5 << 12, 1 << 12};
+static const char *const names[] = {"y", "u", "v", "columns", "modes", "strengths", "bytes", "starts", "lengths", "header", "finished", "first_reads", "token_reads"};
+static const size_t capacities[] = {1 << 18, 1 << 16, 1 << 16, 1 << 14, 5 << 12, 1 << 12, 1 << 17, 1 << 12, 1 << 12, 5 << 12, 1 << 12, 1 << 12, 1 << 12};
 
 static char where[256] = "start";
 
@@ -76,7 +77,7 @@ struct call {
     size_t header_len, w, h, lent[LENT];
 };
 
-struct result { uint32_t number; size_t k; uint8_t *mem[LENT]; };
+struct result { uint32_t number; size_t k; uint64_t first, tokens; uint8_t *mem[LENT]; };
 
 static struct result new_result(void) {
     struct result r = {0};
@@ -85,6 +86,9 @@ static struct result new_result(void) {
 }
 
 static size_t offset(int b, size_t n, int end) { return end ? capacities[b] - n : 0; }
+
+/* Where a number is to be written. */
+static void *out(int b, size_t n, int end, int poison) { return memset(buffers[b].seen + offset(b, n, end), poison, n); }
 
 static const void *lay(int b, const void *from, size_t n, int end) {
     size_t o = offset(b, n, end);
@@ -117,13 +121,15 @@ static void run(const struct call *c, int end, int poison, struct result *r) {
     const size_t *starts = lay(STARTS, c->starts, c->starts_len * sizeof(size_t), end);
     const size_t *lengths = lay(LENGTHS, c->lengths, c->lengths_len * sizeof(size_t), end);
     const int32_t *header = lay(HEADER, c->header, c->header_len * sizeof(int32_t), end);
-    size_t *finished = (size_t *)(buffers[FINISHED].seen + offset(FINISHED, sizeof(size_t), end));
-    memset(finished, poison, sizeof *finished);
+    size_t *finished = out(FINISHED, sizeof *finished, end, poison);
+    uint64_t *first = out(FIRST_READS, sizeof *first, end, poison), *tokens = out(TOKEN_READS, sizeof *tokens, end, poison);
     r->number = hookbarley_decode(bytes, c->n, c->first_start, c->first_length, starts, c->starts_len, lengths, c->lengths_len,
                                   c->at, c->range, c->shifts, c->window, c->count, header, c->header_len, c->w, c->h,
                                   m[Y], c->lent[Y], m[U], c->lent[U], m[V], c->lent[V], m[COLUMNS], c->lent[COLUMNS],
-                                  m[MODES], c->lent[MODES], m[STRENGTHS], c->lent[STRENGTHS], finished);
+                                  m[MODES], c->lent[MODES], m[STRENGTHS], c->lent[STRENGTHS], finished, first, tokens);
     r->k = *finished;
+    r->first = *first;
+    r->tokens = *tokens;
     for (int b = 0; b < LENT; b++) {
         memcpy(r->mem[b], m[b], c->lent[b]);
         beside = slack(b, c->lent[b], end, &size);
@@ -195,6 +201,7 @@ static void same(const struct call *c, const struct result *a, const struct resu
 static void sound(const struct call *c, const struct result *r, uint32_t want, int poison) {
     if (want) {
         if (r->number != want || r->k != 0) fail("answer %u %zu, should be %u 0", r->number, r->k, want);
+        if (r->first || r->tokens) fail("refused with %u, and symbols are counted", want);
         for (int b = 0; b < LENT; b++)
             if (!all(r->mem[b], c->lent[b], poison)) fail("refused with %u, and %s was written", want, names[b]);
         return;
@@ -202,6 +209,8 @@ static void sound(const struct call *c, const struct result *r, uint32_t want, i
     size_t blocks = (c->w / 16) * (c->h / 16), k = r->k;
     if (r->number != 0 && r->number != 6 && r->number != 7) fail("answer %u, should be 0, 6 or 7", r->number);
     if (r->number == 0 ? k != blocks : k >= blocks) fail("answer %u with %zu of %zu macroblocks", r->number, k, blocks);
+    uint64_t asked = k + (r->number != 0);
+    if (r->first > asked * HOOKBARLEY_FIRST_MOST || r->tokens > asked * HOOKBARLEY_TOKEN_MOST) fail("more symbols than %zu macroblocks can read", (size_t)asked);
     plane_rest("y", r->mem[Y], c->w, c->h, 16, k);
     plane_rest("u", r->mem[U], c->w / 2, c->h / 2, 8, k);
     plane_rest("v", r->mem[V], c->w / 2, c->h / 2, 8, k);
@@ -220,6 +229,7 @@ static uint32_t both(const struct call *c, struct result *r, struct result *spar
     sound(c, spare, want, 0x5A);
     calls += 2;
     if (r->number != spare->number || r->k != spare->k) fail("answers %u %zu and %u %zu", r->number, r->k, spare->number, spare->k);
+    if (r->first != spare->first || r->tokens != spare->tokens) fail("the symbols read differ");
     for (int b = 0; want == 0 && b < LENT; b++)
         if (memcmp(r->mem[b], spare->mem[b], c->lent[b])) fail("%s depends on what it held", names[b]);
     answers[r->number]++;
@@ -380,22 +390,35 @@ static void load_all(const char *dir) {
     if (!tiles_len) { fprintf(stderr, "%s: no tiles\n", dir); exit(2); }
 }
 
-static void whole(const char *dir, struct result *r, struct result *spare) {
-    char path[4096], line[512], got[512];
-    snprintf(path, sizeof path, "%s/expected-memory-m102.txt", dir);
+static FILE *expected(const char *dir, const char *name) {
+    char path[4096];
+    snprintf(path, sizeof path, "%s/%s", dir, name);
     FILE *f = fopen(path, "r");
     if (!f) { perror(path); exit(2); }
+    return f;
+}
+
+static void must_be(const char *got, char *line, size_t size, FILE *f) {
+    if (!fgets(line, (int)size, f)) fail("no line for it in an expected file");
+    line[strcspn(line, "\r\n")] = 0;
+    if (strcmp(line, got)) fail("got %s, should be %s", got, line);
+}
+
+static void whole(const char *dir, struct result *r, struct result *spare) {
+    char line[512], got[512];
+    FILE *f = expected(dir, "expected-memory-m102.txt"), *counts = expected(dir, "expected-counts-m102.txt");
     for (size_t t = 0; t < tiles_len; t++) {
         snprintf(where, sizeof where, "whole, tile %04zu", t);
         struct call *c = &tiles[t];
         both(c, r, spare);
         int n = sprintf(got, "%u %zu", r->number, r->k);
         for (int b = 0; b < LENT; b++) n += sprintf(got + n, " %016llx", fnv(r->mem[b], c->lent[b]));
-        if (!fgets(line, sizeof line, f)) fail("no line in expected-memory-m102.txt");
-        line[strcspn(line, "\r\n")] = 0;
-        if (strcmp(line, got)) fail("got %s, should be %s", got, line);
+        must_be(got, line, sizeof line, f);
+        sprintf(got, "%u %zu %llu %llu", r->number, r->k, (unsigned long long)r->first, (unsigned long long)r->tokens);
+        must_be(got, line, sizeof line, counts);
     }
     fclose(f);
+    fclose(counts);
     printf("whole: %zu tiles as expected\n", tiles_len);
 }
 
@@ -432,6 +455,7 @@ static void cut(struct result *r, struct result *spare, struct result *full) {
         learn_columns(&c, r, spare);
         for (size_t p = 0; p <= c.count; p++) {
             size_t *length = p ? &c.lengths[p - 1] : &c.first_length, from = *length, last = 0;
+            uint64_t first = 0, tokens = 0;
             for (size_t n = 0; n < from; n++, cuts++) {
                 snprintf(where, sizeof where, "cut, tile %04zu, partition %zu, length %zu", t, p, n);
                 *length = n;
@@ -439,7 +463,8 @@ static void cut(struct result *r, struct result *spare, struct result *full) {
                 same(&c, r, full, r->k);
                 columns_after(&c, r);
                 if (r->k > full->k || r->k < last) fail("k %zu after %zu, whole %zu", r->k, last, full->k);
-                last = r->k;
+                if (r->first > full->first || r->first < first || r->tokens > full->tokens || r->tokens < tokens) fail("a shorter partition reads more symbols");
+                last = r->k, first = r->first, tokens = r->tokens;
                 if (cuts % 8 == 0) deblocked(&c, r, cuts % 16 == 0);
             }
             *length = from;

@@ -38,6 +38,7 @@ static int decoded(const char *name, struct explain_tile *t) {
     if (n < 2206 || file[0] != 1 || be(file + 1, 4) + 5 != n) return 0;
     size_t w = be(file + 5, 2), h = be(file + 7, 2), count = file[9], places = 2206 + 4 * count, first = be(file + 2202, 4), at = places + first;
     size_t starts[8] = {0}, lengths[8] = {0}, k = 0;
+    uint64_t first_reads, token_reads;
     if (n < places || w > 2048 || h > 2048) return 0;
     for (int i = 0; i < 1096; i++) header[i] = (int16_t)be(file + 10 + 2 * i, 2);
     for (size_t i = 0; i < count && i < 8; at += lengths[i++]) starts[i] = at, lengths[i] = be(file + 2206 + 4 * i, 4);
@@ -45,7 +46,8 @@ static int decoded(const char *name, struct explain_tile *t) {
     uint8_t *y = lent(luma), *u = lent(chroma), *v = lent(chroma), *columns = lent(13 * (w / 16)), *modes = lent(20 * blocks), *strengths = lent(4 * blocks);
     uint32_t window = (first > 0 ? file[places] * 256u : 0) + (first > 1 ? file[places + 1] : 0);
     uint32_t number = hookbarley_decode(file, n, places, first, starts, 8, lengths, 8, 2, 255, 0, window, count, header, 1096, w, h,
-                                        y, luma, u, chroma, v, chroma, columns, 13 * (w / 16), modes, 20 * blocks, strengths, 4 * blocks, &k);
+                                        y, luma, u, chroma, v, chroma, columns, 13 * (w / 16), modes, 20 * blocks, strengths, 4 * blocks,
+                                        &k, &first_reads, &token_reads);
     *t = (struct explain_tile){w, h, w, h, y, u, v, strengths, 4 * blocks, 0};
     free(columns);
     free(modes);

@@ -183,9 +183,12 @@ static void picture(const uint8_t *f, size_t n, const int32_t *h, const struct h
     static uint8_t room[SMALL * SMALL * 2 + 4096];
     struct hookbarley_memory m;
     size_t finished;
+    uint64_t first_reads, token_reads;
     hookbarley_lend(t, room, &m);
-    uint32_t number = hookbarley_picture(f, n, h, t, &m, &finished);
+    uint32_t number = hookbarley_picture(f, n, h, t, &m, &finished, &first_reads, &token_reads);
     if (number != 0 && number != 6 && number != 7) fail("the picture call refuses what was taken with %u", number);
+    uint64_t asked = finished + (number != 0);
+    if (first_reads > asked * HOOKBARLEY_FIRST_MOST || token_reads > asked * HOOKBARLEY_TOKEN_MOST) fail("more symbols than %zu macroblocks can read", (size_t)asked);
     if (hookbarley_deblock_picture(t, &m)) fail("the deblocking call refuses what was decoded");
     picture_answers[number]++;
     pictures++;

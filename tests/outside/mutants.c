@@ -1,8 +1,9 @@
 /* The outside test's own test: the picture call or the deblocking call with one fault, chosen when compiling (-DFAULT=n) and put before
- * the archive's by the linker (--wrap=hookbarley_decode, --wrap=hookbarley_deblock). damaged.c must fail with every one of them. */
+ * the archive's by the linker (--wrap=hookbarley_decode, --wrap=hookbarley_deblock). damaged.c must fail with every one of them but 21 and 22,
+ * which the counts of tools/counts.py must find. */
 #include "hookbarley.h"
 
-#define PARAMETERS const uint8_t *bytes, size_t bytes_len, size_t first_start, size_t first_length, const size_t *starts, size_t starts_len, const size_t *lengths, size_t lengths_len, size_t at, uint32_t range, uint32_t shifts, uint32_t window, size_t count, const int32_t *header, size_t header_len, size_t width, size_t height, uint8_t *y, size_t y_len, uint8_t *u, size_t u_len, uint8_t *v, size_t v_len, uint8_t *columns, size_t columns_len, uint8_t *modes, size_t modes_len, uint8_t *strengths, size_t strengths_len, size_t *finished
+#define PARAMETERS const uint8_t *bytes, size_t bytes_len, size_t first_start, size_t first_length, const size_t *starts, size_t starts_len, const size_t *lengths, size_t lengths_len, size_t at, uint32_t range, uint32_t shifts, uint32_t window, size_t count, const int32_t *header, size_t header_len, size_t width, size_t height, uint8_t *y, size_t y_len, uint8_t *u, size_t u_len, uint8_t *v, size_t v_len, uint8_t *columns, size_t columns_len, uint8_t *modes, size_t modes_len, uint8_t *strengths, size_t strengths_len, size_t *finished, uint64_t *first_reads, uint64_t *token_reads
 
 uint32_t __real_hookbarley_decode(PARAMETERS);
 uint32_t __wrap_hookbarley_decode(PARAMETERS);
@@ -11,7 +12,7 @@ static volatile uint8_t sink;
 
 uint32_t __wrap_hookbarley_decode(PARAMETERS) {
     uint8_t before = y_len ? y[0] : 0;
-    uint32_t n = __real_hookbarley_decode(bytes, bytes_len, first_start, first_length, starts, starts_len, lengths, lengths_len, at, range, shifts, window, count, header, header_len, width, height, y, y_len, u, u_len, v, v_len, columns, columns_len, modes, modes_len, strengths, strengths_len, finished);
+    uint32_t n = __real_hookbarley_decode(bytes, bytes_len, first_start, first_length, starts, starts_len, lengths, lengths_len, at, range, shifts, window, count, header, header_len, width, height, y, y_len, u, u_len, v, v_len, columns, columns_len, modes, modes_len, strengths, strengths_len, finished, first_reads, token_reads);
     size_t blocks = strengths_len / 4;
     (void)before; (void)blocks;
 #if FAULT == 1 /* reads the byte behind the input */
@@ -38,6 +39,20 @@ uint32_t __wrap_hookbarley_decode(PARAMETERS) {
     if (n == 6 || n == 7) for (size_t i = 0; i < columns_len; i++) columns[i] = 0;
 #elif FAULT == 12 /* row 0 depends on the last partition */
     if (n == 0 && count > 1 && lengths[count - 1] > 8) y[3] ^= bytes[starts[count - 1] + 5] & 1;
+#elif FAULT == 17 /* the two counts are exchanged */
+    uint64_t first = *first_reads;
+    *first_reads = *token_reads;
+    *token_reads = first;
+#elif FAULT == 18 /* a refusal leaves a count */
+    if (n >= 1 && n <= 5) *token_reads = 1;
+#elif FAULT == 19 /* a count depends on what was lent */
+    *first_reads += before & 1;
+#elif FAULT == 20 /* more than a macroblock can read */
+    if (n == 7) *token_reads += HOOKBARLEY_TOKEN_MOST;
+#elif FAULT == 21 /* the symbols of a macroblock that ran out are not all counted */
+    if (n == 7 && *token_reads) --*token_reads;
+#elif FAULT == 22 /* the symbol that is missing is counted */
+    if (n == 6) ++*first_reads;
 #endif
     return n;
 }

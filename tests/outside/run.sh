@@ -1,7 +1,7 @@
 #!/usr/bin/env bash
 # The tests from outside, through the archive: tests/outside/run.sh [ARCHIVE]. Builds the archive where it is not there
 # (`rt staticlib hookbarley`), installs what is missing (Debian packages, as root), runs on x86-64 and, by emulation, on Arm:
-# the C example on the case files, damaged inputs between guard pages, faults that these must find, the WebP calls, explanations, the call on
+# the C example on the case files, the symbols read counted again, damaged inputs between guard pages, faults that these must find, the WebP calls, explanations, the call on
 # a frame's header, the Rust wrapper's tests; and a look at the machine code of the transform's products.
 # Settings: N (damaged inputs, 20000), SEED (of these; else drawn from the clock and printed).
 set -u
@@ -79,6 +79,43 @@ else
     bad example "does not build"
 fi
 
+# The symbols read: every case file and six copies of each with a partition cut, against tools/counts.py, which reads them in its own way; that
+# against what is expected; and faults that this must find.
+copies=$out/counts
+wrapped="-Wl,--wrap=hookbarley_decode,--wrap=hookbarley_deblock"
+recount() { # recount PROGRAM: its lines over the copies, the first that differs told
+    local i=0
+    while read -r want; do
+        line=$($X86RUN "$1" -c "$(printf '%s/%04d.case' $copies $i)")
+        [ "$line" = "$want" ] || { echo "copy $i gives $line, should be $want"; return 1; }
+        i=$((i + 1))
+    done <$out/counts.txt
+    echo $i
+}
+rm -rf $copies
+mkdir $copies
+if need python3 python3 && export PYTHONDONTWRITEBYTECODE=1 && python3 tools/counts.py $copies "$SEED" 6 $cases/*/*.case >$out/counts.txt; then
+    for set in named real fuzz; do
+        beyond= # the case program's limits
+        [ $set = named ] && beyond='14,16d;36d'
+        python3 tools/counts.py $cases/$set/*.case | sed "$beyond" | diff - <(sed "$beyond" $cases/$set/expected-counts-m102.txt) >$out/counts.diff ||
+            bad counts "tools/counts.py and what is expected of $set: $(sed -n 2p $out/counts.diff)"
+    done
+    if told=$(recount $out/decode_case); then
+        least counts "case files" "$told" 900
+        found=0
+        for fault in 17 21 22; do
+            build counts-mutant -DFAULT=$fault $wrapped examples/c/decode_case.c tests/outside/mutants.c || { bad counts "fault $fault does not build"; continue; }
+            if recount $out/counts-mutant >$out/counts-mutant-$fault.log; then bad counts "fault $fault was not found"; else found=$((found + 1)); fi
+        done
+        say counts "$told case files read as many symbols as tools/counts.py counts; $found of 3 faults found"
+    else
+        bad counts "seed $SEED: $told"
+    fi
+else
+    bad counts "tools/counts.py"
+fi
+
 # The call as the README shows it compiles.
 {
     echo '#include "hookbarley.h"'
@@ -113,11 +150,11 @@ mkdir $few
 i=0
 for t in 3 10 15 26; do
     cp "$(printf '%s/real/%04d.case' $cases $t)" "$(printf '%s/%04d.case' $few $i)"
-    sed -n "$((t + 1))p" $cases/real/expected-memory-m102.txt >>$few/expected-memory-m102.txt
+    for what in memory counts; do sed -n "$((t + 1))p" $cases/real/expected-$what-m102.txt >>$few/expected-$what-m102.txt; done
     i=$((i + 1))
 done
-for fault in 0 1 2 3 4 5 6 7 8 9 10 11 12 13 14 15 16; do
-    build mutant -DFAULT=$fault -Wl,--wrap=hookbarley_decode,--wrap=hookbarley_deblock tests/outside/damaged.c tests/outside/mutants.c || { bad faults "fault $fault does not build"; continue; }
+for fault in 0 1 2 3 4 5 6 7 8 9 10 11 12 13 14 15 16 17 18 19 20; do
+    build mutant -DFAULT=$fault $wrapped tests/outside/damaged.c tests/outside/mutants.c || { bad faults "fault $fault does not build"; continue; }
     $X86RUN $out/mutant $few 300 1 >$out/mutant-$fault.log 2>&1
     status=$?
     if [ $fault -eq 0 ]; then
@@ -128,8 +165,8 @@ for fault in 0 1 2 3 4 5 6 7 8 9 10 11 12 13 14 15 16; do
         bad faults "fault $fault was not found (status $status)"
     fi
 done
-least faults "faults found" $found 16
-say faults "$found of 16 found"
+least faults "faults found" $found 20
+say faults "$found of 20 found"
 
 # 4. The WebP calls between guard pages, on files of encoders and damaged ones; the faults that the test must find.
 webps=$(echo tests/outside/webp/*.webp)

@@ -17,7 +17,7 @@ extern "C" {
         columns: *mut u8, columns_len: usize,
         modes: *mut u8, modes_len: usize,
         strengths: *mut u8, strengths_len: usize,
-        finished: *mut usize,
+        finished: *mut usize, first_reads: *mut u64, token_reads: *mut u64,
     ) -> u32;
     fn hookbarley_deblock(
         y: *mut u8, y_len: usize,
@@ -177,10 +177,30 @@ pub enum Decoded {
     NoTokens(usize),
 }
 
+/// What a picture cost: the symbols read from the first partition and from token partitions, those of a macroblock that ran out too, up to the
+/// symbol that is missing. At most `MOST` of each a macroblock, over the macroblocks finished and, where a partition ran out, one more;
+/// none where an argument was refused.
+#[derive(Clone, Copy, Debug, PartialEq, Eq)]
+pub struct Reads {
+    pub first: u64,
+    pub tokens: u64,
+}
+
+impl Reads {
+    /// The most symbols that a macroblock reads.
+    pub const MOST: Reads = Reads { first: 119, tokens: 7296 };
+}
+
 /// Decodes a picture into lent memory, whatever it held.
 pub fn decode(tile: &Tile, mem: &mut Memory) -> Decoded {
+    decode_counted(tile, mem).0
+}
+
+/// The same, with what it cost.
+pub fn decode_counted(tile: &Tile, mem: &mut Memory) -> (Decoded, Reads) {
     let mut k = 0usize;
-    // Safe: each pointer and length is of a slice, and the lent ones are six different vectors.
+    let mut reads = Reads { first: 0, tokens: 0 };
+    // Safe: each pointer and length is of a slice, the lent ones are six different vectors, and the three numbers stand alone.
     let number = unsafe {
         hookbarley_decode(
             tile.bytes.as_ptr(), tile.bytes.len(),
@@ -197,15 +217,16 @@ pub fn decode(tile: &Tile, mem: &mut Memory) -> Decoded {
             mem.columns.as_mut_ptr(), mem.columns.len(),
             mem.modes.as_mut_ptr(), mem.modes.len(),
             mem.strengths.as_mut_ptr(), mem.strengths.len(),
-            &mut k,
+            &mut k, &mut reads.first, &mut reads.tokens,
         )
     };
-    match number {
+    let answer = match number {
         0 => Decoded::Whole(k),
         6 => Decoded::NoModes(k),
         7 => Decoded::NoTokens(k),
         n => Decoded::Refused(n),
-    }
+    };
+    (answer, reads)
 }
 
 /// How deblocking ended.

@@ -1,5 +1,5 @@
 //! The archive called from Rust: the worked tile, refusals, cut partitions, memory lent again and again.
-use hookbarley::{deblock, decode, filter, Deblocked, Decoded, Memory, Reader, Tile};
+use hookbarley::{deblock, decode, decode_counted, filter, Deblocked, Decoded, Memory, Reader, Reads, Tile};
 
 /// The worked tile: 16 by 16, header 0 but 128 in 38..1093, both partitions zero bytes.
 fn tile<'a>(bytes: &'a [u8], first: usize, tokens: usize, header: &'a [i32]) -> Tile<'a> {
@@ -22,7 +22,7 @@ fn sum(p: &[u8]) -> u32 {
 fn worked_tile() {
     let (bytes, h) = ([0u8; 64], header());
     let mut mem = Memory::new(16, 16, 0xA5);
-    assert_eq!(decode(&tile(&bytes, 32, 32, &h), &mut mem), Decoded::Whole(1));
+    assert_eq!(decode_counted(&tile(&bytes, 32, 32, &h), &mut mem), (Decoded::Whole(1), Reads { first: 18, tokens: 24 }));
     assert_eq!((sum(&mem.y), sum(&mem.u), sum(&mem.v)), (32960, 8192, 8192));
 }
 
@@ -61,7 +61,7 @@ fn refusals_change_nothing() {
     ];
     for (number, t) in cases {
         let mut mem = Memory::new(16, 16, 0xA5);
-        assert_eq!(decode(&t, &mut mem), Decoded::Refused(number));
+        assert_eq!(decode_counted(&t, &mut mem), (Decoded::Refused(number), Reads { first: 0, tokens: 0 }));
         assert_eq!(mem, Memory::new(16, 16, 0xA5));
     }
     let mut short = Memory::new(16, 16, 0xA5);
@@ -149,33 +149,38 @@ impl Case {
 
 #[test]
 fn real_tiles() {
-    for (name, blocks, sums) in [
-        ("real/0003", 12, (344832, 103888, 96800)),
-        ("real/0023", 8, (253688, 66014, 65520)),
-        ("real/0039", 6, (171566, 55040, 55115)),
+    for (name, blocks, first, tokens, sums) in [
+        ("real/0003", 12, 84, 525, (344832, 103888, 96800)),
+        ("real/0023", 8, 563, 15377, (253688, 66014, 65520)),
+        ("real/0039", 6, 259, 5638, (171566, 55040, 55115)),
     ] {
         let c = Case::read(name);
         let mut mem = Memory::new(c.width, c.height, 0xA5);
-        assert_eq!(decode(&c.cut(0, c.first), &mut mem), Decoded::Whole(blocks), "{name}");
+        assert_eq!(decode_counted(&c.cut(0, c.first), &mut mem), (Decoded::Whole(blocks), Reads { first, tokens }), "{name}");
         assert_eq!((sum(&mem.y), sum(&mem.u), sum(&mem.v)), sums, "{name}");
     }
 }
 
-/// Every cut of a tile of eight partitions: what is finished equals the whole tile's, the rest is grey.
+/// Every cut of a tile of eight partitions: what is finished equals the whole tile's, the rest is grey; no more symbols are read than from the
+/// whole tile.
 #[test]
 fn real_tile_cut_everywhere() {
     let c = Case::read("real/0010");
     let mut whole = Memory::new(c.width, c.height, 0);
-    assert_eq!(decode(&c.cut(0, c.first), &mut whole), Decoded::Whole(2));
+    let (answer, all) = decode_counted(&c.cut(0, c.first), &mut whole);
+    assert_eq!(answer, Decoded::Whole(2));
     let mut mem = Memory::new(c.width, c.height, 0xA5);
     for p in 0..=c.count {
         for n in 0..c.length(p) {
-            let k = match decode(&c.cut(p, n), &mut mem) {
+            let (answer, reads) = decode_counted(&c.cut(p, n), &mut mem);
+            let k = match answer {
                 Decoded::NoModes(k) if p == 0 => k,
                 Decoded::NoTokens(k) if p > 0 => k,
                 Decoded::Whole(k) => k,
                 other => panic!("partition {p}, {n} bytes: {other:?}"),
             };
+            let asked = if answer == Decoded::Whole(k) { k } else { k + 1 } as u64;
+            assert!(reads.first <= all.first.min(asked * Reads::MOST.first) && reads.tokens <= all.tokens.min(asked * Reads::MOST.tokens));
             // One macroblock a row: the finished rows stand first.
             assert_eq!(mem.y[..256 * k], whole.y[..256 * k]);
             assert_eq!(mem.u[..64 * k], whole.u[..64 * k]);

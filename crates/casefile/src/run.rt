@@ -125,7 +125,8 @@ fn through(
         (now (columns .entry)) (now (modes .entry)) (now (strengths .entry))) ⌝ }
 {
     let h = header(file);
-    decode(file, tile_of(file), &h, y, u, v, columns, modes, strengths)
+    let d = decode(file, tile_of(file), &h, y, u, v, columns, modes, strengths);
+    d.answer
 }
 
 // The picture call and what is told of it.

@@ -1,2 +1,3 @@
 pub mod BlockAnswers
 pub mod BlockTurns
+pub mod CountTurns

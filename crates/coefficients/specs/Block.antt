@@ -14,6 +14,7 @@ use Rattle.header.specs.Entries.{coefficientProbability, entryCount, probabilit
 use Rattle.header.specs.Header.{entry, probabilityOf}
 use Rattle.reader.specs.Reading.{Reading, done, symbol, run, _>>=_}
 use Rattle.reader.specs.Token.{token, elevenAt}
+use Rattle.reader.specs.Trace.{count}
 use Rattle.reader.specs.declared.boolean.Reader.{Reader}
 use Rattle.reader.specs.declared.extra.Number.{Number}
 use Rattle.reader.specs.declared.extra.Number.the-variants as N
@@ -176,6 +177,22 @@ module _ (s : List ℕ) (r : Reader) where
       elim (eqb (length h) entryCount) [
         | true ↦ blockCallOf (headerTable h) kind ctx first q0 q1 old
         | false ↦ refusedBlock old
+      ]
+
+-- ---- how many symbols the calls read (M-103): those of the grammar, up to one that is missing; none where they refuse
+module _ (s : List ℕ) (r : Reader) where
+  unfoldable pub blockReads : List ℕ → ℕ → ℕ → ℕ → ℕ → ℕ → List ℤ → ℕ
+  blockReads table kind ctx first q0 q1 old =
+      elim (validOf s r && (blockArguments table kind ctx first && sixteenBits old 16)) [
+        | true ↦ count (block table kind q0 q1 ctx first old) s r
+        | false ↦ 0
+      ]
+
+  unfoldable pub headerReads : List ℤ → ℕ → ℕ → ℕ → ℕ → ℕ → List ℤ → ℕ
+  headerReads h kind ctx first q0 q1 old =
+      elim (eqb (length h) entryCount) [
+        | true ↦ blockReads (headerTable h) kind ctx first q0 q1 old
+        | false ↦ 0
       ]
 
 -- `probabilities`: refused where the header's length is not its own

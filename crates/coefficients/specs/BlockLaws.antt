@@ -21,16 +21,17 @@ use Rattle.reader.specs.BooleanLaws.{Bytes, Valid, valid-test}
 use Rattle.header.specs.Entries.{coefficientProbability, entryCount, probabilityCount}
 use Rattle.header.specs.Header.{entry, probabilityOf}
 use Rattle.header.specs.HeaderLaws.{probability-below}
-use Rattle.reader.specs.Extra.{toNumber}
-use Rattle.reader.specs.ExtraLaws.{extra-within, fromNumber}
+use Rattle.reader.specs.ExtraLaws.{extra-within, fromNumber, from-number}
 use Rattle.reader.specs.Reading.{run, Within, ends}
 use Rattle.reader.specs.ReadingLaws.{never-both, within-symbol, within-bind, within-more}
 use Rattle.reader.specs.Token.{token}
 use Rattle.reader.specs.TokenLaws.{eleven-at, token-fits}
+use Rattle.reader.specs.Trace.{count}
+use Rattle.reader.specs.TraceLaws.{count-within}
 use Rattle.reader.specs.declared.boolean.Reader.{Reader}
 use Rattle.reader.specs.declared.extra.Number.{Number}
-use Rattle.coefficients.specs.BlockSteps.{place-below, decode-passed, decode-refused, table-refused, table-done}
-use Rattle.coefficients.specs.Block.{categories, bases, category, magnitude, signOf, signedValue, zigzag, quantizerAt, contextAfter, toSigned, magnitudeOf, signedOf, numericOf, numberAnswer, signedAnswer, headerTable, probabilitiesAt, probabilityPlace, Coefficients, blockFrom, block, BlockCalled, toBlockCalled, blockOf, sixteenBits, blockArguments, blockCallOf, tableOf}
+use Rattle.coefficients.specs.BlockSteps.{place-below, decode-passed, decode-refused, reads-passed, table-refused, table-done}
+use Rattle.coefficients.specs.Block.{categories, bases, category, magnitude, signOf, signedValue, zigzag, quantizerAt, contextAfter, toSigned, magnitudeOf, signedOf, numericOf, numberAnswer, signedAnswer, headerTable, probabilitiesAt, probabilityPlace, Coefficients, blockFrom, block, BlockCalled, toBlockCalled, blockOf, sixteenBits, blockArguments, blockCallOf, tableOf, blockReads}
 use Rattle.coefficients.specs.declared.block.Block.{Block}
 use Rattle.coefficients.specs.declared.block.Block.the-variants as K
 use Rattle.coefficients.specs.declared.block.Signed.{Signed}
@@ -112,11 +113,7 @@ module _ (table : List ℕ) (kind q0 q1 : ℕ) (y : Bytes table) (first : ℕ) w
 -- ---- the public calls of a token: what an answer says of the grammar
 pub magnituded : (s : List ℕ) (t : ℕ) (r : Reader) {x : Number} → x ≡ magnitudeOf s t r → run (magnitude t) s r ≡ fromNumber x
 unfolding magnitudeOf
-magnituded s t r e = from (run (magnitude t) s r) ∙ ap fromNumber (sym e)
-  where
-    from : (g : Given ℕ) → g ≡ fromNumber (toNumber g)
-    from (given v q) = refl
-    from missing = refl
+magnituded s t r e = from-number (run (magnitude t) s r) ∙ ap fromNumber (sym e)
 
 abbrev pub fromSigned : Signed → Given ℤ
 fromSigned (G.Value v r) = given v r
@@ -167,6 +164,9 @@ unfolding sixteenBits
 small-test l e zero = refl
 small-test l e (suc n) = both-true (small-test l e n) (both-true (le-true (e .at n .low)) (le-true (e .at n .high)))
 
+good-test : {table : List ℕ} {kind ctx first : ℕ} {old : List ℤ} → Good table kind ctx first old → blockArguments table kind ctx first ≡ true
+good-test g = both-true (eq-eqb _ _ (g .size)) (both-true (lt-ltb _ _ (g .kinds)) (both-true (lt-ltb _ _ (g .near)) (le-leb _ _ (g .start))))
+
 -- what an answer, with the numbers behind it, says of the grammar
 abbrev pub fromBlock : List ℤ → Block → Given Coefficients
 fromBlock l (K.Ended n r) = given (record { end = n; values = l }) r
@@ -184,14 +184,30 @@ module _ (s : List ℕ) (r : Reader) (table : List ℕ) (kind ctx first q0 q1 : 
   -- with good arguments it is the inner definition
   pub decode-good : Valid s r → Good table kind ctx first old → blockOf s r table kind ctx first q0 q1 old ≡ blockCallOf s r table kind ctx first q0 q1 old
   decode-good v g =
-      decode-passed s r table kind ctx first q0 q1 old (valid-test s r v)
-      (both-true (eq-eqb _ _ (g .size)) (both-true (lt-ltb _ _ (g .kinds)) (both-true (lt-ltb _ _ (g .near)) (le-leb _ _ (g .start)))))
-      (small-test old (g .each) 16)
+      decode-passed s r table kind ctx first q0 q1 old (valid-test s r v) (good-test g) (small-test old (g .each) 16)
 
-  -- THE LAW for callers of `decode`
+  -- what an answer of the inner definition says of the grammar; one that is no end leaves the numbers as they were
+  module _ {x : Block} {l : List ℤ} (e : record { answer = x; out = l } ≡ blockOf s r table kind ctx first q0 q1 old) where
+    pub block-decoded : run (block table kind q0 q1 ctx first old) s r ≡ fromBlock l x
+    unfolding blockOf
+    block-decoded = from-called old (run (block table kind q0 q1 ctx first old) s r) ∙ ap fromBlockCalled (sym e)
+
+    pub block-kept : fromBlock l x ≡ missing → l ≡ old
+    unfolding blockOf
+    block-kept m =
+        let w : blockOf s r table kind ctx first q0 q1 old ≡ toBlockCalled old missing = ap (toBlockCalled old) (block-decoded ∙ m) in
+        ap (λ (c : BlockCalled). c .out) (e ∙ w)
+
+  -- THE LAWS for callers of `decode`: what it gave, and how many symbols it read
   pub decoded : Valid s r → Good table kind ctx first old → {x : Block} {l : List ℤ} → record { answer = x; out = l } ≡ blockCallOf s r table kind ctx first q0 q1 old → run (block table kind q0 q1 ctx first old) s r ≡ fromBlock l x
-  unfolding blockOf
-  decoded v g e = from-called old (run (block table kind q0 q1 ctx first old) s r) ∙ ap fromBlockCalled (decode-good v g ∙ sym e)
+  decoded v g e = block-decoded (e ∙ sym (decode-good v g))
+
+  pub decode-reads : Valid s r → Good table kind ctx first old → {n : ℕ} → n ≡ blockReads s r table kind ctx first q0 q1 old → n ≡ count (block table kind q0 q1 ctx first old) s r
+  decode-reads v g e = e ∙ sym (reads-passed s r table kind ctx first q0 q1 old (valid-test s r v) (good-test g) (small-test old (g .each) 16))
+
+  -- at most 19 symbols a position, whatever they are
+  pub block-few : Bytes table → first ≤ 1 → Sixteen old → count (block table kind q0 q1 ctx first old) s r ≤ 304
+  block-few y l x = omega (arith, count-within s r (block-within table kind q0 q1 y first ctx old l x))
 
   -- an answer that is no end leaves the numbers as they were, whatever the arguments
   pub decode-kept : {x : Block} {l : List ℤ} → record { answer = x; out = l } ≡ blockCallOf s r table kind ctx first q0 q1 old → fromBlock l x ≡ missing → l ≡ old

@@ -19,10 +19,13 @@ use Rattle.reader.specs.Boolean.{given, missing, validOf}
 use Rattle.reader.specs.Extra.{extra, toNumber}
 use Rattle.reader.specs.Reading.{done, symbol, run}
 use Rattle.reader.specs.Token.{token}
+use Rattle.reader.specs.Trace.{count}
 use Rattle.reader.specs.ReadingLaws.{run-done, run-then, run-stops}
 use Rattle.reader.specs.declared.boolean.Reader.{Reader}
 use Rattle.reader.specs.declared.extra.Number.the-variants as N
-use Rattle.coefficients.specs.Block.{category, magnitude, signOf, signedValue, bands, zigzag, quantizerAt, contextAfter, toSigned, magnitudeOf, signedOf, numericOf, numberAnswer, signedAnswer, headerTable, probabilitiesAt, probabilityPlace, blockFrom, refusedBlock, blockOf, sixteenBits, blockArguments, blockCallOf, blockByHeaderOf, tableOf}
+use Rattle.coefficients.specs.Block.{category, magnitude, signOf, signedValue, bands, zigzag, quantizerAt, contextAfter, toSigned, magnitudeOf, signedOf, numericOf, numberAnswer, signedAnswer, headerTable, probabilitiesAt, probabilityPlace, blockFrom, refusedBlock, block, blockOf, sixteenBits, blockArguments, blockCallOf, blockByHeaderOf, tableOf, blockReads, headerReads}
+use Rattle.coefficients.specs.declared.block.Block.the-variants as B
+use Rattle.coefficients.specs.declared.block.BlockRead.{BlockRead}
 use Rattle.coefficients.specs.declared.block.Signed.the-variants as G
 use Rattle.numbers.specs.declared.Checked.the-variants as H
 
@@ -155,14 +158,30 @@ module _ (s : List ℕ) (r : Reader) (table : List ℕ) (kind ctx first q0 q1 : 
   unfolding blockCallOf
   decode-refused e = rw (e, blockCallOf)
 
-  pub decode-reader : validOf s r ≡ false → refusedBlock old ≡ blockCallOf s r table kind ctx first q0 q1 old
-  decode-reader e = decode-refused (rw e)
+  pub reads-passed : validOf s r ≡ true → blockArguments table kind ctx first ≡ true → sixteenBits old 16 ≡ true → count (block table kind q0 q1 ctx first old) s r ≡ blockReads s r table kind ctx first q0 q1 old
+  unfolding blockReads
+  reads-passed v a o = rw (both-true v (both-true a o), blockReads)
 
-  pub decode-arguments : blockArguments table kind ctx first ≡ false → refusedBlock old ≡ blockCallOf s r table kind ctx first q0 q1 old
-  decode-arguments e = decode-refused (both-false (validOf s r) (rw e))
+  reads-refused : validOf s r && (blockArguments table kind ctx first && sixteenBits old 16) ≡ false → 0 ≡ blockReads s r table kind ctx first q0 q1 old
+  unfolding blockReads
+  reads-refused e = rw (e, blockReads)
 
-  pub decode-values : sixteenBits old 16 ≡ false → refusedBlock old ≡ blockCallOf s r table kind ctx first q0 q1 old
-  decode-values e = decode-refused (both-false (validOf s r) (both-false (blockArguments table kind ctx first) e))
+  -- what the call promises of its answer, with the numbers behind it
+  abbrev pub Decoded : BlockRead → List ℤ → Type 0
+  Decoded a out = (record { answer = a .answer; out = out } ≡ blockCallOf s r table kind ctx first q0 q1 old) × (a .reads ≡ blockReads s r table kind ctx first q0 q1 old)
+
+  module _ {a : BlockRead} (d : a ≡ record { answer = B.Refused; reads = 0 }) where
+    refused : validOf s r && (blockArguments table kind ctx first && sixteenBits old 16) ≡ false → Decoded a old
+    refused e = (rw d (decode-refused e), rw d (reads-refused e))
+
+    pub decode-reader : validOf s r ≡ false → Decoded a old
+    decode-reader e = refused (rw e)
+
+    pub decode-arguments : blockArguments table kind ctx first ≡ false → Decoded a old
+    decode-arguments e = refused (both-false (validOf s r) (rw e))
+
+    pub decode-values : sixteenBits old 16 ≡ false → Decoded a old
+    decode-values e = refused (both-false (validOf s r) (both-false (blockArguments table kind ctx first) e))
 
 -- ---- with a header
 pub table-refused : (h : List ℤ) → (length h ≡ entryCount → ⊥) → record { answer = H.Refused; bytes = replicate probabilityCount 0 } ≡ tableOf h
@@ -174,10 +193,16 @@ unfolding tableOf
 table-done h e f = rw (f, eq-eqb _ _ e, tableOf)
 
 module _ (s : List ℕ) (r : Reader) (h : List ℤ) (kind ctx first q0 q1 : ℕ) (old : List ℤ) where
-  pub header-good : length h ≡ entryCount → {l : List ℕ} → l ≡ headerTable h → blockCallOf s r l kind ctx first q0 q1 old ≡ blockByHeaderOf s r h kind ctx first q0 q1 old
-  unfolding blockByHeaderOf
-  header-good e f = rw (f, eq-eqb _ _ e, blockByHeaderOf)
+  abbrev pub HeaderDecoded : BlockRead → List ℤ → Type 0
+  HeaderDecoded a out = (record { answer = a .answer; out = out } ≡ blockByHeaderOf s r h kind ctx first q0 q1 old) × (a .reads ≡ headerReads s r h kind ctx first q0 q1 old)
 
-  pub header-refused : (length h ≡ entryCount → ⊥) → refusedBlock old ≡ blockByHeaderOf s r h kind ctx first q0 q1 old
-  unfolding blockByHeaderOf
-  header-refused f = rw (ne-eqb _ _ f, blockByHeaderOf)
+  pub header-good : length h ≡ entryCount → {l : List ℕ} → l ≡ headerTable h → {a : BlockRead} {out : List ℤ} → Decoded s r l kind ctx first q0 q1 old a out → HeaderDecoded a out
+  unfolding blockByHeaderOf headerReads
+  header-good e {l} f d =
+      let p : blockCallOf s r l kind ctx first q0 q1 old ≡ blockByHeaderOf s r h kind ctx first q0 q1 old = rw (f, eq-eqb _ _ e, blockByHeaderOf) in
+      let q : blockReads s r l kind ctx first q0 q1 old ≡ headerReads s r h kind ctx first q0 q1 old = rw (f, eq-eqb _ _ e, headerReads) in
+      (d .0 ∙ p, d .1 ∙ q)
+
+  pub header-refused : (length h ≡ entryCount → ⊥) → {a : BlockRead} → a ≡ record { answer = B.Refused; reads = 0 } → HeaderDecoded a old
+  unfolding blockByHeaderOf headerReads
+  header-refused f d = (rw d (rw (ne-eqb _ _ f, blockByHeaderOf)), rw d (rw (ne-eqb _ _ f, headerReads)))

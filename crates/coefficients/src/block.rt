@@ -1,5 +1,6 @@
 // The coefficients of a block: tokens, the numbers and signs that follow them, where they stand and what they are multiplied by
 // (RFC 6386, sections 13 and 14.1). A token itself is `reader::token::walk_token`.
+use crate::counts::count_from;
 use header::entries::COEFFICIENT_PROBABILITY;
 use header::entries::ENTRY_COUNT;
 use header::entries::PROBABILITY_COUNT;
@@ -26,25 +27,30 @@ ghost use Rattle.reader.specs.Reading.{run};
 ghost use Rattle.reader.specs.Extra.{toNumber};
 ghost use Rattle.coefficients.specs.Block.{category, signOf, bands, zigzag, probabilityPlace, quantizerAt, contextAfter, magnitudeOf};
 ghost use Rattle.coefficients.specs.Block.{signedOf, numericOf, numberAnswer, signedAnswer, blockOf, sixteenBits, blockArguments, blockCallOf};
-ghost use Rattle.coefficients.specs.Block.{blockByHeaderOf, tableOf};
+ghost use Rattle.coefficients.specs.Block.{blockByHeaderOf, tableOf, block, blockReads, headerReads};
+ghost use Rattle.coefficients.specs.CountSteps.{costs, countGiven};
 
 // The band of a position, and where its number stands in the block.
-const BANDS: [u8; 16] = [0, 1, 2, 3, 6, 4, 5, 6, 6, 6, 6, 6, 6, 6, 6, 7];
+pub(crate) const BANDS: [u8; 16] = [0, 1, 2, 3, 6, 4, 5, 6, 6, 6, 6, 6, 6, 6, 6, 7];
 
 const ZIGZAG: [u8; 16] = [0, 1, 4, 8, 5, 2, 3, 6, 9, 12, 13, 10, 7, 11, 14, 15];
 
+// The symbols of each token, with its number's bits and its sign, where its walk starts at the root. After a zero it does not, so the token
+// there is counted one too many, and a zero therefore one too few; a zero at the last position is put right after the loop.
+const COSTS: [u8; 12] = [1, 1, 4, 6, 7, 7, 8, 9, 11, 12, 13, 19];
+
 // The probabilities of a category's extra bits: the RFC's Pcat1 to Pcat6.
-const CAT1: [u8; 1] = [159];
+pub(crate) const CAT1: [u8; 1] = [159];
 
-const CAT2: [u8; 2] = [165, 145];
+pub(crate) const CAT2: [u8; 2] = [165, 145];
 
-const CAT3: [u8; 3] = [173, 148, 140];
+pub(crate) const CAT3: [u8; 3] = [173, 148, 140];
 
-const CAT4: [u8; 4] = [176, 155, 140, 135];
+pub(crate) const CAT4: [u8; 4] = [176, 155, 140, 135];
 
-const CAT5: [u8; 5] = [180, 157, 141, 134, 130];
+pub(crate) const CAT5: [u8; 5] = [180, 157, 141, 134, 130];
 
-const CAT6: [u8; 11] = [254, 254, 243, 230, 196, 177, 153, 140, 133, 130, 129];
+pub(crate) const CAT6: [u8; 11] = [254, 254, 243, 230, 196, 177, 153, 140, 133, 130, 129];
 
 // A coefficient and the reader after it; Missing where a byte was; Refused where the reader or the token is out of range.
 pub enum Signed {
@@ -60,6 +66,12 @@ pub enum Block {
     Refused,
 }
 
+// The answer, and how many symbols were read; where one is missing, those before it.
+pub struct BlockRead {
+    pub answer: Block,
+    pub reads: u64,
+}
+
 // The 1056 probabilities of a header as bytes; zeros where it was refused.
 pub struct Table {
     pub answer: Checked,
@@ -69,7 +81,7 @@ pub struct Table {
 // ---- the number of a token
 
 // A category's least number and what its extra bits add.
-fn extended(s: &[u8], r: Reader, probs: &[u8], base: u32) -> Number
+pub(crate) fn extended(s: &[u8], r: Reader, probs: &[u8], base: u32) -> Number
     requires { ⌜ Valid (now s) r ⌝ }
     requires { ⌜ (length (now probs) ≤ 16) × (base < 256) ⌝ }
     ensures { λ q. ⌜ q ≡ toNumber (run (category base (now (probs .entry))) (now (s .entry)) r) ⌝ }
@@ -155,7 +167,7 @@ fn entry(table: &[u8; 16], n: usize) -> usize
 }
 
 // Where the eleven probabilities of a position stand in the table.
-fn place(table: &[u8; 16], kind: usize, n: usize, ctx: usize) -> usize
+pub(crate) fn place(table: &[u8; 16], kind: usize, n: usize, ctx: usize) -> usize
     requires { ⌜ now table ≡ bands ⌝ }
     requires { ⌜ (kind < 4) × ((n < 16) × (ctx < 3)) ⌝ }
     ensures { λ r. ⌜ (r ≡ probabilityPlace kind n ctx) × (r + 11 ≤ probabilityCount) ⌝ }
@@ -169,13 +181,31 @@ fn quantizer(n: usize, q0: u16, q1: u16) -> u16
     if n == 0 { q0 } else { q1 }
 }
 
-fn context(token: u8) -> usize
+pub(crate) fn context(token: u8) -> usize
     ensures { λ r. ⌜ (r ≡ contextAfter token) × (r < 3) ⌝ }
 {
     if token == 2 { 1 } else { 2 }
 }
 
-// A block of arguments in range. Its numbers reach `out` only where it ended. The two tables are made once, before the loop.
+fn cost(table: &[u8; 12], token: u8) -> u64
+    requires { ⌜ now table ≡ costs ⌝ }
+    requires { ⌜ token < 12 ⌝ }
+    ensures { λ r. ⌜ (r ≡ getD costs token 0) × (r ≤ 19) ⌝ }
+{
+    table[token as usize] as u64
+}
+
+fn counted(answer: Block, reads: u64) -> BlockRead
+    ensures { λ q. ⌜ q ≡ record { answer = answer; reads = reads } ⌝ }
+{
+    BlockRead {
+        answer: answer,
+        reads: reads,
+    }
+}
+
+// A block of arguments in range. Its numbers reach `out` only where it ended, and only there are its symbols counted: to count up to a
+// missing one, the loop would have to keep the reader from before each token. The three tables are made once, before the loop.
 pub(crate) fn read_block(
     s: &[u8],
     r: Reader,
@@ -186,27 +216,31 @@ pub(crate) fn read_block(
     q0: u16,
     q1: u16,
     out: &mut [i32; 16],
-) -> Block
+) -> BlockRead
     requires { ⌜ Valid (now s) r ⌝ }
     requires { ⌜ (length (now table) ≡ probabilityCount) × ((kind < 4) × ((ctx < 3) × (first ≤ 1))) ⌝ }
-    ensures { λ a. ⌜ record { answer = a; out = now (out .exit) }
-        ≡ blockOf (now (s .entry)) r (now (table .entry)) kind ctx first q0 q1 (now (out .entry)) ⌝ }
+    ensures { λ a. ⌜ (record { answer = a .answer; out = now (out .exit) }
+        ≡ blockOf (now (s .entry)) r (now (table .entry)) kind ctx first q0 q1 (now (out .entry)))
+        × (a .reads ≡ countGiven (block (now (table .entry)) kind q0 q1 ctx first (now (out .entry))) (now (s .entry)) r) ⌝ }
 {
     let bands = BANDS;
     let zigzag = ZIGZAG;
+    let costs = COSTS;
     let mut values = *out;
     let mut next = r;
     let mut n = first;
     let mut near = ctx;
     let mut zero = false;
+    let mut reads: u64 = 0;
     while n < 16 {
         let at = place(&bands, kind, n, near);
         let Token::Read(token, after) = walk_token(s, next, table, at, zero) else {
-            return Block::Missing;
+            return counted(Block::Missing, 0);
         };
+        reads = reads + cost(&costs, token);
         if token == 0 {
             *out = values;
-            return Block::Ended(n, after);
+            return counted(Block::Ended(n, after), reads);
         }
         if token == 1 {
             near = 0;
@@ -215,7 +249,7 @@ pub(crate) fn read_block(
             n = n + 1;
         } else {
             let Signed::Value(v, last) = read_signed(s, after, token, quantizer(n, q0, q1)) else {
-                return Block::Missing;
+                return counted(Block::Missing, 0);
             };
             let z = entry(&zigzag, n);
             values[z] = v;
@@ -226,7 +260,7 @@ pub(crate) fn read_block(
         }
     }
     *out = values;
-    Block::Ended(n, next)
+    counted(Block::Ended(n, next), reads + zero as u64)
 }
 
 // ---- the public calls
@@ -283,7 +317,8 @@ fn arguments(table: &[u8], kind: usize, ctx: usize, first: usize) -> bool
     (table.len() == PROBABILITY_COUNT) & ((kind < 4) & ((ctx < 3) & (first <= 1)))
 }
 
-// A block: where it ended, its numbers stored into `out`, which every other answer leaves as it was.
+// A block: where it ended, its numbers stored into `out`, which every other answer leaves as it was. Where a byte is missing, it is read
+// again for its count.
 pub fn decode(
     s: &[u8],
     r: Reader,
@@ -294,20 +329,29 @@ pub fn decode(
     q0: u16,
     q1: u16,
     out: &mut [i32; 16],
-) -> Block
-    ensures { λ a. ⌜ record { answer = a; out = now (out .exit) }
-        ≡ blockCallOf (now (s .entry)) r (now (table .entry)) kind ctx first q0 q1 (now (out .entry)) ⌝ }
+) -> BlockRead
+    ensures { λ a. ⌜ (record { answer = a .answer; out = now (out .exit) }
+        ≡ blockCallOf (now (s .entry)) r (now (table .entry)) kind ctx first q0 q1 (now (out .entry)))
+        × (a .reads ≡ blockReads (now (s .entry)) r (now (table .entry)) kind ctx first q0 q1 (now (out .entry))) ⌝ }
 {
     if !valid(s, r) {
-        return Block::Refused;
+        return counted(Block::Refused, 0);
     }
     if !arguments(table, kind, ctx, first) {
-        return Block::Refused;
+        return counted(Block::Refused, 0);
     }
     if !small(out) {
-        return Block::Refused;
+        return counted(Block::Refused, 0);
     }
-    read_block(s, r, table, kind, ctx, first, q0, q1, out)
+    let b = read_block(s, r, table, kind, ctx, first, q0, q1, out);
+    let answer = b.answer;
+    let Block::Ended(_, _) = answer else {
+        return counted(
+            Block::Missing,
+            count_from(s, r, table, kind, first, ctx, false),
+        );
+    };
+    b
 }
 
 // The probabilities of a header, once for every block of a picture.
@@ -343,14 +387,15 @@ pub fn decode_header(
     q0: u16,
     q1: u16,
     out: &mut [i32; 16],
-) -> Block
-    ensures { λ a. ⌜ record { answer = a; out = now (out .exit) }
-        ≡ blockByHeaderOf (now (s .entry)) r (now (h .entry)) kind ctx first q0 q1 (now (out .entry)) ⌝ }
+) -> BlockRead
+    ensures { λ a. ⌜ (record { answer = a .answer; out = now (out .exit) }
+        ≡ blockByHeaderOf (now (s .entry)) r (now (h .entry)) kind ctx first q0 q1 (now (out .entry)))
+        × (a .reads ≡ headerReads (now (s .entry)) r (now (h .entry)) kind ctx first q0 q1 (now (out .entry))) ⌝ }
 {
     let t = probabilities(h);
     let answer = t.answer;
     let Checked::Done = answer else {
-        return Block::Refused;
+        return counted(Block::Refused, 0);
     };
     let bytes = t.bytes;
     decode(s, r, &bytes, kind, ctx, first, q0, q1, out)

@@ -1,10 +1,11 @@
--- The calls as C sees them: a number, the macroblocks finished, the lent memory.
+-- The calls as C sees them: a number, the macroblocks finished, the symbols read, the lent memory.
 use Prim.Native.Nat.{ℕ}
 use mathlib.Core.Bool.{Bool, true, false, not, _&&_}
 use mathlib.Core.List.{List}
 use lib.Dec.{eqb}
 use lib.ListN.{length, getD}
 use Rattle.filter.specs.Kernel.{filterOf}
+use Rattle.macroblock.specs.declared.arguments.Reads.{Reads}
 use Rattle.macroblock.specs.Macroblock.{Planes}
 use Rattle.deblock.specs.Deblock as Deblock
 use Rattle.deblock.specs.Deblock.{Outcome, deblockOf}
@@ -13,17 +14,19 @@ use Rattle.tile.specs.declared.Span.{Span}
 use Rattle.lent.specs.Memory.{Memory}
 use Rattle.picture.specs.Checks.{Call}
 use Rattle.picture.specs.Picture.{Ended, numberOf, valuesOf, pictureOf}
+use Rattle.picture.specs.Counts.{costOf}
 
 pub record PictureCalled : Type 0 where
   pub number : ℕ
   pub finished : ℕ
+  pub reads : Reads
   pub mem : Memory
 
-abbrev pub toPictureCalled : Ended → PictureCalled
-toPictureCalled e = record { number = numberOf (e .answer); finished = valuesOf (e .answer); mem = e .mem }
+abbrev pub toPictureCalled : Ended → Reads → PictureCalled
+toPictureCalled e reads = record { number = numberOf (e .answer); finished = valuesOf (e .answer); reads = reads; mem = e .mem }
 
-abbrev pub calledNumbers : (number finished : ℕ) → Memory → PictureCalled
-calledNumbers number finished mem = record { number = number; finished = finished; mem = mem }
+abbrev pub calledNumbers : (number finished first tokens : ℕ) → Memory → PictureCalled
+calledNumbers number finished first tokens mem = record { number = number; finished = finished; reads = record { first = first; tokens = tokens }; mem = mem }
 
 -- the spans of the eight token partitions, from their starts and lengths
 abbrev pub spanFrom : (starts lengths : List ℕ) → ℕ → Span
@@ -36,8 +39,8 @@ spansFrom starts lengths = listed 8 (spanFrom starts lengths)
 unfoldable pub calledOf : (starts lengths : List ℕ) → Call → Memory → PictureCalled
 calledOf starts lengths c m =
     elim (eqb (length starts) 8 && eqb (length lengths) 8) [
-      | true ↦ toPictureCalled (pictureOf c m)
-      | false ↦ calledNumbers 9 0 m
+      | true ↦ toPictureCalled (pictureOf c m) (costOf c m)
+      | false ↦ calledNumbers 9 0 0 0 m
     ]
 
 -- a flag is true where its number is not 0

@@ -1,6 +1,6 @@
 -- What the calls answer, as their code finds it.
 use Prim.Native.Nat.{ℕ, _<_}
-use mathlib.Core.Path.{_≡_, refl, sym, _∙_, ap}
+use mathlib.Core.Path.{_≡_, refl, sym, _∙_, ap, ap₂}
 use mathlib.Core.Bool.{Bool, true, false}
 use mathlib.Core.List.{List, [], _∷_}
 use lib.ListN.{length, getD}
@@ -14,6 +14,8 @@ use Rattle.lent.specs.Memory.{Memory}
 use Rattle.picture.specs.Checks.{Call, callOf}
 use Rattle.picture.specs.declared.rows.Decoded.{Decoded}
 use Rattle.picture.specs.Picture.{endedOf, numberOf, valuesOf, pictureOf}
+use Rattle.picture.specs.Counts.{costOf}
+use Rattle.macroblock.specs.declared.arguments.Reads.{Reads}
 use Rattle.macroblock.specs.Macroblock.{Planes}
 use Rattle.deblock.specs.declared.Deblocked.{Deblocked}
 use Rattle.deblock.specs.Deblock as Deblock
@@ -21,28 +23,28 @@ use Rattle.deblock.specs.Deblock.{Outcome, deblockOf}
 use Rattle.hookbarley.specs.Calls.{toPictureCalled, calledNumbers, calledOf, DeblockCalled, toDeblockCalled, deblockCalledOf, Filtered, flagOf, filteredOf}
 
 module _ (starts lengths : List ℕ) (c : Call) (m : Memory) where
-  pub called-starts : (length starts ≡ 8 → ⊥) → calledNumbers 9 0 m ≡ calledOf starts lengths c m
+  pub called-starts : (length starts ≡ 8 → ⊥) → calledNumbers 9 0 0 0 m ≡ calledOf starts lengths c m
   unfolding calledOf
   called-starts e = rw (ne-eqb _ _ e, calledOf)
 
-  pub called-lengths : length starts ≡ 8 → (length lengths ≡ 8 → ⊥) → calledNumbers 9 0 m ≡ calledOf starts lengths c m
+  pub called-lengths : length starts ≡ 8 → (length lengths ≡ 8 → ⊥) → calledNumbers 9 0 0 0 m ≡ calledOf starts lengths c m
   unfolding calledOf
   called-lengths d e = rw (eq-eqb _ _ d, ne-eqb _ _ e, calledOf)
 
-  pub called-picture : length starts ≡ 8 → length lengths ≡ 8 → {n k : ℕ} {d : Decoded} {q : Memory} → n ≡ numberOf d → k ≡ valuesOf d → endedOf d q ≡ pictureOf c m
-      → calledNumbers n k q ≡ calledOf starts lengths c m
+  pub called-picture : length starts ≡ 8 → length lengths ≡ 8 → {n k : ℕ} {d : Decoded} {r : Reads} {q : Memory} → n ≡ numberOf d → k ≡ valuesOf d → endedOf d q ≡ pictureOf c m → r ≡ costOf c m
+      → calledNumbers n k (r .first) (r .tokens) q ≡ calledOf starts lengths c m
   unfolding calledOf
-  called-picture d e {n} {k} {d = x} {q} f g h =
-      let z : calledOf starts lengths c m ≡ toPictureCalled (pictureOf c m) = rw (eq-eqb _ _ d, eq-eqb _ _ e, calledOf) in
-      (λ i. calledNumbers (f i) (g i) q) ∙ ap toPictureCalled h ∙ sym z
+  called-picture d e {n} {k} {d = x} {r} {q} f g h j =
+      let z : calledOf starts lengths c m ≡ toPictureCalled (pictureOf c m) (costOf c m) = rw (eq-eqb _ _ d, eq-eqb _ _ e, calledOf) in
+      (λ i. calledNumbers (f i) (g i) (r .first) (r .tokens) q) ∙ ap₂ toPictureCalled h j ∙ sym z
 
 -- the same with the spans as the code made them
 abbrev pub withTokens : Call → List Span → Call
 withTokens c s = let t = c .tile in callOf (c .bytes) (record { first = t .first; tokens = s; reader = t .reader; count = t .count; width = t .width; height = t .height }) (c .header)
 
-pub called-found : (starts lengths : List ℕ) (c : Call) (m : Memory) → length starts ≡ 8 → length lengths ≡ 8 → {n k : ℕ} {d : Decoded} {q : Memory} → n ≡ numberOf d → k ≡ valuesOf d
-    → {s : List Span} → s ≡ c .tile .tokens → endedOf d q ≡ pictureOf (withTokens c s) m → calledNumbers n k q ≡ calledOf starts lengths c m
-called-found starts lengths c m d e f g p h = called-picture starts lengths c m d e f g (h ∙ (λ i. pictureOf (withTokens c (p i)) m))
+pub called-found : (starts lengths : List ℕ) (c : Call) (m : Memory) → length starts ≡ 8 → length lengths ≡ 8 → {n k : ℕ} {d : Decoded} {r : Reads} {q : Memory} → n ≡ numberOf d → k ≡ valuesOf d
+    → {s : List Span} → s ≡ c .tile .tokens → (endedOf d q ≡ pictureOf (withTokens c s) m) × (r ≡ costOf (withTokens c s) m) → calledNumbers n k (r .first) (r .tokens) q ≡ calledOf starts lengths c m
+called-found starts lengths c m d e f g p h = called-picture starts lengths c m d e f g (h .0 ∙ (λ i. pictureOf (withTokens c (p i)) m)) (h .1 ∙ (λ i. costOf (withTokens c (p i)) m))
 
 pub deblock-called : (d : Planes) (s : List ℕ) (w h simple : ℕ) {n : ℕ} {a : Deblocked} {p : Planes} → n ≡ Deblock.deblockNumberOf a
     → _≡_ {A = Outcome} (record { answer = a; planes = p }) (deblockOf d s w h (flagOf simple)) → record { number = n; planes = p } ≡ deblockCalledOf d s w h simple

@@ -46,7 +46,7 @@ fn eight_spans(starts: &[usize], lengths: &[usize]) -> [Span; 8]
 }
 
 // The picture call. The eight starts and lengths are slices of eight (else 9); `at`, `range`, `shifts` and `window` are the
-// starting reader; the macroblocks finished are written through `finished`.
+// starting reader; the macroblocks finished are written through `finished`, the symbols read through `first_reads` and `token_reads`.
 #[no_mangle]
 pub extern "C" fn hookbarley_decode(
     bytes: &[u8],
@@ -69,8 +69,10 @@ pub extern "C" fn hookbarley_decode(
     modes: &mut [u8],
     strengths: &mut [u8],
     finished: &mut usize,
+    first_reads: &mut u64,
+    token_reads: &mut u64,
 ) -> u32
-    ensures { λ r. ⌜ calledNumbers r (now (finished .exit))
+    ensures { λ r. ⌜ calledNumbers r (now (finished .exit)) (now («first_reads» .exit)) (now («token_reads» .exit))
         (memoryOf (now (y .exit)) (now (u .exit)) (now (v .exit)) (now (columns .exit)) (now (modes .exit)) (now (strengths .exit)))
         ≡ calledOf (now (starts .entry)) (now (lengths .entry))
         (callOf (now (bytes .entry))
@@ -86,12 +88,13 @@ pub extern "C" fn hookbarley_decode(
         (memoryOf (now (y .entry)) (now (u .entry)) (now (v .entry))
         (now (columns .entry)) (now (modes .entry)) (now (strengths .entry))) ⌝ }
 {
+    *finished = 0;
+    *first_reads = 0;
+    *token_reads = 0;
     if starts.len() != 8 {
-        *finished = 0;
         return 9;
     }
     if lengths.len() != 8 {
-        *finished = 0;
         return 9;
     }
     let reader = Reader {
@@ -113,8 +116,12 @@ pub extern "C" fn hookbarley_decode(
         height: height,
     };
     let d = decode(bytes, tile, header, y, u, v, columns, modes, strengths);
-    *finished = d.finished();
-    d.number()
+    let answer = d.answer;
+    let reads = d.reads;
+    *finished = answer.finished();
+    *first_reads = reads.first;
+    *token_reads = reads.tokens;
+    answer.number()
 }
 
 pub(crate) fn eight_samples(s: &[u8]) -> [u8; 8]

@@ -3,3 +3,5 @@ pub mod MacroblockLaws
 pub mod DecodeLaws
 pub mod StepLaws
 pub mod StepRecords
+pub mod Counts
+pub mod CountsLaws

@@ -20,3 +20,9 @@ pub struct Around {
     pub top: Context,
     pub left: Context,
 }
+
+// How many symbols were read: from the first partition, and from token partitions.
+pub struct Reads {
+    pub first: u64,
+    pub tokens: u64,
+}

@@ -3,6 +3,7 @@
 use crate::arguments::Around;
 use crate::arguments::Place;
 use crate::arguments::Readers;
+use crate::arguments::Reads;
 use crate::checks::laid;
 use crate::checks::ready;
 use crate::squares::squares;
@@ -26,8 +27,10 @@ ghost use Rattle.header.specs.Frame.{levelAt, factorsAt};
 ghost use Rattle.header.specs.FrameLaws.{Sound};
 ghost use Rattle.modes.specs.ModesLaws.{InRange};
 ghost use Rattle.modes.specs.Answers.{macroblockOf};
+ghost use Rattle.reader.specs.Boolean.{given};
 ghost use Rattle.filter.specs.Strengths.{strengthOf};
 ghost use Rattle.macroblock.specs.Macroblock.{planesOf, macroblockCalled, toMacroblockCalled, stepOf, macroblockCallOf, noOutcome};
+ghost use Rattle.macroblock.specs.Counts.{readsMade, tokenReads, readsOf, decodeReads};
 ghost use Rattle.macroblock.specs.MacroblockLaws.{Ready, Tokens, Laid, endOutcome, tokensCalled};
 
 // Finished, with the readers after it; or where it stopped: its modes (6) or its tokens (7) ran out; or an argument (9).
@@ -49,14 +52,21 @@ pub struct Outcome {
     pub left: Context,
 }
 
-// The modes of a macroblock, and the reader after them.
+// An outcome, and how many symbols were read for it.
+pub struct MacroblockRead {
+    pub outcome: Outcome,
+    pub reads: Reads,
+}
+
+// The modes of a macroblock, the reader after them, and how many symbols they took.
 struct ModeData {
     kinds: Kinds,
     modes: [u8; 16],
     next: Reader,
+    reads: u64,
 }
 
-fn stopped(answer: Finish) -> Outcome
+fn nothing(answer: Finish) -> Outcome
     ensures { λ r. ⌜ r ≡ noOutcome answer ⌝ }
 {
     Outcome {
@@ -76,6 +86,19 @@ fn stopped(answer: Finish) -> Outcome
         },
         top: Context::empty(),
         left: Context::empty(),
+    }
+}
+
+// What is not finished, with what was read for it.
+fn stopped(answer: Finish, first: u64, tokens: u64) -> MacroblockRead
+    ensures { λ r. ⌜ (r .outcome ≡ noOutcome answer) × (r .reads ≡ readsMade first tokens) ⌝ }
+{
+    MacroblockRead {
+        outcome: nothing(answer),
+        reads: Reads {
+            first: first,
+            tokens: tokens,
+        },
     }
 }
 
@@ -167,7 +190,7 @@ fn ending(
     }
 }
 
-// The residual of a macroblock whose modes are read, and what follows from it.
+// The residual of a macroblock whose modes are read, what follows from it, and what both have read.
 fn with_tokens(
     tokens: &[u8],
     t: Reader,
@@ -179,14 +202,16 @@ fn with_tokens(
     y: &mut [u8],
     u: &mut [u8],
     v: &mut [u8],
-) -> Outcome
+) -> MacroblockRead
     requires { ⌜ Tokens (now tokens) t frame (now table) around ⌝ }
     requires { ⌜ InRange (macroblockOf (m .kinds) (m .modes)) ⌝ }
     requires { ⌜ Laid place (planesOf (now y) (now u) (now v)) ⌝ }
-    ensures { λ q. ⌜ macroblockCalled q (now (y .exit)) (now (u .exit)) (now (v .exit))
+    ensures { λ q. ⌜ (macroblockCalled (q .outcome) (now (y .exit)) (now (u .exit)) (now (v .exit))
         ≡ tokensCalled (now (tokens .entry)) t frame (now (table .entry)) around place
         (macroblockOf (m .kinds) (m .modes)) (m .next)
-        (planesOf (now (y .entry)) (now (u .entry)) (now (v .entry))) ⌝ }
+        (planesOf (now (y .entry)) (now (u .entry)) (now (v .entry))))
+        × (q .reads ≡ readsMade (m .reads)
+        (tokenReads (now (tokens .entry)) t frame (now (table .entry)) around (given (macroblockOf (m .kinds) (m .modes)) (m .next)))) ⌝ }
 {
     let kinds = m.kinds;
     let modes = m.modes;
@@ -196,7 +221,7 @@ fn with_tokens(
     let left_flags = left.flags;
     let mut c = [0; 384];
     let f = factors_of(frame, index(kinds.segment));
-    let d = residual::decode(
+    let read = residual::decode(
         tokens,
         t,
         table,
@@ -207,14 +232,21 @@ fn with_tokens(
         left_flags,
         &mut c,
     );
+    let d = read.residual;
     let answer = d.answer;
     let Ended::Done(after, empty) = answer else {
-        return stopped(Finish::NoTokens);
+        return stopped(Finish::NoTokens, m.reads, read.reads);
     };
     squares(&mut y[..], &mut u[..], &mut v[..], place, kinds, &modes, &c);
     let top_after = d.top;
     let left_after = d.left;
-    ending(frame, m, after, empty, top_after, left_after)
+    MacroblockRead {
+        outcome: ending(frame, m, after, empty, top_after, left_after),
+        reads: Reads {
+            first: m.reads,
+            tokens: read.reads,
+        },
+    }
 }
 
 // A macroblock of arguments in range.
@@ -229,12 +261,13 @@ fn step(
     y: &mut [u8],
     u: &mut [u8],
     v: &mut [u8],
-) -> Outcome
+) -> MacroblockRead
     requires { ⌜ Ready (now first) (now tokens) readers frame (now table) around ⌝ }
     requires { ⌜ Laid place (planesOf (now y) (now u) (now v)) ⌝ }
-    ensures { λ q. ⌜ macroblockCalled q (now (y .exit)) (now (u .exit)) (now (v .exit))
+    ensures { λ q. ⌜ (macroblockCalled (q .outcome) (now (y .exit)) (now (u .exit)) (now (v .exit))
         ≡ (let p = planesOf (now (y .entry)) (now (u .entry)) (now (v .entry)) in
-        toMacroblockCalled p (stepOf (now (first .entry)) (now (tokens .entry)) readers frame (now (table .entry)) around place p)) ⌝ }
+        toMacroblockCalled p (stepOf (now (first .entry)) (now (tokens .entry)) readers frame (now (table .entry)) around place p)))
+        × (q .reads ≡ readsOf (now (first .entry)) (now (tokens .entry)) readers frame (now (table .entry)) around) ⌝ }
 {
     let mut modes = [0; 16];
     let r = readers.first;
@@ -244,25 +277,22 @@ fn step(
     let left = around.left;
     let top_modes = top.modes;
     let left_modes = left.modes;
-    let Stage::Read(kinds, next) = read_modes(
-        first,
-        announced,
-        r,
-        top_modes,
-        left_modes,
-        &mut modes,
-    ) else {
-        return stopped(Finish::NoModes);
+    let read = read_modes(first, announced, r, top_modes, left_modes, &mut modes);
+    let answer = read.answer;
+    let Stage::Read(kinds, next) = answer else {
+        return stopped(Finish::NoModes, read.reads, 0);
     };
     let m = ModeData {
         kinds: kinds,
         modes: modes,
         next: next,
+        reads: read.reads,
     };
     with_tokens(tokens, t, frame, table, around, place, m, y, u, v)
 }
 
-// A macroblock: its modes from `first`, its tokens from `tokens`. Whatever is not finished leaves the planes as they were.
+// A macroblock: its modes from `first`, its tokens from `tokens`. Whatever is not finished leaves the planes as they were, and says all the
+// same what was read for it.
 pub fn decode(
     first: &[u8],
     tokens: &[u8],
@@ -274,16 +304,18 @@ pub fn decode(
     y: &mut [u8],
     u: &mut [u8],
     v: &mut [u8],
-) -> Outcome
-    ensures { λ q. ⌜ macroblockCalled q (now (y .exit)) (now (u .exit)) (now (v .exit))
+) -> MacroblockRead
+    ensures { λ q. ⌜ (macroblockCalled (q .outcome) (now (y .exit)) (now (u .exit)) (now (v .exit))
         ≡ macroblockCallOf (now (first .entry)) (now (tokens .entry)) readers frame (now (table .entry)) around place
-        (planesOf (now (y .entry)) (now (u .entry)) (now (v .entry))) ⌝ }
+        (planesOf (now (y .entry)) (now (u .entry)) (now (v .entry))))
+        × (q .reads ≡ decodeReads (now (first .entry)) (now (tokens .entry)) readers frame (now (table .entry)) around place
+        (planesOf (now (y .entry)) (now (u .entry)) (now (v .entry)))) ⌝ }
 {
     if !ready(first, tokens, readers, frame, table.len(), around) {
-        return stopped(Finish::Refused);
+        return stopped(Finish::Refused, 0, 0);
     }
     if !laid(y.len(), u.len(), v.len(), place) {
-        return stopped(Finish::Refused);
+        return stopped(Finish::Refused, 0, 0);
     }
     step(first, tokens, readers, frame, table, around, place, y, u, v)
 }

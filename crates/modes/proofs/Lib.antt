@@ -1,3 +1,4 @@
 pub mod Turns
 pub mod Chain
+pub mod Counted
 pub mod Others

@@ -201,8 +201,11 @@ module _ (g : Given (List ℕ)) (zeros old : List ℕ) {x : Sixteen} (e : x ≡ 
   sixteen-missing f = sym (ap (toSixteen old) (sixteened zeros g e ∙ f))
 
 module _ (g : Given Macroblock) (zeros old : List ℕ) {x : Staged} (e : x ≡ toStaged zeros g) where
+  pub staged-gave : {k : Kinds} {q : Reader} → x .answer ≡ S.Read k q → g ≡ given (macroblockOf k (x .modes)) q
+  staged-gave f = staged zeros g e ∙ ap (λ (a : Stage). stageGiven a (x .modes)) f
+
   pub staged-read : {k : Kinds} {q : Reader} → x .answer ≡ S.Read k q → record { answer = S.Read k q; modes = x .modes } ≡ toStaged old g
-  staged-read {k} {q} f = sym (ap (toStaged old) (staged zeros g e ∙ ap (λ (a : Stage). stageGiven a (x .modes)) f))
+  staged-read f = sym (ap (toStaged old) (staged-gave f))
 
   pub staged-missing : stageGiven (x .answer) (x .modes) ≡ missing → record { answer = S.Missing; modes = old } ≡ toStaged old g
   staged-missing f = sym (ap (toStaged old) (staged zeros g e ∙ f))

@@ -4,5 +4,7 @@ pub mod Modes
 pub mod ModesLaws
 pub mod Answers
 pub mod AnswersLaws
+pub mod Counts
+pub mod CountsLaws
 pub mod Contexts
 pub mod ContextsLaws

@@ -50,3 +50,9 @@ pub struct Staged {
     pub answer: Stage,
     pub modes: [u8; 16],
 }
+
+// An answer, and how many symbols were read.
+pub struct ModesRead {
+    pub answer: Stage,
+    pub reads: u64,
+}

@@ -15,9 +15,9 @@ ghost use Rattle.modes.specs.ModesLaws.{byteLeaves};
 
 pub(crate) const SEG_TREE: [i16; 6] = [1, 2, 0, -1, -2, -3];
 
-const Y_TREE: [i16; 6] = [1, 2, 0, -2, -3, -1];
+pub(crate) const Y_TREE: [i16; 6] = [1, 2, 0, -2, -3, -1];
 
-const UV_TREE: [i16; 6] = [0, 1, -2, 2, -3, -1];
+pub(crate) const UV_TREE: [i16; 6] = [0, 1, -2, 2, -3, -1];
 
 // A constant tree, walked from its root; its leaves fit a byte.
 pub(crate) fn coded(s: &[u8], r: Reader, probs: &[u8], t: &[i16]) -> Mode

@@ -1,7 +1,9 @@
 // The modes of a macroblock (RFC 6386, sections 8, 11 and 19.3): its segment and skip flag (prefix), its large and chroma modes
-// (large), its sixteen small ones (small, table), all of them in order (whole), and what it leaves to its neighbours (contexts).
+// (large), its sixteen small ones (small, table), all of them in order (whole), how many symbols they read (counts), and what it leaves
+// to its neighbours (contexts).
 pub mod answers;
 pub mod contexts;
+mod counts;
 pub mod large;
 pub mod prefix;
 pub mod small;

@@ -18,7 +18,7 @@ ghost use Rattle.modes.specs.Modes.{segment, skip, prefix};
 ghost use Rattle.modes.specs.Answers.{toMode, toHeaded, prefixAnswer};
 
 // The segment where the frame has a map, else 0.
-fn segment(s: &[u8], r: Reader, a: Announced) -> Mode
+pub(crate) fn segment(s: &[u8], r: Reader, a: Announced) -> Mode
     requires { ⌜ Valid (now s) r ⌝ }
     ensures { λ q. ⌜ q ≡ toMode (run (segment a) (now (s .entry)) r) ⌝ }
 {
@@ -30,7 +30,7 @@ fn segment(s: &[u8], r: Reader, a: Announced) -> Mode
 }
 
 // The skip flag where the frame has them, else false.
-fn skip(s: &[u8], r: Reader, a: Announced) -> Symbol
+pub(crate) fn skip(s: &[u8], r: Reader, a: Announced) -> Symbol
     requires { ⌜ Valid (now s) r ⌝ }
     ensures { λ q. ⌜ q ≡ toSymbol (run (skip a) (now (s .entry)) r) ⌝ }
 {

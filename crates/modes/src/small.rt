@@ -20,7 +20,7 @@ ghost use Rattle.modes.specs.ModesLaws.{Modes};
 ghost use Rattle.modes.specs.TableLaws.{Renumbered};
 
 // Where the nine probabilities stand.
-fn place(top: u8, left: u8) -> usize
+pub(crate) fn place(top: u8, left: u8) -> usize
     requires { ⌜ (top < 10) × (left < 10) ⌝ }
     ensures { λ r. ⌜ (r ≡ (top * 10 + left) * 9) × (r ≤ 891) ⌝ }
 {
@@ -112,7 +112,7 @@ fn small_mode(s: &[u8], r: Reader, probs: &[u8]) -> Mode
 }
 
 // The table as a value: it is made once for a macroblock, since a constant is written out wherever it is used.
-fn all_probabilities() -> [u8; 900]
+pub(crate) fn all_probabilities() -> [u8; 900]
     ensures { λ r. ⌜ Renumbered r ⌝ }
 {
     BMODE
@@ -148,7 +148,7 @@ pub fn block_mode(s: &[u8], r: Reader, top: u8, left: u8) -> Mode
 }
 
 // The mode above small block i, and the mode left of it.
-fn mode_above(top: &[u8; 4], modes: &[u8; 16], i: usize) -> u8
+pub(crate) fn mode_above(top: &[u8; 4], modes: &[u8; 16], i: usize) -> u8
     requires { ⌜ i < 16 ⌝ }
     ensures { λ r. ⌜ r ≡ modeAbove (now (top .entry)) (now (modes .entry)) i ⌝ }
 {
@@ -158,7 +158,7 @@ fn mode_above(top: &[u8; 4], modes: &[u8; 16], i: usize) -> u8
     modes[i - 4]
 }
 
-fn mode_left(left: &[u8; 4], modes: &[u8; 16], i: usize) -> u8
+pub(crate) fn mode_left(left: &[u8; 4], modes: &[u8; 16], i: usize) -> u8
     requires { ⌜ i < 16 ⌝ }
     ensures { λ r. ⌜ r ≡ modeLeft (now (left .entry)) (now (modes .entry)) i ⌝ }
 {

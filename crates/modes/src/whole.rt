@@ -2,10 +2,13 @@
 use crate::answers::Headed;
 use crate::answers::Kinds;
 use crate::answers::Mode;
+use crate::answers::ModesRead;
 use crate::answers::Next;
 use crate::answers::Sixteen;
 use crate::answers::Stage;
 use crate::answers::Staged;
+use crate::counts::count_modes;
+use crate::counts::modes_read;
 use crate::large::large_mode;
 use crate::prefix::head;
 use crate::small::contexts_fine;
@@ -19,10 +22,11 @@ ghost use Rattle.reader.specs.BooleanLaws.{Valid};
 ghost use Rattle.reader.specs.Reading.{run};
 ghost use Rattle.modes.specs.Modes.{zeros, luma, modesOf};
 ghost use Rattle.modes.specs.Answers.{toSixteen, toStaged, modesAnswer};
+ghost use Rattle.modes.specs.Counts.{modesReads};
 ghost use Rattle.modes.specs.ModesLaws.{Modes};
 
 // The sixteen luma modes: small ones, or a large one sixteen times.
-fn luma(s: &[u8], r: Reader, small: bool, top: &[u8; 4], left: &[u8; 4]) -> Sixteen
+pub(crate) fn luma(s: &[u8], r: Reader, small: bool, top: &[u8; 4], left: &[u8; 4]) -> Sixteen
     requires { ⌜ Valid (now s) r ⌝ }
     requires { ⌜ Modes (now top) × Modes (now left) ⌝ }
     ensures { λ q. ⌜ q ≡ toSixteen zeros (run (luma small (now (top .entry)) (now (left .entry))) (now (s .entry)) r) ⌝ }
@@ -84,7 +88,8 @@ fn stage(s: &[u8], a: Announced, r: Reader, top: &[u8; 4], left: &[u8; 4]) -> St
     }
 }
 
-// The modes of a macroblock, its sixteen luma modes into `modes`, which keeps what it held unless all are read.
+// The modes of a macroblock, its sixteen luma modes into `modes`, which keeps what it held unless all are read; and how many symbols
+// were read.
 pub fn read_modes(
     s: &[u8],
     a: Announced,
@@ -92,21 +97,36 @@ pub fn read_modes(
     top: [u8; 4],
     left: [u8; 4],
     modes: &mut [u8; 16],
-) -> Stage
-    ensures { λ q. ⌜ record { answer = q; modes = now (modes .exit) } ≡ modesAnswer (now (s .entry)) a r top left (now (modes .entry)) ⌝ }
+) -> ModesRead
+    ensures { λ q. ⌜ (record { answer = q .answer; modes = now (modes .exit) }
+        ≡ modesAnswer (now (s .entry)) a r top left (now (modes .entry)))
+        × (q .reads ≡ modesReads (now (s .entry)) a r top left) ⌝ }
 {
     if !valid(s, r) {
-        return Stage::Refused;
+        return ModesRead {
+            answer: Stage::Refused,
+            reads: 0,
+        };
     }
     if !contexts_fine(&top, &left) {
-        return Stage::Refused;
+        return ModesRead {
+            answer: Stage::Refused,
+            reads: 0,
+        };
     }
     let q = stage(s, a, r, &top, &left);
     let answer = q.answer;
     let Stage::Read(kinds, next) = answer else {
-        return Stage::Missing;
+        return ModesRead {
+            answer: Stage::Missing,
+            reads: count_modes(s, a, r, &top, &left),
+        };
     };
     let read = q.modes;
+    let reads = modes_read(a, kinds, &read);
     *modes = read;
-    Stage::Read(kinds, next)
+    ModesRead {
+        answer: Stage::Read(kinds, next),
+        reads: reads,
+    }
 }

@@ -4,9 +4,10 @@ use mathlib.Core.Path.{_≡_, refl, sym, _∙_, ap}
 use mathlib.Core.List.{List}
 use lib.ListN.{length, getD, set}
 use native.Mathlib.Omega.{arith}
-use native.Mathlib.Nat.{mul-add-div-right, add-mul-mod-self-right, add-comm, div-eq-of-lt, mod-eq-of-lt, mul-le-mul, mul-le-mul-right, mul-comm, add-mul, one-mul}
+use native.Mathlib.Nat.{mul-add-div-right, add-mul-mod-self-right, add-comm, div-eq-of-lt, mod-eq-of-lt, mul-le-mul, mul-le-mul-right, mul-comm, add-mul, one-mul, zero-add, add-zero, add-assoc}
 use Rattle.reader.specs.declared.boolean.Reader.{Reader}
 use Rattle.reader.specs.Boolean.{noReader}
+use Rattle.reader.specs.BooleanLaws.{Bytes}
 use Rattle.modes.specs.declared.contexts.Context.{Context}
 use Rattle.macroblock.specs.declared.arguments.Readers.{Readers}
 use Rattle.macroblock.specs.declared.whole.Finish.{Finish}
@@ -18,78 +19,137 @@ use Rattle.lent.specs.Memory.{Memory}
 use Rattle.picture.specs.Picture.{Picture, State, Ended, columnOf, rowOf, partitionOf, planesIn, stepAt, nextOf, stoppedOf, runOf}
 use Rattle.picture.specs.Turn.{Turned, turned}
 use Rattle.picture.specs.TurnLaws.{Ends}
+use Rattle.macroblock.specs.declared.arguments.Reads.{Reads}
+use Rattle.macroblock.specs.Counts.{noReads, AtMost}
+use Rattle.picture.specs.Counts.{plus, readsAt, readsFrom}
+use Rattle.picture.specs.CountsLaws.{reads-none, reads-finished, reads-no-modes, reads-no-tokens, reads-over}
 use Rattle.picture.specs.PictureLaws.{Shared, Live, live-next, run-none, run-finished, run-no-modes, run-no-tokens}
 
--- ---- from macroblock k, with the state S, the rest of the picture gives E
-pub record Going (P : Picture) (E : Ended) (k : ℕ) (S : State) : Type 0 where
+-- ---- how a picture ends, and all that it reads
+pub record Total : Type 0 where
+  pub ended : Ended
+  pub reads : Reads
+
+abbrev pub totalOf : Picture → State → Total
+totalOf P S = record { ended = runOf (P .wide * P .high) P 0 S; reads = readsFrom (P .wide * P .high) P 0 S }
+
+-- of a picture of at most 1024 by 1024 macroblocks
+pub total-most : {P : Picture} {S : State} → Shared P → Bytes (P .first) → ((q : ℕ) → q < P .count → Bytes (P .token q)) → Live P S → {n : ℕ} → P .wide * P .high ≤ n → AtMost n (totalOf P S .reads)
+total-most {P} {S} s a b l {n} h =
+    let o = reads-over P s a b (P .wide * P .high) 0 S l (omega arith) in
+    record { first = omega (arith, o .upto, o .most .first); tokens = omega (arith, o .upto, o .most .tokens) }
+
+pub both-are : {e : Ended} {r : Reads} {E F : Total} → (e ≡ E .ended) × (r ≡ E .reads) → E ≡ F → (e ≡ F .ended) × (r ≡ F .reads)
+both-are h g = (h .0 ∙ ap (λ (x : Total). x .ended) g, h .1 ∙ ap (λ (x : Total). x .reads) g)
+
+-- ---- from macroblock k, with the state S and so much read, the rest of the picture gives E
+pub record Going (P : Picture) (E : Total) (k : ℕ) (S : State) (reads : Reads) : Type 0 where
   pub rest : ℕ
   pub sum : k + rest ≡ P .wide * P .high
-  pub same : runOf rest P k S ≡ E
+  pub same : runOf rest P k S ≡ E .ended
+  pub paid : plus reads (readsFrom rest P k S) ≡ E .reads
   pub live : Live P S
 
-pub going-start : (P : Picture) (S : State) → Live P S → Going P (runOf (P .wide * P .high) P 0 S) 0 S
-going-start P S l = record { rest = P .wide * P .high; sum = omega arith; same = refl; live = l }
+pub going-start : (P : Picture) (S : State) → Live P S → Going P (totalOf P S) 0 S noReads
+going-start P S l =
+    record { rest = P .wide * P .high; sum = omega arith; same = refl; paid = (let r = readsFrom (P .wide * P .high) P 0 S in λ i. record { first = zero-add (r .first) i; tokens = zero-add (r .tokens) i }); live = l }
 
-module _ {P : Picture} {E : Ended} {k : ℕ} {S : State} (s : Shared P) (g : Going P E k S) (h : k < P .wide * P .high) where
-  -- a turn that ends the picture
-  pub going-refused : (T : Turned) → T ≡ turned (S .left) k (columnOf P k) (S .mem) (stepAt P k S) → (finishNumberOf (T .answer) ≡ 0 → ⊥) → {d : Decoded} → d ≡ stoppedOf (T .answer) k → record { answer = d; mem = T .mem } ≡ E
-  going-refused T e z {d} q = go (g .rest) (g .sum) (g .same) (stepAt P k S) refl e
+-- one macroblock more
+pub plus-plus : (a b c : Reads) → plus (plus a b) c ≡ plus a (plus b c)
+plus-plus a b c = λ i. record { first = add-assoc (a .first) (b .first) (c .first) i; tokens = add-assoc (a .tokens) (b .tokens) (c .tokens) i }
+
+module _ {P : Picture} {E : Total} {k : ℕ} {S : State} {reads : Reads} (s : Shared P) (g : Going P E k S reads) (h : k < P .wide * P .high) {w : Reads} (v : w ≡ readsAt P k S) where
+  -- what it reads is no more than the whole picture does
+  pub going-able : {n : ℕ} → AtMost n (E .reads) → AtMost n (plus reads w)
+  going-able {n} a = go (g .rest) (g .sum) (g .paid) (stepAt P k S) refl
     where
-      at : (t : Step) → T ≡ turned (S .left) k (columnOf P k) (S .mem) t → _≡_ {A = Ended} (record { answer = d; mem = T .mem }) (let y = turned (S .left) k (columnOf P k) (S .mem) t in record { answer = stoppedOf (y .answer) k; mem = y .mem })
-      at t e = ap (λ (x : Decoded). record { answer = x; mem = T .mem }) q ∙ ap (λ (y : Turned). record { answer = stoppedOf (y .answer) k; mem = y .mem }) e
+      least : (r : Reads) → readsAt P k S .first ≤ r .first → readsAt P k S .tokens ≤ r .tokens → plus reads r ≡ E .reads → AtMost n (plus reads w)
+      least r l i e =
+          let x : reads .first + r .first ≡ E .reads .first = ap (λ (q : Reads). q .first) e in
+          let y : reads .tokens + r .tokens ≡ E .reads .tokens = ap (λ (q : Reads). q .tokens) e in
+          rw v (record { first = omega (arith, a .first); tokens = omega (arith, a .tokens) })
 
-      go : (m : ℕ) → k + m ≡ P .wide * P .high → runOf m P k S ≡ E → (t : Step) → stepAt P k S ≡ t → T ≡ turned (S .left) k (columnOf P k) (S .mem) t → record { answer = d; mem = T .mem } ≡ E
-      go zero a b t w e = absurd (omega arith)
-      go (suc m) a b (finished x) w e = absurd (z (ap (λ (y : Turned). finishNumberOf (y .answer)) e))
-      go (suc m) a b no-modes w e = at no-modes e ∙ sym (run-no-modes m P k S w) ∙ b
-      go (suc m) a b no-tokens w e = at no-tokens e ∙ sym (run-no-tokens m P k S w) ∙ b
+      go : (m : ℕ) → k + m ≡ P .wide * P .high → plus reads (readsFrom m P k S) ≡ E .reads → (t : Step) → stepAt P k S ≡ t → AtMost n (plus reads w)
+      go zero a b t e = absurd (omega arith)
+      go (suc m) a b (finished x) e = least (plus (readsAt P k S) (readsFrom m P (k + 1) (nextOf P k S x))) (omega arith) (omega arith) (ap (plus reads) (sym (reads-finished m P k S x e)) ∙ b)
+      go (suc m) a b no-modes e = least (readsAt P k S) (omega arith) (omega arith) (ap (plus reads) (sym (reads-no-modes m P k S e)) ∙ b)
+      go (suc m) a b no-tokens e = least (readsAt P k S) (omega arith) (omega arith) (ap (plus reads) (sym (reads-no-tokens m P k S e)) ∙ b)
 
-  -- a turn that goes on
-  pub going-next : (T : Turned) → T ≡ turned (S .left) k (columnOf P k) (S .mem) (stepAt P k S) → {r : Readers} → T .answer ≡ F.Done r
-      → ((x : Finished) → stepAt P k S ≡ finished x → Ends (P .first) (P .token (partitionOf P k)) (planesIn (S .mem)) x)
-      → {p : ℕ} → p ≡ partitionOf P k → Going P E (k + 1) (record { reader = r .first; readers = set (S .readers) p (r .token); left = T .left; mem = T .mem })
-  going-next T e {r} f z {p} q = go (g .rest) (g .sum) (g .same) (stepAt P k S) refl e
-    where
-      after : Finish → Readers
-      after (F.Done a) = a
-      after F.NoModes = record { first = noReader; token = noReader }
-      after F.NoTokens = record { first = noReader; token = noReader }
-      after F.Refused = record { first = noReader; token = noReader }
+  module _ {n : Reads} (j : n ≡ plus reads w) where
+    -- a turn that ends the picture
+    pub going-refused : (T : Turned) → T ≡ turned (S .left) k (columnOf P k) (S .mem) (stepAt P k S) → (finishNumberOf (T .answer) ≡ 0 → ⊥) → {d : Decoded} → d ≡ stoppedOf (T .answer) k
+        → (record { answer = d; mem = T .mem } ≡ E .ended) × (n ≡ E .reads)
+    going-refused T e z {d} q = go (g .rest) (g .sum) (g .same) (g .paid) (stepAt P k S) refl e
+      where
+        at : (t : Step) → T ≡ turned (S .left) k (columnOf P k) (S .mem) t → _≡_ {A = Ended} (record { answer = d; mem = T .mem }) (let y = turned (S .left) k (columnOf P k) (S .mem) t in record { answer = stoppedOf (y .answer) k; mem = y .mem })
+        at t e = ap (λ (x : Decoded). record { answer = x; mem = T .mem }) q ∙ ap (λ (y : Turned). record { answer = stoppedOf (y .answer) k; mem = y .mem }) e
 
-      number : (u : Step) → T ≡ turned (S .left) k (columnOf P k) (S .mem) u → 0 ≡ finishNumberOf (turned (S .left) k (columnOf P k) (S .mem) u .answer)
-      number u e = sym (ap finishNumberOf f) ∙ ap (λ (y : Turned). finishNumberOf (y .answer)) e
+        go : (m : ℕ) → k + m ≡ P .wide * P .high → runOf m P k S ≡ E .ended → plus reads (readsFrom m P k S) ≡ E .reads → (t : Step) → stepAt P k S ≡ t → T ≡ turned (S .left) k (columnOf P k) (S .mem) t
+            → (record { answer = d; mem = T .mem } ≡ E .ended) × (n ≡ E .reads)
+        go zero a b c t u e = absurd (omega arith)
+        go (suc m) a b c (finished x) u e = absurd (z (ap (λ (y : Turned). finishNumberOf (y .answer)) e))
+        go (suc m) a b c no-modes u e = (at no-modes e ∙ sym (run-no-modes m P k S u) ∙ b, j ∙ ap (plus reads) (v ∙ sym (reads-no-modes m P k S u)) ∙ c)
+        go (suc m) a b c no-tokens u e = (at no-tokens e ∙ sym (run-no-tokens m P k S u) ∙ b, j ∙ ap (plus reads) (v ∙ sym (reads-no-tokens m P k S u)) ∙ c)
 
-      go : (m : ℕ) → k + m ≡ P .wide * P .high → runOf m P k S ≡ E → (u : Step) → stepAt P k S ≡ u → T ≡ turned (S .left) k (columnOf P k) (S .mem) u → Going P E (k + 1) (record { reader = r .first; readers = set (S .readers) p (r .token); left = T .left; mem = T .mem })
-      go zero a b u w e = absurd (omega arith)
-      go (suc m) a b (finished x) w e =
-          let i : r ≡ x .readers = ap after (sym f ∙ ap (λ (y : Turned). y .answer) e) in
-          let c : _≡_ {A = State} (record { reader = r .first; readers = set (S .readers) p (r .token); left = T .left; mem = T .mem }) (nextOf P k S x) = λ o. record { reader = i o .first; readers = set (S .readers) (q o) (i o .token); left = e o .left; mem = e o .mem } in
-          rw c (record { rest = m; sum = omega arith; same = sym (run-finished m P k S x w) ∙ b; live = live-next P S k s (g .live) h x (z x w) })
-      go (suc m) a b no-modes w e = absurd (let n = number no-modes e in omega arith)
-      go (suc m) a b no-tokens w e = absurd (let n = number no-tokens e in omega arith)
+    -- a turn that goes on
+    pub going-next : (T : Turned) → T ≡ turned (S .left) k (columnOf P k) (S .mem) (stepAt P k S) → {r : Readers} → T .answer ≡ F.Done r
+        → ((x : Finished) → stepAt P k S ≡ finished x → Ends (P .first) (P .token (partitionOf P k)) (planesIn (S .mem)) x)
+        → {p : ℕ} → p ≡ partitionOf P k → Going P E (k + 1) (record { reader = r .first; readers = set (S .readers) p (r .token); left = T .left; mem = T .mem }) n
+    going-next T e {r} f z {p} q = go (g .rest) (g .sum) (g .same) (g .paid) (stepAt P k S) refl e
+      where
+        after : Finish → Readers
+        after (F.Done a) = a
+        after F.NoModes = record { first = noReader; token = noReader }
+        after F.NoTokens = record { first = noReader; token = noReader }
+        after F.Refused = record { first = noReader; token = noReader }
 
-pub going-end : {P : Picture} {E : Ended} {k : ℕ} {S : State} → Going P E k S → P .wide * P .high ≤ k → {d : Decoded} → d ≡ D.Whole (P .wide * P .high) → record { answer = d; mem = S .mem } ≡ E
-going-end {P} {E} {k} {S} g h {d} q = go (g .rest) (g .sum) (g .same)
+        number : (u : Step) → T ≡ turned (S .left) k (columnOf P k) (S .mem) u → 0 ≡ finishNumberOf (turned (S .left) k (columnOf P k) (S .mem) u .answer)
+        number u e = sym (ap finishNumberOf f) ∙ ap (λ (y : Turned). finishNumberOf (y .answer)) e
+
+        go : (m : ℕ) → k + m ≡ P .wide * P .high → runOf m P k S ≡ E .ended → plus reads (readsFrom m P k S) ≡ E .reads → (u : Step) → stepAt P k S ≡ u → T ≡ turned (S .left) k (columnOf P k) (S .mem) u
+            → Going P E (k + 1) (record { reader = r .first; readers = set (S .readers) p (r .token); left = T .left; mem = T .mem }) n
+        go zero a b d u t e = absurd (omega arith)
+        go (suc m) a b d (finished x) t e =
+            let i : r ≡ x .readers = ap after (sym f ∙ ap (λ (y : Turned). y .answer) e) in
+            let c : _≡_ {A = State} (record { reader = r .first; readers = set (S .readers) p (r .token); left = T .left; mem = T .mem }) (nextOf P k S x) = λ o. record { reader = i o .first; readers = set (S .readers) (q o) (i o .token); left = e o .left; mem = e o .mem } in
+            let y = readsFrom m P (k + 1) (nextOf P k S x) in
+            rw c
+            (record {
+              rest = m;
+              sum = omega arith;
+              same = sym (run-finished m P k S x t) ∙ b;
+              paid = ap (λ (q : Reads). plus q y) j ∙ plus-plus reads w y ∙ ap (λ (q : Reads). plus reads (plus q y)) v ∙ ap (plus reads) (sym (reads-finished m P k S x t)) ∙ d;
+              live = live-next P S k s (g .live) h x (z x t);
+            })
+        go (suc m) a b d no-modes t e = absurd (let n = number no-modes e in omega arith)
+        go (suc m) a b d no-tokens t e = absurd (let n = number no-tokens e in omega arith)
+
+pub going-end : {P : Picture} {E : Total} {k : ℕ} {S : State} {reads : Reads} → Going P E k S reads → P .wide * P .high ≤ k → {d : Decoded} → d ≡ D.Whole (P .wide * P .high)
+    → (record { answer = d; mem = S .mem } ≡ E .ended) × (reads ≡ E .reads)
+going-end {P} {E} {k} {S} {reads} g h {d} q = go (g .rest) (g .sum) (g .same) (g .paid)
   where
-    go : (m : ℕ) → k + m ≡ P .wide * P .high → runOf m P k S ≡ E → record { answer = d; mem = S .mem } ≡ E
-    go zero a b =
+    go : (m : ℕ) → k + m ≡ P .wide * P .high → runOf m P k S ≡ E .ended → plus reads (readsFrom m P k S) ≡ E .reads → (record { answer = d; mem = S .mem } ≡ E .ended) × (reads ≡ E .reads)
+    go zero a b e =
         let c : P .wide * P .high ≡ k = omega arith in
-        ap (λ (x : Decoded). record { answer = x; mem = S .mem }) (q ∙ ap D.Whole c) ∙ sym (run-none P k S) ∙ b
-    go (suc m) a b = absurd (omega arith)
+        let z : reads ≡ plus reads noReads = λ i. record { first = sym (add-zero (reads .first)) i; tokens = sym (add-zero (reads .tokens)) i } in (
+          ap (λ (x : Decoded). record { answer = x; mem = S .mem }) (q ∙ ap D.Whole c) ∙ sym (run-none P k S) ∙ b,
+          z ∙ ap (plus reads) (sym (reads-none P k S)) ∙ e,
+        )
+    go (suc m) a b e = absurd (omega arith)
 
 abbrev pub stateOf : Reader → List Reader → Context → Memory → State
 stateOf r l c m = record { reader = r; readers = l; left = c; mem = m }
 
 -- what holds where a row begins
-pub record AtRow (P : Picture) (E : Ended) (k : ℕ) (answer : Decoded) (row : ℕ) (S : State) : Type 0 where
-  pub going : Going P E k S
+pub record AtRow (P : Picture) (E : Total) (k : ℕ) (answer : Decoded) (row : ℕ) (S : State) (reads : Reads) : Type 0 where
+  pub going : Going P E k S reads
   pub place : k ≡ row * P .wide
   pub upto : row ≤ P .high
   pub fine : answer ≡ D.Whole (P .wide * P .high)
 
 -- what holds in a row, of what held where it began
-pub record InRow (P : Picture) (k₀ : ℕ) (S₀ : State) (answer₀ : Decoded) (k : ℕ) (answer : Decoded) (column : ℕ) (S : State) : Type 0 where
-  pub going : (E : Ended) → Going P E k₀ S₀ → Going P E k S
+pub record InRow (P : Picture) (k₀ : ℕ) (S₀ : State) (answer₀ : Decoded) (reads₀ : Reads) (k : ℕ) (answer : Decoded) (column : ℕ) (S : State) (reads : Reads) : Type 0 where
+  pub going : (E : Total) → Going P E k₀ S₀ reads₀ → Going P E k S reads
   pub place : k ≡ k₀ + column
   pub upto : column ≤ P .wide
   pub fine : answer ≡ answer₀

@@ -87,7 +87,7 @@ module _ (t : Call) (m : Memory) (e : refusalOf t (sizesOf m) ≡ 0) where
     table-found : x .bytes ≡ headerTable (t .header)
     table-found = ap (λ (x : Table). x .bytes) (y ∙ sym (table-done (t .header) (fine-lengths t (sizesOf m) e .header) refl))
 
-    picture-found : found ≡ picturedOf t
+    pub picture-found : found ≡ picturedOf t
     picture-found = λ i. cutOut (t .bytes) (t .tile) (frame-found i) (table-found i)
 
     pub shared-found : Shared found

@@ -6,3 +6,5 @@ pub mod TurnLaws
 pub mod PictureLaws
 pub mod CallLaws
 pub mod FinalLaws
+pub mod Counts
+pub mod CountsLaws

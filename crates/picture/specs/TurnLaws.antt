@@ -25,8 +25,11 @@ use Rattle.macroblock.specs.declared.whole.Finish.the-variants as F
 use Rattle.macroblock.specs.declared.whole.Outcome.{Outcome}
 use Rattle.macroblock.specs.declared.arguments.Place.{Place}
 use Rattle.macroblock.specs.declared.arguments.Readers.{Readers}
+use Rattle.macroblock.specs.declared.arguments.Reads.{Reads}
 use Rattle.macroblock.specs.declared.arguments.Around.{Around}
 use Rattle.header.specs.declared.frame.Frame.{Frame}
+use Rattle.macroblock.specs.Counts.{readsOf, decodeReads}
+use Rattle.macroblock.specs.CountsLaws.{reads-good}
 use Rattle.macroblock.specs.DecodeLaws.{decode-good}
 use Rattle.macroblock.specs.StepLaws.{step-ends, step-outside}
 use Rattle.macroblock.specs.StepRecords.{step-strength}
@@ -54,6 +57,15 @@ pub call-is : (first tokens : List ℕ) (readers : Readers) (f : Frame) (table :
 call-is first tokens readers f table top left place p e c d g l =
     e ∙ ap₂ (λ (x y : Context). macroblockCallOf first tokens readers f table (record { top = x; left = y }) place p) c d
     ∙ decode-good first tokens readers f table (record { top = top; left = left }) place p g l
+
+-- and what it reads
+pub call-reads : (first tokens : List ℕ) (readers : Readers) (f : Frame) (table : List ℕ) {a b : Context} (top left : Context) (place : Place) (p : Planes) {x : Reads}
+    → x ≡ decodeReads first tokens readers f table (record { top = a; left = b }) place p → a ≡ top → b ≡ left
+    → Ready first tokens readers f table (record { top = top; left = left }) → Laid place p
+    → x ≡ readsOf first tokens readers f table (record { top = top; left = left })
+call-reads first tokens readers f table top left place p e c d g l =
+    e ∙ ap₂ (λ (x y : Context). decodeReads first tokens readers f table (record { top = x; left = y }) place p) c d
+    ∙ reads-good first tokens readers f table (record { top = top; left = left }) place p g l
 
 -- what is read of a column
 pub column-is : (mem : List ℕ) (x : ℕ) {c : ColumnRecord} → c ≡ columnFound mem x → x < recordsIn columnWidth mem → c .context ≡ columnAt mem x

@@ -5,18 +5,22 @@ mod turn;
 
 use crate::checks::refusal;
 use crate::rows::Decoded;
+use crate::rows::PictureRead;
 use crate::rows::rows;
 use coefficients::block::probabilities;
 use header::frame::take;
 use lent::memory::blank;
 use lent::sizes::Sizes;
+use macroblock::arguments::Reads;
 use tile::Tile;
 ghost use mathlib.Core.Path.{_≡_};
 ghost use Rattle.lent.specs.Memory.{memoryOf};
 ghost use Rattle.picture.specs.Checks.{callOf};
 ghost use Rattle.picture.specs.Picture.{endedOf, pictureOf};
+ghost use Rattle.picture.specs.Counts.{costOf};
 
-// The picture call. Lent: w*h bytes of Y, (w/2)*(h/2) of U and V, 13 bytes a macroblock column, 20 and 4 bytes a macroblock.
+// The picture call. Lent: w*h bytes of Y, (w/2)*(h/2) of U and V, 13 bytes a macroblock column, 20 and 4 bytes a macroblock. It also says
+// how many symbols were read.
 pub fn decode(
     bytes: &[u8],
     tile: Tile,
@@ -27,12 +31,15 @@ pub fn decode(
     columns: &mut [u8],
     modes: &mut [u8],
     strengths: &mut [u8],
-) -> Decoded
-    ensures { λ q. ⌜ endedOf q
+) -> PictureRead
+    ensures { λ q. ⌜ (endedOf (q .answer)
         (memoryOf (now (y .exit)) (now (u .exit)) (now (v .exit)) (now (columns .exit)) (now (modes .exit)) (now (strengths .exit)))
         ≡ pictureOf (callOf (now (bytes .entry)) tile (now (header .entry)))
         (memoryOf (now (y .entry)) (now (u .entry)) (now (v .entry))
-        (now (columns .entry)) (now (modes .entry)) (now (strengths .entry))) ⌝ }
+        (now (columns .entry)) (now (modes .entry)) (now (strengths .entry))))
+        × (q .reads ≡ costOf (callOf (now (bytes .entry)) tile (now (header .entry)))
+        (memoryOf (now (y .entry)) (now (u .entry)) (now (v .entry))
+        (now (columns .entry)) (now (modes .entry)) (now (strengths .entry)))) ⌝ }
 {
     let bad = refusal(
         bytes,
@@ -48,7 +55,13 @@ pub fn decode(
         },
     );
     if bad != 0 {
-        return Decoded::Refused(bad);
+        return PictureRead {
+            answer: Decoded::Refused(bad),
+            reads: Reads {
+                first: 0,
+                tokens: 0,
+            },
+        };
     }
     blank(
         &mut y[..],

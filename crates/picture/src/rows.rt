@@ -4,6 +4,7 @@ use crate::turn::turn;
 use header::frame::Frame;
 use macroblock::arguments::Place;
 use macroblock::arguments::Readers;
+use macroblock::arguments::Reads;
 use macroblock::whole::Finish;
 use modes::contexts::Context;
 use tile::Tile;
@@ -15,6 +16,8 @@ ghost use mathlib.Core.Path.{_≡_};
 ghost use Rattle.tile.specs.Checks.{blocksOf};
 ghost use Rattle.lent.specs.Memory.{memoryOf};
 ghost use Rattle.picture.specs.Picture.{cutOut, endedOf, numberOf, runOf, startOf, stoppedOf, valuesOf};
+ghost use Rattle.macroblock.specs.Counts.{AtMost};
+ghost use Rattle.picture.specs.Counts.{plus, readsFrom};
 ghost use Rattle.picture.specs.PictureLaws.{Shared, Live};
 
 // How the picture call ended: every macroblock is finished; an argument was refused, 1 to 5; the first partition or a token
@@ -51,6 +54,23 @@ impl Decoded {
     }
 }
 
+// How it ended, and how many symbols were read.
+pub struct PictureRead {
+    pub answer: Decoded,
+    pub reads: Reads,
+}
+
+// Two counts of a picture of at most 1024 by 1024 macroblocks.
+fn plus(a: Reads, b: Reads) -> Reads
+    requires { ⌜ AtMost 1048576 (plus a b) ⌝ }
+    ensures { λ r. ⌜ r ≡ plus a b ⌝ }
+{
+    Reads {
+        first: a.first + b.first,
+        tokens: a.tokens + b.tokens,
+    }
+}
+
 // How the picture ends where macroblock k is not finished.
 fn stopped(answer: Finish, k: usize) -> Decoded
     ensures { λ r. ⌜ r ≡ stoppedOf answer k ⌝ }
@@ -63,7 +83,7 @@ fn stopped(answer: Finish, k: usize) -> Decoded
     }
 }
 
-// Row y reads token partition y mod count; the first refusal ends the row and the picture.
+// Row y reads token partition y mod count; the first refusal ends the row and the picture. What a refused macroblock read counts too.
 pub(crate) fn rows(
     bytes: &[u8],
     tile: Tile,
@@ -75,17 +95,22 @@ pub(crate) fn rows(
     columns: &mut [u8],
     modes: &mut [u8],
     strengths: &mut [u8],
-) -> Decoded
+) -> PictureRead
     requires { ⌜ Shared (cutOut (now bytes) tile frame (now table)) ⌝ }
     requires { ⌜ Live (cutOut (now bytes) tile frame (now table))
         (startOf (now bytes) tile (memoryOf (now y) (now u) (now v) (now columns) (now modes) (now strengths))) ⌝ }
-    ensures { λ q. ⌜ endedOf q
+    ensures { λ q. ⌜ (endedOf (q .answer)
         (memoryOf (now (y .exit)) (now (u .exit)) (now (v .exit)) (now (columns .exit)) (now (modes .exit)) (now (strengths .exit)))
         ≡ runOf (blocksOf (tile .width) (tile .height))
         (cutOut (now (bytes .entry)) tile frame (now (table .entry))) 0
         (startOf (now (bytes .entry)) tile
         (memoryOf (now (y .entry)) (now (u .entry)) (now (v .entry))
-        (now (columns .entry)) (now (modes .entry)) (now (strengths .entry)))) ⌝ }
+        (now (columns .entry)) (now (modes .entry)) (now (strengths .entry)))))
+        × (q .reads ≡ readsFrom (blocksOf (tile .width) (tile .height))
+        (cutOut (now (bytes .entry)) tile frame (now (table .entry))) 0
+        (startOf (now (bytes .entry)) tile
+        (memoryOf (now (y .entry)) (now (u .entry)) (now (v .entry))
+        (now (columns .entry)) (now (modes .entry)) (now (strengths .entry))))) ⌝ }
 {
     let wide = tile.width / 16;
     let high = tile.height / 16;
@@ -96,6 +121,10 @@ pub(crate) fn rows(
     let mut left = Context::empty();
     let mut k: usize = 0;
     let mut answer = Decoded::Whole(blocks);
+    let mut reads = Reads {
+        first: 0,
+        tokens: 0,
+    };
     let width = wide * 16;
     'rows: for row in 0..high {
         let p = pick(row, tile.count);
@@ -125,6 +154,7 @@ pub(crate) fn rows(
                 &mut strengths[..],
             );
             let finish = m.answer;
+            reads = plus(reads, m.reads);
             let Finish::Done(after) = finish else {
                 answer = stopped(finish, k);
                 break 'rows;
@@ -136,5 +166,8 @@ pub(crate) fn rows(
             k = k + 1;
         }
     }
-    answer
+    PictureRead {
+        answer: answer,
+        reads: reads,
+    }
 }

@@ -8,6 +8,7 @@ use lent::macroblocks::write_strength;
 use macroblock::arguments::Around;
 use macroblock::arguments::Place;
 use macroblock::arguments::Readers;
+use macroblock::arguments::Reads;
 use macroblock::whole::Finish;
 use macroblock::whole::decode;
 use modes::contexts::Context;
@@ -15,14 +16,16 @@ ghost use mathlib.Core.Path.{_≡_};
 ghost use Rattle.lent.specs.Memory.{memoryOf};
 ghost use Rattle.lent.specs.Records.{columnAt};
 ghost use Rattle.macroblock.specs.Macroblock.{planesOf, stepOf};
+ghost use Rattle.macroblock.specs.Counts.{readsOf};
 ghost use Rattle.macroblock.specs.MacroblockLaws.{Ready, Laid};
 ghost use Rattle.picture.specs.Picture.{besideOf};
 ghost use Rattle.picture.specs.Turn.{Room, turnedOf, turned};
 
-// Where it ended, and what the next macroblock of the row sees to its left.
+// Where it ended, what the next macroblock of the row sees to its left, and how many symbols were read.
 pub(crate) struct Ending {
     pub answer: Finish,
     pub left: Context,
+    pub reads: Reads,
 }
 
 // What macroblock k is decoded with: its two readers, what it shares with all, what lies to its left, its place.
@@ -60,19 +63,21 @@ pub(crate) fn turn(
         (record { top = columnAt (now columns) (task .place .column); left = besideOf (task .place .column) (task .left) }) ⌝ }
     requires { ⌜ Laid (task .place) (planesOf (now y) (now u) (now v)) ⌝ }
     requires { ⌜ Room (task .place .column) (task .k) (now columns) (now modes) (now strengths) ⌝ }
-    ensures { λ q. ⌜ turnedOf (q .answer) (q .left)
+    ensures { λ q. ⌜ (turnedOf (q .answer) (q .left)
         (memoryOf (now (y .exit)) (now (u .exit)) (now (v .exit)) (now (columns .exit)) (now (modes .exit)) (now (strengths .exit)))
         ≡ turned (task .left) (task .k) (task .place .column)
         (memoryOf (now (y .entry)) (now (u .entry)) (now (v .entry)) (now (columns .entry)) (now (modes .entry)) (now (strengths .entry)))
         (stepOf (now (first .entry)) (now (tokens .entry)) (task .readers) (task .frame) (now (table .entry))
         (record { top = columnAt (now (columns .entry)) (task .place .column); left = besideOf (task .place .column) (task .left) })
-        (task .place) (planesOf (now (y .entry)) (now (u .entry)) (now (v .entry)))) ⌝ }
+        (task .place) (planesOf (now (y .entry)) (now (u .entry)) (now (v .entry)))))
+        × (q .reads ≡ readsOf (now (first .entry)) (now (tokens .entry)) (task .readers) (task .frame) (now (table .entry))
+        (record { top = columnAt (now (columns .entry)) (task .place .column); left = besideOf (task .place .column) (task .left) })) ⌝ }
 {
     let place = task.place;
     let found = read_column(columns, place.column);
     let top = found.context;
     let left = beside(place.column, task.left);
-    let m = decode(
+    let read = decode(
         first,
         tokens,
         task.readers,
@@ -87,12 +92,15 @@ pub(crate) fn turn(
         u,
         v,
     );
+    let m = read.outcome;
+    let reads = read.reads;
     let answer = m.answer;
     let Finish::Done(after) = answer else {
         let before = task.left;
         return Ending {
             answer: answer,
             left: before,
+            reads: reads,
         };
     };
     let below = m.top;
@@ -106,5 +114,6 @@ pub(crate) fn turn(
     Ending {
         answer: Finish::Done(after),
         left: right,
+        reads: reads,
     }
 }

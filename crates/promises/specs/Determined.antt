@@ -8,6 +8,7 @@ use lib.IntN.{ℤ}
 use Rattle.numbers.specs.Clamp.{upTo, clipZ, signedTo, signedByteZ}
 use Rattle.numbers.specs.Wrap.{wrap16Of}
 use Rattle.reader.specs.Boolean.{validOf, firstReader, symbolAnswer}
+use Rattle.reader.specs.Counts.{treeCount, tokenCount, extraCount}
 use Rattle.reader.specs.Extra.{extraAnswer}
 use Rattle.header.specs.Header.{presentOf, probabilityOf, presentAt, probabilityAt, entriesOf, headerOf}
 use Rattle.reader.specs.Token.{tokenAnswer}
@@ -25,6 +26,7 @@ use Rattle.modes.specs.Answers.{eachBelow, prefixAnswer, mainAnswer, blockAnswe
 use Rattle.filter.specs.Explain.{explainOf}
 use Rattle.modes.specs.Modes as Modes
 use Rattle.modes.specs.Modes.{bottomOf}
+use Rattle.modes.specs.Counts.{modesReads}
 use Rattle.modes.specs.Contexts.{emptyContext, contextFine}
 use Rattle.lent.specs.Records.{columnWritten, columnFound, modeWritten, modeFound, strengthWritten, strengthFound}
 use Rattle.lent.specs.declared.sizes.Sizes.{Sizes}
@@ -34,6 +36,7 @@ use Rattle.tile.specs.declared.Tile.{Tile}
 use Rattle.tile.specs.Checks.{sideOf, sidesOf, countOf, partitionsOf}
 use Rattle.tile.specs.Partitions.{pickOf, contentsOf, tokenContents, readersOf}
 use Rattle.modes.specs.declared.answers.Kinds.{Kinds}
+use Rattle.modes.specs.declared.answers.Staged.{Staged}
 use Rattle.modes.specs.declared.contexts.Context.{Context}
 use Rattle.residual.specs.Residual as Residual
 use Rattle.planes.specs.Paint.{paintOf}
@@ -41,7 +44,9 @@ use Rattle.header.specs.Frame.{announcedOf, framedOf}
 use Rattle.header.specs.declared.frame.Announced.{Announced}
 use Rattle.macroblock.specs.declared.arguments.Place.{Place}
 use Rattle.macroblock.specs.declared.arguments.Readers.{Readers}
+use Rattle.macroblock.specs.declared.arguments.Reads.{Reads}
 use Rattle.macroblock.specs.declared.arguments.Around.{Around}
+use Rattle.macroblock.specs.Counts.{decodeReads}
 use Rattle.macroblock.specs.Macroblock as Macroblock
 use Rattle.macroblock.specs.Macroblock.{Planes}
 use Rattle.filter.specs.Strengths.{strengthAnswer, strengthFine}
@@ -54,7 +59,8 @@ use Rattle.deblock.specs.Deblock.{deblockOf}
 use Rattle.hookbarley.specs.Calls.{calledOf, deblockCalledOf, filteredOf}
 use Rattle.hookbarley.specs.ExplainCalls.{explainCalledOf}
 use Rattle.picture.specs.declared.rows.Decoded.{Decoded}
-use Rattle.picture.specs.Picture.{numberOf, pictureOf, valuesOf}
+use Rattle.picture.specs.Picture.{Ended, numberOf, pictureOf, valuesOf}
+use Rattle.picture.specs.Counts.{costOf}
 use Rattle.hookbarley.specs.FrameCalls.{frameCalledOf}
 use Rattle.hookbarley.specs.WebpCalls.{webpFoundOf, webpWrappedOf}
 use Rattle.frame.specs.Take.{takenOf, intoOf}
@@ -68,6 +74,10 @@ pub record One {A : Type 0} (Promise : A → Type 0) : Type 0 where
 
 determined : {A : Type 0} (d : A) → One (λ x. x ≡ d)
 determined d = record { answer = d; meets = refl; only = λ x y e f. e ∙ sym f }
+
+-- an answer, and beside it how many symbols were read
+counted : {A B : Type 0} (d : A) (n : B) → One (λ (x : A × B). (x .0 ≡ d) × (x .1 ≡ n))
+counted d n = record { answer = (d, n); meets = (refl, refl); only = λ x y e f. λ i. ((e .0 ∙ sym (f .0)) i, (e .1 ∙ sym (f .1)) i) }
 
 -- ---- numbers
 pub numbers-wrap16 : (v : ℤ) → One (λ x. x ≡ wrap16Of v)
@@ -103,6 +113,15 @@ reader-extra-bits s probs r = determined (extraAnswer s probs r)
 
 pub reader-walk-token : (s table : List ℕ) (at : ℕ) (zero : Bool) (r : Reader) → One (λ x. x ≡ tokenAnswer s table at zero r)
 reader-walk-token s table at zero r = determined (tokenAnswer s table at zero r)
+
+pub reader-count-tree : (s probs : List ℕ) (tree : List ℤ) (start : ℕ) (r : Reader) → One (λ x. x ≡ treeCount s probs tree start r)
+reader-count-tree s probs tree start r = determined (treeCount s probs tree start r)
+
+pub reader-count-token : (s table : List ℕ) (at : ℕ) (zero : Bool) (r : Reader) → One (λ x. x ≡ tokenCount s table at zero r)
+reader-count-token s table at zero r = determined (tokenCount s table at zero r)
+
+pub reader-count-extra : (s probs : List ℕ) (r : Reader) → One (λ x. x ≡ extraCount s probs r)
+reader-count-extra s probs r = determined (extraCount s probs r)
 
 -- ---- header
 pub header-present : (entry : ℤ) → One (λ x. x ≡ presentOf entry)
@@ -145,11 +164,11 @@ coefficients-dequant s token q r = determined (signedAnswer s token q r)
 pub coefficients-probabilities : (h : List ℤ) → One (λ x. x ≡ tableOf h)
 coefficients-probabilities h = determined (tableOf h)
 
-pub coefficients-decode : (s : List ℕ) (r : Reader) (table : List ℕ) (kind ctx first q0 q1 : ℕ) (out : List ℤ) → One (λ x. x ≡ Tokens.blockCallOf s r table kind ctx first q0 q1 out)
-coefficients-decode s r table kind ctx first q0 q1 out = determined (Tokens.blockCallOf s r table kind ctx first q0 q1 out)
+pub coefficients-decode : (s : List ℕ) (r : Reader) (table : List ℕ) (kind ctx first q0 q1 : ℕ) (out : List ℤ) → One (λ (x : Tokens.BlockCalled × ℕ). (x .0 ≡ Tokens.blockCallOf s r table kind ctx first q0 q1 out) × (x .1 ≡ Tokens.blockReads s r table kind ctx first q0 q1 out))
+coefficients-decode s r table kind ctx first q0 q1 out = counted (Tokens.blockCallOf s r table kind ctx first q0 q1 out) (Tokens.blockReads s r table kind ctx first q0 q1 out)
 
-pub coefficients-decode-header : (s : List ℕ) (r : Reader) (h : List ℤ) (kind ctx first q0 q1 : ℕ) (out : List ℤ) → One (λ x. x ≡ Tokens.blockByHeaderOf s r h kind ctx first q0 q1 out)
-coefficients-decode-header s r h kind ctx first q0 q1 out = determined (Tokens.blockByHeaderOf s r h kind ctx first q0 q1 out)
+pub coefficients-decode-header : (s : List ℕ) (r : Reader) (h : List ℤ) (kind ctx first q0 q1 : ℕ) (out : List ℤ) → One (λ (x : Tokens.BlockCalled × ℕ). (x .0 ≡ Tokens.blockByHeaderOf s r h kind ctx first q0 q1 out) × (x .1 ≡ Tokens.headerReads s r h kind ctx first q0 q1 out))
+coefficients-decode-header s r h kind ctx first q0 q1 out = counted (Tokens.blockByHeaderOf s r h kind ctx first q0 q1 out) (Tokens.headerReads s r h kind ctx first q0 q1 out)
 
 -- ---- transform
 pub transform-transform : (c : List ℤ) (walsh : Bool) → One (λ x. x ≡ transformOf c walsh)
@@ -193,8 +212,8 @@ modes-block-mode s r top left = determined (blockAnswer s r top left)
 pub modes-small-modes : (s : List ℕ) (r : Reader) (top left modes : List ℕ) → One (λ x. x ≡ smallAnswer s r top left modes)
 modes-small-modes s r top left modes = determined (smallAnswer s r top left modes)
 
-pub modes-read-modes : (s : List ℕ) (announced : Announced) (r : Reader) (top left modes : List ℕ) → One (λ x. x ≡ modesAnswer s announced r top left modes)
-modes-read-modes s announced r top left modes = determined (modesAnswer s announced r top left modes)
+pub modes-read-modes : (s : List ℕ) (announced : Announced) (r : Reader) (top left modes : List ℕ) → One (λ (x : Staged × ℕ). (x .0 ≡ modesAnswer s announced r top left modes) × (x .1 ≡ modesReads s announced r top left))
+modes-read-modes s announced r top left modes = counted (modesAnswer s announced r top left modes) (modesReads s announced r top left)
 
 pub modes-empty : One (λ x. x ≡ emptyContext)
 modes-empty = determined emptyContext
@@ -212,11 +231,11 @@ pub modes-context-fine : (c : Context) → One (λ x. x ≡ contextFine c)
 modes-context-fine c = determined (contextFine c)
 
 -- ---- residual
-pub residual-decode : (s : List ℕ) (r : Reader) (table : List ℕ) (f : Factors) (small skip : Bool) (top left : List ℕ) (out : List ℤ) → One (λ x. x ≡ Residual.residualCallOf s r table f small skip top left out)
-residual-decode s r table f small skip top left out = determined (Residual.residualCallOf s r table f small skip top left out)
+pub residual-decode : (s : List ℕ) (r : Reader) (table : List ℕ) (f : Factors) (small skip : Bool) (top left : List ℕ) (out : List ℤ) → One (λ (x : Residual.ResidualCalled × ℕ). (x .0 ≡ Residual.residualCallOf s r table f small skip top left out) × (x .1 ≡ Residual.residualReads s r table f small skip top left out))
+residual-decode s r table f small skip top left out = counted (Residual.residualCallOf s r table f small skip top left out) (Residual.residualReads s r table f small skip top left out)
 
-pub residual-decode-header : (s : List ℕ) (r : Reader) (h : List ℤ) (segment : ℕ) (small skip : Bool) (top left : List ℕ) (out : List ℤ) → One (λ x. x ≡ Residual.residualByHeaderOf s r h segment small skip top left out)
-residual-decode-header s r h segment small skip top left out = determined (Residual.residualByHeaderOf s r h segment small skip top left out)
+pub residual-decode-header : (s : List ℕ) (r : Reader) (h : List ℤ) (segment : ℕ) (small skip : Bool) (top left : List ℕ) (out : List ℤ) → One (λ (x : Residual.ResidualCalled × ℕ). (x .0 ≡ Residual.residualByHeaderOf s r h segment small skip top left out) × (x .1 ≡ Residual.headerReads s r h segment small skip top left out))
+residual-decode-header s r h segment small skip top left out = counted (Residual.residualByHeaderOf s r h segment small skip top left out) (Residual.headerReads s r h segment small skip top left out)
 
 -- ---- planes
 pub planes-paint : (plane : List ℕ) (stride column row size : ℕ) (small : Bool) (mode : ℕ) (modes : List ℕ) (coefficients : List ℤ) → One (λ x. x ≡ paintOf plane stride column row size small mode modes coefficients)
@@ -291,8 +310,9 @@ pub lent-read-strength : (mem : List ℕ) (i : ℕ) → One (λ x. x ≡ strengt
 lent-read-strength mem i = determined (strengthFound mem i)
 
 -- ---- macroblock
-pub macroblock-decode : (first tokens : List ℕ) (readers : Readers) (frame : Frame) (table : List ℕ) (around : Around) (place : Place) (p : Planes) → One (λ x. x ≡ Macroblock.macroblockCallOf first tokens readers frame table around place p)
-macroblock-decode first tokens readers frame table around place p = determined (Macroblock.macroblockCallOf first tokens readers frame table around place p)
+pub macroblock-decode : (first tokens : List ℕ) (readers : Readers) (frame : Frame) (table : List ℕ) (around : Around) (place : Place) (p : Planes)
+    → One (λ (x : Macroblock.MacroblockCalled × Reads). (x .0 ≡ Macroblock.macroblockCallOf first tokens readers frame table around place p) × (x .1 ≡ decodeReads first tokens readers frame table around place p))
+macroblock-decode first tokens readers frame table around place p = counted (Macroblock.macroblockCallOf first tokens readers frame table around place p) (decodeReads first tokens readers frame table around place p)
 
 -- ---- picture
 pub picture-number : (d : Decoded) → One (λ x. x ≡ numberOf d)
@@ -301,8 +321,8 @@ picture-number d = determined (numberOf d)
 pub picture-finished : (d : Decoded) → One (λ x. x ≡ valuesOf d)
 picture-finished d = determined (valuesOf d)
 
-pub picture-decode : (t : Call) (m : Memory) → One (λ x. x ≡ pictureOf t m)
-picture-decode t m = determined (pictureOf t m)
+pub picture-decode : (t : Call) (m : Memory) → One (λ (x : Ended × Reads). (x .0 ≡ pictureOf t m) × (x .1 ≡ costOf t m))
+picture-decode t m = counted (pictureOf t m) (costOf t m)
 
 -- ---- deblock
 pub deblock-deblock : (d : Planes) (strengths : List ℕ) (w h : ℕ) (simple : Bool) → One (λ x. x ≡ deblockOf d strengths w h simple)

@@ -60,7 +60,7 @@ module _ (p : ℕ) (t u : Call) (m n : Memory) (a : Alike p t u) (e : Fine t m) 
   some = fine-count t (sizesOf m) e .least
 
   module _ (U : ℕ → Type 0) (below : (q : ℕ) → U q → q < t .tile .count) (same : (q : ℕ) → U q → SameTokens t u q) where
-    twins : Twins U (picturedOf t) (picturedOf u)
+    pub twins : Twins U (picturedOf t) (picturedOf u)
     twins = record {
       first = part-same (t .bytes) (u .bytes) (t .tile .first) (u .tile .first) (fine-partitions t (sizesOf m) e .first) (fine-partitions u (sizesOf n) f .first) (a .firstLength) (a .first);
       count = a .count;
@@ -76,7 +76,7 @@ module _ (p : ℕ) (t u : Call) (m n : Memory) (a : Alike p t u) (e : Fine t m) 
         let l = below q h in
         readers-same (t .bytes) (u .bytes) (t .tile) (u .tile) q noReader (omega (arith, few)) l (rw (a .count) at l) (token-same q l (same q h))
 
-    start-same : Same U (begunOf t m) (begunOf u n)
+    pub start-same : Same U (begunOf t m) (begunOf u n)
     start-same = record {
       reader = a .reader;
       eight = readers-length (t .bytes) (t .tile);
@@ -92,7 +92,7 @@ module _ (p : ℕ) (t u : Call) (m n : Memory) (a : Alike p t u) (e : Fine t m) 
       let g : runOf (macroblocks t) (picturedOf u) 0 (begunOf u n) ≡ runOf (macroblocks u) (picturedOf u) 0 (begunOf u n) = λ i. runOf (a .width i / 16 * (a .height i / 16)) (picturedOf u) 0 (begunOf u n) in
       fine-is u n f ∙ sym g
 
-  inside : (k : ℕ) → partitionOf (picturedOf t) k < t .tile .count
+  pub inside : (k : ℕ) → partitionOf (picturedOf t) k < t .tile .count
   inside k = pick-below (rowOf (picturedOf t) k) (t .tile .count) some
 
   -- every partition that is read is the same
@@ -108,12 +108,12 @@ module _ (p : ℕ) (t u : Call) (m n : Memory) (a : Alike p t u) (e : Fine t m) 
   wide-some = omega (arith, fine-side t (sizesOf m) e .width .least)
 
   -- partitions below the count that are not p
-  abbrev Rest : ℕ → Type 0
+  abbrev pub Rest : ℕ → Type 0
   Rest q = (q < t .tile .count) × (q ≡ p → ⊥)
 
   module _ (h : p < t .tile .count) where
     -- above row p no macroblock reads partition p
-    apart : (k : ℕ) → k < p * (t .tile .width / 16) → partitionOf (picturedOf t) k ≡ p → ⊥
+    pub apart : (k : ℕ) → k < p * (t .tile .width / 16) → partitionOf (picturedOf t) k ≡ p → ⊥
     apart k l z =
         let r : rowOf (picturedOf t) k < p = div-lt-iff-lt-mul wide-some .1 l in
         let o : partitionOf (picturedOf t) k ≡ rowOf (picturedOf t) k = sym (pick-some (rowOf (picturedOf t) k) (t .tile .count) (λ n. omega (arith, some))) ∙ mod-eq-of-lt (omega arith) in

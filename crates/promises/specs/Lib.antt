@@ -11,6 +11,8 @@ pub mod TwoRuns
 pub mod TwoModes
 pub mod Isolation
 pub mod IsolationLaws
+pub mod Cost
+pub mod CostLaws
 pub mod Valid
 pub mod Witness
 pub mod Determined

@@ -1,6 +1,7 @@
 -- Two pictures that share all but some token partitions: as long as only partitions are read in which they agree, they go the same way.
 use Prim.Native.Nat.{ℕ, _-_, _*_, _/_, _%_, _≤_, _<_}
 use mathlib.Core.Path.{_≡_, refl, sym, _∙_, ap}
+use mathlib.Core.List.{List}
 use mathlib.Core.Logic.{_⊎_, inl, inr}
 use native.Mathlib.Omega.{arith}
 use lib.ListN.{length, getD, set, length-set}
@@ -9,12 +10,19 @@ use Rattle.numbers.specs.Tests.{lt-or, eq-or}
 use Rattle.reader.specs.Boolean.{noReader}
 use Rattle.tile.specs.Partitions.{pickOf}
 use Rattle.lent.specs.Records.{columnAt}
-use Rattle.macroblock.specs.Macroblock.{Finished, Step, no-modes, no-tokens, stepOf}
+use Rattle.header.specs.declared.frame.Frame.{Frame}
+use Rattle.macroblock.specs.declared.arguments.Around.{Around}
+use Rattle.macroblock.specs.declared.arguments.Place.{Place}
+use Rattle.macroblock.specs.declared.arguments.Readers.{Readers}
+use Rattle.macroblock.specs.Counts.{readsOf}
+use Rattle.macroblock.specs.Macroblock.{Planes, Finished, Step, no-modes, no-tokens, stepOf}
 use Rattle.picture.specs.declared.rows.Decoded.{Decoded}
 use Rattle.picture.specs.declared.rows.Decoded.the-variants as D
 use Rattle.lent.specs.Memory.{Memory}
+use Rattle.picture.specs.Counts.{readsAt}
+use Rattle.picture.specs.CountsLaws.{reads-at}
 use Rattle.picture.specs.PictureLaws.{step-at}
-use Rattle.picture.specs.Picture.{Picture, State, Ended, partitionOf, besideOf, planesIn, stepAt, written, nextOf, runOf}
+use Rattle.picture.specs.Picture.{Picture, State, Ended, columnOf, partitionOf, besideOf, planesIn, placeOf, readersAt, aroundAt, stepAt, written, nextOf, runOf}
 use Rattle.promises.specs.Reached.{Reached, start, after, Ending, whole, modes-out, tokens-out}
 use Rattle.promises.specs.ReachedLaws.{missing-modes, missing-tokens, ending, ends-whole, stops-modes, stops-tokens, reached-before}
 
@@ -42,16 +50,24 @@ module _ {U : ℕ → Type 0} {P Q : Picture} (t : Twins U P Q) where
   part-same k = λ i. pickOf (k / t .wide i) (t .count i)
 
   module _ {S T : State} (s : Same U S T) (k : ℕ) (u : U (partitionOf P k)) where
-    -- one macroblock of both
-    pub step-same : stepAt P k S ≡ stepAt Q k T
-    step-same =
+    -- what is worked out of what macroblock k finds
+    pub found-same : {A : Type 0} (F : (first tokens : List ℕ) → Readers → Frame → (table : List ℕ) → Around → Place → Planes → A)
+        → F (P .first) (P .token (partitionOf P k)) (readersAt S (partitionOf P k)) (P .frame) (P .table) (aroundAt S (columnOf P k)) (placeOf P k) (planesIn (S .mem))
+        ≡ F (Q .first) (Q .token (partitionOf Q k)) (readersAt T (partitionOf Q k)) (Q .frame) (Q .table) (aroundAt T (columnOf Q k)) (placeOf Q k) (planesIn (T .mem))
+    found-same F =
         let a : P .token (partitionOf P k) ≡ Q .token (partitionOf Q k) = t .token (partitionOf P k) u ∙ ap (Q .token) (part-same k) in
         let b : getD (S .readers) (partitionOf P k) noReader ≡ getD (T .readers) (partitionOf Q k) noReader = s .readers (partitionOf P k) u ∙ ap (λ (q : ℕ). getD (T .readers) q noReader) (part-same k) in
-        step-at P k S
-        ∙ (λ i. stepOf (t .first i) (a i) (record { first = s .reader i; token = b i }) (t .frame i) (t .table i)
+        λ i. F (t .first i) (a i) (record { first = s .reader i; token = b i }) (t .frame i) (t .table i)
         (record { top = columnAt (s .mem i .columns) (k % t .wide i); left = besideOf (k % t .wide i) (s .left i) })
-        (record { column = k % t .wide i; row = k / t .wide i; width = t .wide i * 16 }) (planesIn (s .mem i)))
-        ∙ sym (step-at Q k T)
+        (record { column = k % t .wide i; row = k / t .wide i; width = t .wide i * 16 }) (planesIn (s .mem i))
+
+    -- one macroblock of both
+    pub step-same : stepAt P k S ≡ stepAt Q k T
+    step-same = step-at P k S ∙ found-same stepOf ∙ sym (step-at Q k T)
+
+    -- and what it reads
+    pub reads-same : readsAt P k S ≡ readsAt Q k T
+    reads-same = reads-at P k S ∙ found-same (λ first tokens readers f table around place planes. readsOf first tokens readers f table around) ∙ sym (reads-at Q k T)
 
     pub next-same : partitionOf P k < P .count → (x : Finished) → Same U (nextOf P k S x) (nextOf Q k T x)
     next-same h x =

@@ -30,7 +30,7 @@ module _ (s ps : List ℕ) (v i : ℕ) (r : Reader) where
   extra-end h = rw (drop-of-length-le ps h, extraFrom) (run-done v s r)
 
   module _ (h : i < length ps) where
-    asks-next : extraFrom v (drop i ps) ≡ (symbol (getD ps i 0) >>= λ b. extraFrom (v + v + bitOf b) (drop (i + 1) ps))
+    pub asks-next : extraFrom v (drop i ps) ≡ (symbol (getD ps i 0) >>= λ b. extraFrom (v + v + bitOf b) (drop (i + 1) ps))
     unfolding extraFrom
     asks-next = rw (drop-cons ps i 0 h, add-one, extraFrom)
 
@@ -57,7 +57,7 @@ fromNumber (N.Value v r) = given v r
 fromNumber N.Missing = missing
 fromNumber N.Refused = missing
 
-from-number : (x : Given ℕ) → x ≡ fromNumber (toNumber x)
+pub from-number : (x : Given ℕ) → x ≡ fromNumber (toNumber x)
 from-number (given v r) = refl
 from-number missing = refl
 

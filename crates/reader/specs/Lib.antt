@@ -3,6 +3,8 @@ pub mod BooleanLaws
 pub mod BooleanFast
 pub mod Reading
 pub mod ReadingLaws
+pub mod Trace
+pub mod TraceLaws
 pub mod Reads
 pub mod ReadsLaws
 pub mod Trees
@@ -11,4 +13,6 @@ pub mod Extra
 pub mod ExtraLaws
 pub mod Token
 pub mod TokenLaws
+pub mod Counts
+pub mod CountsLaws
 pub mod AnswersLaws

@@ -1,5 +1,5 @@
 -- The walk of coeff_tree: one node at a time, as the code asks it, and the laws that callers of `walk_token` cite.
-use Prim.Native.Nat.{ℕ, suc, _+_, _≤_, _<_}
+use Prim.Native.Nat.{ℕ, suc, _+_, _-_, _≤_, _<_}
 use native.Mathlib.Omega.{arith}
 use mathlib.Core.Bool.{Bool, true, false, _&&_}
 use mathlib.Core.List.{List}
@@ -72,12 +72,18 @@ length-eleven : (table : List ℕ) (at : ℕ) → at + 11 ≤ length table → l
 unfolding elevenAt
 length-eleven table at h = length-take-le 11 (drop at table) (rw length-drop (omega arith))
 
-eleven-tree : (table : List ℕ) (at : ℕ) → at + 11 ≤ length table → treeOf (elevenAt table at) tokenTree 1 ≡ true
-eleven-tree table at h = tree-fixed (elevenAt table at) tokenTree 1 (rw (length-eleven table at h) (lit≤ tt)) refl
+pub eleven-tree : (table : List ℕ) (at : ℕ) (z : Bool) → at + 11 ≤ length table → treeOf (elevenAt table at) tokenTree (tokenStart z) ≡ true
+eleven-tree table at true h = tree-fixed (elevenAt table at) tokenTree 1 (rw (length-eleven table at h) (lit≤ tt)) refl
+eleven-tree table at false h = tree-fixed (elevenAt table at) tokenTree 0 (rw (length-eleven table at h) (lit≤ tt)) refl
+
+-- the eleven as a part of the table, from k up to m
+pub eleven-part : (table : List ℕ) (k m : ℕ) → m ≡ k + 11 → take (m - k) (drop k table) ≡ elevenAt table k
+unfolding elevenAt
+eleven-part table k m h = let d : m - k ≡ 11 = omega arith in rw d
 
 pub token-after-zero : (s table : List ℕ) (at : ℕ) (r : Reader) → at + 11 ≤ length table → tokenFrom 31 s table at 1 r ≡ tokenOf s (elevenAt table at) true r
 unfolding tokenFrom tokenOf
-token-after-zero s table at r h = sym (ap (λ m. toToken (run m s r)) (walk-limit (elevenAt table at) tokenTree 1 (eleven-tree table at h) 1))
+token-after-zero s table at r h = sym (ap (λ m. toToken (run m s r)) (walk-limit (elevenAt table at) tokenTree 1 (eleven-tree table at true h) 1))
 
 pub token-first : (s table : List ℕ) (at : ℕ) (r : Reader) → tokenFrom 32 s table at 0 r ≡ tokenOf s (elevenAt table at) false r
 unfolding tokenFrom tokenOf

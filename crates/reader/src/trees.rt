@@ -49,7 +49,7 @@ fn branch_at(tree: &[i16], k: usize) -> Branch
 }
 
 // One step down from node i.
-fn down(s: &[u8], r: Reader, probs: &[u8], tree: &[i16], i: usize) -> Step
+pub(crate) fn down(s: &[u8], r: Reader, probs: &[u8], tree: &[i16], i: usize) -> Step
     requires { ⌜ Valid (now s) r ⌝ }
     requires { ⌜ Tree (now probs) (now tree) ⌝ }
     requires { ⌜ i < nodesOf (now tree) ⌝ }
@@ -90,7 +90,7 @@ fn leads(tree: &[i16], n: usize, k: usize) -> bool
 }
 
 // Whether a tree may be walked from a node, with these probabilities.
-fn tree_fine(probs: &[u8], tree: &[i16], start: usize) -> bool
+pub(crate) fn tree_fine(probs: &[u8], tree: &[i16], start: usize) -> bool
     ensures { λ r. ⌜ r ≡ treeOf (now (probs .entry)) (now (tree .entry)) start ⌝ }
 {
     let n = tree.len() / 2;

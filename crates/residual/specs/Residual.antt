@@ -16,6 +16,7 @@ use Rattle.numbers.specs.Tables.{allBelow}
 use Rattle.reader.specs.Boolean.{Given, given, missing, validOf, noReader}
 use Rattle.header.specs.Header.{headerOf}
 use Rattle.reader.specs.Reading.{Reading, done, run, _>>=_}
+use Rattle.reader.specs.Trace.{count}
 use Rattle.reader.specs.declared.boolean.Reader.{Reader}
 use Rattle.header.specs.Quantizers.{factorsOf}
 use Rattle.header.specs.declared.quantizers.Factors.{Factors}
@@ -187,6 +188,22 @@ module _ (s : List ℕ) (r : Reader) where
       elim (headerOf h && ltb segment 4) [
         | true ↦ residualCallOf (headerTable h) (factorsOf h segment) small skip top left old
         | false ↦ refusedResidual old
+      ]
+
+-- ---- how many symbols the calls read (M-103): those of the grammar, up to one that is missing; none where they refuse
+module _ (s : List ℕ) (r : Reader) where
+  unfoldable pub residualReads : (table : List ℕ) → Factors → (small skip : Bool) → (top left : List ℕ) → (old : List ℤ) → ℕ
+  residualReads table f small skip top left old =
+      elim (validOf s r && residualArguments table top left (length old)) [
+        | true ↦ count (residualOf table f small skip top left) s r
+        | false ↦ 0
+      ]
+
+  unfoldable pub headerReads : (h : List ℤ) → (segment : ℕ) → (small skip : Bool) → (top left : List ℕ) → (old : List ℤ) → ℕ
+  headerReads h segment small skip top left old =
+      elim (headerOf h && ltb segment 4) [
+        | true ↦ residualReads (headerTable h) (factorsOf h segment) small skip top left old
+        | false ↦ 0
       ]
 
 -- ---- the answers as numbers and values: 7 where the tokens run out, 9 for a refusal, whose values are zero

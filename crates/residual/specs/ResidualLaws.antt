@@ -24,6 +24,8 @@ use Rattle.header.specs.Header.{headerOf}
 use Rattle.reader.specs.Reading.{run, Within, ends}
 use Rattle.reader.specs.ReadingLaws as ReadingLaws
 use Rattle.reader.specs.ReadingLaws.{never-both, run-valid, within-bind, within-more}
+use Rattle.reader.specs.Trace.{count}
+use Rattle.reader.specs.TraceLaws.{count-within}
 use Rattle.reader.specs.declared.boolean.Reader.{Reader}
 use Rattle.header.specs.Quantizers.{factorsOf}
 use Rattle.header.specs.declared.quantizers.Factors.{Factors}
@@ -31,8 +33,8 @@ use Rattle.coefficients.specs.BlockLaws.{SixteenBits, Sixteen, block-within}
 use Rattle.coefficients.specs.Block.{headerTable}
 use Rattle.transform.specs.Transform.{samplesOf}
 use Rattle.transform.specs.TransformLaws.{CoefficientsIn, transform-good, transform-walsh-in}
-use Rattle.residual.specs.Residual.{Model, Flags, ModelInRange, initial, coordinates, secondKind, lumaKind, kindOf, flagged, spread, secondPlace, second, sixteenAt, emptyOf, advance, blocksFrom, cleared, residualOf, ResidualCalled, toResidualCalled, residualArguments, residualAnswer, residualCallOf, residualByHeaderOf}
-use Rattle.residual.specs.ResidualSteps.{arguments-good, decode-passed, decode-refused, header-passed}
+use Rattle.residual.specs.Residual.{Model, Flags, ModelInRange, initial, coordinates, secondKind, lumaKind, kindOf, flagged, spread, secondPlace, second, sixteenAt, emptyOf, advance, blocksFrom, cleared, residualOf, ResidualCalled, toResidualCalled, residualArguments, residualAnswer, residualCallOf, residualByHeaderOf, residualReads}
+use Rattle.residual.specs.ResidualSteps.{arguments-good, decode-passed, reads-passed, decode-refused, header-passed}
 use Rattle.residual.specs.declared.Ended.{Ended}
 use Rattle.residual.specs.declared.Ended.the-variants as E
 use Rattle.residual.specs.declared.Residual.{Residual}
@@ -157,6 +159,14 @@ module _ (table : List ℕ) (f : Factors) (y : Bytes table) where
     blocks-within zero i w = ends w
     blocks-within (suc more) i w = within-bind (advance-within i w) (λ n h. blocks-within more (i + 1) h)
 
+  -- no block has more than sixteen positions
+  pub blocks-few : (small : Bool) (more i : ℕ) {m : Model} (s : List ℕ) (r : Reader) → ModelInRange m → count (blocksFrom table f small more i m) s r ≤ 304 * more
+  blocks-few small more i s r w = omega (arith, count-within s r (blocks-within small more i w), few more i)
+    where
+      few : (more i : ℕ) → costFrom small more i ≤ 304 * more
+      few zero i = omega arith
+      few (suc more) i = omega (arith, few more (i + 1))
+
   -- 24 blocks of sixteen positions where the modes are small; else the second-order block, sixteen of fifteen and eight of sixteen
   small-cost : costFrom true 24 0 ≡ 7296
   unfolding kindOf
@@ -214,10 +224,17 @@ module _ (s : List ℕ) (r : Reader) (table : List ℕ) (f : Factors) (small ski
   pub decode-good : Valid s r → Good table top left old → residualAnswer s r table f small skip top left old ≡ residualCallOf s r table f small skip top left old
   decode-good v g = decode-passed s r table f small skip top left old (valid-test s r v) (arguments-good table top left (length old) (g .size) (g .top-flags) (g .left-flags) (g .long))
 
-  -- THE LAW for callers of `decode`
+  -- THE LAWS for callers of `decode`: what it gave, and how many symbols it read
   pub decoded : Valid s r → Good table top left old → {x : Residual} {l : List ℤ} → record { answer = x; out = l } ≡ residualCallOf s r table f small skip top left old → run (residualOf table f small skip top left) s r ≡ fromResidual l x
   unfolding residualAnswer
   decoded v g e = from-called old (run (residualOf table f small skip top left) s r) ∙ ap fromResidualCalled (decode-good v g ∙ sym e)
+
+  pub decode-reads : Valid s r → Good table top left old → {n : ℕ} → n ≡ residualReads s r table f small skip top left old → n ≡ count (residualOf table f small skip top left) s r
+  decode-reads v g e = e ∙ sym (reads-passed s r table f small skip top left old (valid-test s r v) (arguments-good table top left (length old) (g .size) (g .top-flags) (g .left-flags) (g .long)))
+
+  -- M-103: no macroblock reads more, whatever its symbols are
+  pub residual-few : Bytes table → Flags top → Flags left → count (residualOf table f small skip top left) s r ≤ 7296
+  residual-few b t l = count-within s r (residual-within table f b small skip t l)
 
   -- what was read from good arguments: whole, the reader in range and no earlier
   pub decode-ends : Valid s r → Good table top left old → Bytes s → Bytes table → {m : Model} {q : Reader} → run (residualOf table f small skip top left) s r ≡ given m q → ReadingLaws.Ended ModelInRange s r m q

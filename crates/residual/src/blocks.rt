@@ -21,12 +21,9 @@ ghost use lib.ListN.{length, getD, set, replicate};
 ghost use Rattle.header.specs.Entries.{probabilityCount};
 ghost use Rattle.numbers.specs.Flags.{bitOf};
 ghost use Rattle.reader.specs.BooleanLaws.{Valid};
-ghost use Rattle.reader.specs.Reading.{run};
-ghost use Rattle.coefficients.specs.BlockLaws.{Sixteen, fromBlock};
-ghost use Rattle.coefficients.specs.Block.{block};
 ghost use Rattle.residual.specs.Residual.{Flags, cleared, secondKind, kindOf, zeroOf};
 ghost use Rattle.residual.specs.Residual.{second, advance, blocksFrom, dcStage, residualOf};
-ghost use Rattle.residual.specs.ResidualSteps.{Held, modelOf, turnOf};
+ghost use Rattle.residual.specs.ResidualSteps.{Held, Part, modelOf};
 
 // What a block's tokens go by: the kind of its probabilities, its first position, and what its numbers are multiplied by.
 pub(crate) struct Kind {
@@ -44,10 +41,11 @@ pub(crate) struct State {
     pub empty: bool,
 }
 
-// The state after a part, unless a byte was missing.
+// The state after a part, unless a byte was missing; and how many symbols the part alone read, up to a missing one.
 pub(crate) struct Turn {
     pub ended: bool,
     pub state: State,
+    pub reads: u64,
 }
 
 fn second_kind(f: Factors) -> Kind
@@ -98,17 +96,6 @@ fn context_at(m: State, p: FlagsAt) -> usize
     near(top, left, p.x, p.y)
 }
 
-// One block in its context. The state is not handed on: only its reader is needed.
-fn read_coded(s: &[u8], table: &[u8], r: Reader, k: Kind, ctx: usize, c: &mut [i32; 16]) -> Block
-    requires { ⌜ Valid (now s) r × (length (now table) ≡ probabilityCount) ⌝ }
-    requires { ⌜ ((k .kind < 4) × (k .first ≤ 1)) × (ctx < 3) ⌝ }
-    requires { ⌜ Sixteen (now c) ⌝ }
-    ensures { λ a. ⌜ run (block (now (table .entry)) (k .kind) (k .q0) (k .q1) ctx (k .first) (now (c .entry))) (now (s .entry)) r
-        ≡ fromBlock (now (c .exit)) a ⌝ }
-{
-    decode(s, r, table, k.kind, ctx, k.first, k.q0, k.q1, c)
-}
-
 // The state after a block.
 fn passed(m: State, r: Reader, p: FlagsAt, on: bool, empty: bool) -> State
     requires { ⌜ (p .x < 9) × (p .y < 9) ⌝ }
@@ -130,17 +117,21 @@ fn passed(m: State, r: Reader, p: FlagsAt, on: bool, empty: bool) -> State
 // The second-order block: its transform gives the first coefficient of each luma block.
 fn read_second(s: &[u8], table: &[u8], f: Factors, m: State, flat: &mut [i32]) -> Turn
     requires { ⌜ Held (now s) (now table) m (now flat) ⌝ }
-    ensures { λ t. ⌜ run (second (now (table .entry)) f (modelOf m (now (flat .entry)))) (now (s .entry)) (m .reader)
-        ≡ turnOf (t .ended) (t .state) (now (flat .exit)) ⌝ }
+    ensures { λ t. ⌜ Part (second (now (table .entry)) f (modelOf m (now (flat .entry))))
+        (now (s .entry)) (m .reader) t (now (flat .exit)) ⌝ }
 {
     let k = second_kind(f);
     let p = FlagsAt { x: 8, y: 8 };
     let ctx = context_at(m, p);
     let mut c = [0; 16];
-    let Block::Ended(end, r) = read_coded(s, table, m.reader, k, ctx, &mut c) else {
+    let b = decode(s, m.reader, table, k.kind, ctx, k.first, k.q0, k.q1, &mut c);
+    let reads = b.reads;
+    let answer = b.answer;
+    let Block::Ended(end, r) = answer else {
         return Turn {
             ended: false,
             state: m,
+            reads: reads,
         };
     };
     let t = transform(&c, true);
@@ -150,6 +141,7 @@ fn read_second(s: &[u8], table: &[u8], f: Factors, m: State, flat: &mut [i32]) -
     Turn {
         ended: true,
         state: next,
+        reads: reads,
     }
 }
 
@@ -170,17 +162,21 @@ fn block(
     flat: &mut [i32],
 ) -> Turn
     requires { ⌜ Held (now s) (now table) m (now flat) × (i < 24) ⌝ }
-    ensures { λ t. ⌜ run (advance (now (table .entry)) f small i (modelOf m (now (flat .entry)))) (now (s .entry)) (m .reader)
-        ≡ turnOf (t .ended) (t .state) (now (flat .exit)) ⌝ }
+    ensures { λ t. ⌜ Part (advance (now (table .entry)) f small i (modelOf m (now (flat .entry))))
+        (now (s .entry)) (m .reader) t (now (flat .exit)) ⌝ }
 {
     let k = kind_of(f, small, i);
     let p = location(i);
     let ctx = context_at(m, p);
     let mut c = sixteen(flat, 16 * i);
-    let Block::Ended(end, r) = read_coded(s, table, m.reader, k, ctx, &mut c) else {
+    let b = decode(s, m.reader, table, k.kind, ctx, k.first, k.q0, k.q1, &mut c);
+    let reads = b.reads;
+    let answer = b.answer;
+    let Block::Ended(end, r) = answer else {
         return Turn {
             ended: false,
             state: m,
+            reads: reads,
         };
     };
     store(flat, 16 * i, &c);
@@ -189,40 +185,49 @@ fn block(
     Turn {
         ended: true,
         state: next,
+        reads: reads,
     }
 }
 
 fn blocks(s: &[u8], table: &[u8], f: Factors, small: bool, start: State, flat: &mut [i32]) -> Turn
     requires { ⌜ Held (now s) (now table) start (now flat) ⌝ }
-    ensures { λ t. ⌜ run (blocksFrom (now (table .entry)) f small 24 0 (modelOf start (now (flat .entry)))) (now (s .entry)) (start .reader)
-        ≡ turnOf (t .ended) (t .state) (now (flat .exit)) ⌝ }
+    ensures { λ t. ⌜ Part (blocksFrom (now (table .entry)) f small 24 0 (modelOf start (now (flat .entry))))
+        (now (s .entry)) (start .reader) t (now (flat .exit)) ⌝ }
 {
     let mut m = start;
+    let mut reads: u64 = 0;
     let mut i = 0;
     while i < 24 {
         let t = block(s, table, f, small, m, i, flat);
-        if !t.ended {
-            return t;
-        }
+        reads = reads + t.reads;
         m = t.state;
+        if !t.ended {
+            return Turn {
+                ended: false,
+                state: m,
+                reads: reads,
+            };
+        }
         i = i + 1;
     }
     Turn {
         ended: true,
         state: m,
+        reads: reads,
     }
 }
 
 // Small modes have no second-order block.
 fn dc_stage(s: &[u8], table: &[u8], f: Factors, small: bool, m: State, flat: &mut [i32]) -> Turn
     requires { ⌜ Held (now s) (now table) m (now flat) ⌝ }
-    ensures { λ t. ⌜ run (dcStage (now (table .entry)) f small (modelOf m (now (flat .entry)))) (now (s .entry)) (m .reader)
-        ≡ turnOf (t .ended) (t .state) (now (flat .exit)) ⌝ }
+    ensures { λ t. ⌜ Part (dcStage (now (table .entry)) f small (modelOf m (now (flat .entry))))
+        (now (s .entry)) (m .reader) t (now (flat .exit)) ⌝ }
 {
     if small {
         return Turn {
             ended: true,
             state: m,
+            reads: 0,
         };
     }
     read_second(s, table, f, m, flat)
@@ -256,14 +261,15 @@ pub(crate) fn read(
 ) -> Turn
     requires { ⌜ Valid (now s) r × (length (now table) ≡ probabilityCount) ⌝ }
     requires { ⌜ (Flags top × Flags left) × (now flat ≡ replicate 384 (pos 0)) ⌝ }
-    ensures { λ t. ⌜ run (residualOf (now (table .entry)) f small skip top left) (now (s .entry)) r
-        ≡ turnOf (t .ended) (t .state) (now (flat .exit)) ⌝ }
+    ensures { λ t. ⌜ Part (residualOf (now (table .entry)) f small skip top left)
+        (now (s .entry)) r t (now (flat .exit)) ⌝ }
 {
     if skip {
         let next = skipped(r, small, top, left);
         return Turn {
             ended: true,
             state: next,
+            reads: 0,
         };
     }
     let start = State {
@@ -277,5 +283,11 @@ pub(crate) fn read(
         return t;
     }
     let next = t.state;
-    blocks(s, table, f, small, next, flat)
+    let rest = blocks(s, table, f, small, next, flat);
+    let last = rest.state;
+    Turn {
+        ended: rest.ended,
+        state: last,
+        reads: t.reads + rest.reads,
+    }
 }

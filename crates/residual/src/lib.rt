@@ -13,7 +13,9 @@ ghost use mathlib.Core.Path.{_≡_};
 ghost use lib.ListN.{length};
 ghost use Rattle.header.specs.Entries.{probabilityCount};
 ghost use Rattle.reader.specs.BooleanLaws.{Valid};
-ghost use Rattle.residual.specs.Residual.{Flags, noResidual, residualArguments, residualAnswer, residualCallOf, residualByHeaderOf};
+ghost use Rattle.reader.specs.Trace.{count};
+ghost use Rattle.residual.specs.Residual.{Flags, noResidual, residualArguments, residualOf, residualAnswer, residualCallOf, residualByHeaderOf};
+ghost use Rattle.residual.specs.Residual.{residualReads, headerReads};
 
 mod blocks;
 mod contexts;
@@ -33,13 +35,23 @@ pub struct Residual {
     pub left: [u8; 9],
 }
 
-fn no_residual(answer: Ended) -> Residual
-    ensures { λ r. ⌜ r ≡ noResidual answer ⌝ }
+// The residual, and how many symbols were read; where one is missing, those before it.
+pub struct ResidualRead {
+    pub residual: Residual,
+    pub reads: u64,
+}
+
+fn no_residual(answer: Ended, reads: u64) -> ResidualRead
+    ensures { λ q. ⌜ q ≡ record { residual = noResidual answer; reads = reads } ⌝ }
 {
-    Residual {
+    let residual = Residual {
         answer: answer,
         top: [0; 9],
         left: [0; 9],
+    };
+    ResidualRead {
+        residual: residual,
+        reads: reads,
     }
 }
 
@@ -54,26 +66,31 @@ fn read_residual(
     top: [u8; 9],
     left: [u8; 9],
     out: &mut [i32],
-) -> Residual
+) -> ResidualRead
     requires { ⌜ Valid (now s) r × (length (now table) ≡ probabilityCount) ⌝ }
     requires { ⌜ (Flags top × Flags left) × (length (now out) ≡ 384) ⌝ }
-    ensures { λ q. ⌜ record { answer = q; out = now (out .exit) }
-        ≡ residualAnswer (now (s .entry)) r (now (table .entry)) f small skip top left (now (out .entry)) ⌝ }
+    ensures { λ q. ⌜ (record { answer = q .residual; out = now (out .exit) }
+        ≡ residualAnswer (now (s .entry)) r (now (table .entry)) f small skip top left (now (out .entry)))
+        × (q .reads ≡ count (residualOf (now (table .entry)) f small skip top left) (now (s .entry)) r) ⌝ }
 {
     let mut flat = [0; 384];
     let t = read(s, r, table, f, small, skip, top, left, &mut flat[..]);
     if !t.ended {
-        return no_residual(Ended::Missing);
+        return no_residual(Ended::Missing, t.reads);
     }
     hand_over(out, &flat);
     let m = t.state;
     let next = m.reader;
     let top = m.top;
     let left = m.left;
-    Residual {
+    let residual = Residual {
         answer: Ended::Done(next, m.empty),
         top: top,
         left: left,
+    };
+    ResidualRead {
+        residual: residual,
+        reads: t.reads,
     }
 }
 
@@ -94,15 +111,16 @@ pub fn decode(
     top: [u8; 9],
     left: [u8; 9],
     out: &mut [i32],
-) -> Residual
-    ensures { λ q. ⌜ record { answer = q; out = now (out .exit) }
-        ≡ residualCallOf (now (s .entry)) r (now (table .entry)) f small skip top left (now (out .entry)) ⌝ }
+) -> ResidualRead
+    ensures { λ q. ⌜ (record { answer = q .residual; out = now (out .exit) }
+        ≡ residualCallOf (now (s .entry)) r (now (table .entry)) f small skip top left (now (out .entry)))
+        × (q .reads ≡ residualReads (now (s .entry)) r (now (table .entry)) f small skip top left (now (out .entry))) ⌝ }
 {
     if !valid(s, r) {
-        return no_residual(Ended::Refused);
+        return no_residual(Ended::Refused, 0);
     }
     if !arguments(table, top, left, out.len()) {
-        return no_residual(Ended::Refused);
+        return no_residual(Ended::Refused, 0);
     }
     read_residual(s, r, table, f, small, skip, top, left, out)
 }
@@ -118,12 +136,13 @@ pub fn decode_header(
     top: [u8; 9],
     left: [u8; 9],
     out: &mut [i32],
-) -> Residual
-    ensures { λ q. ⌜ record { answer = q; out = now (out .exit) }
-        ≡ residualByHeaderOf (now (s .entry)) r (now (h .entry)) segment small skip top left (now (out .entry)) ⌝ }
+) -> ResidualRead
+    ensures { λ q. ⌜ (record { answer = q .residual; out = now (out .exit) }
+        ≡ residualByHeaderOf (now (s .entry)) r (now (h .entry)) segment small skip top left (now (out .entry)))
+        × (q .reads ≡ headerReads (now (s .entry)) r (now (h .entry)) segment small skip top left (now (out .entry))) ⌝ }
 {
     let Quantizers::Ready(f) = for_segment(h, segment) else {
-        return no_residual(Ended::Refused);
+        return no_residual(Ended::Refused, 0);
     };
     let t = probabilities(h);
     let bytes = t.bytes;

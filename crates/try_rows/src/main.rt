@@ -89,8 +89,9 @@ fn held(s: &[u8]) -> usize {
     let mut r = open(s);
     let mut i = 0;
     while i < 25 {
-        let Block::Ended(_, next) = decode(s, r, &table, kind(i), 0, first(i), 1, 1, &mut out)
-        else {
+        let b = decode(s, r, &table, kind(i), 0, first(i), 1, 1, &mut out);
+        let answer = b.answer;
+        let Block::Ended(_, next) = answer else {
             return i;
         };
         r = next;

@@ -10,6 +10,7 @@ use lent::columns::read_column;
 use macroblock::arguments::Around;
 use macroblock::arguments::Place;
 use macroblock::arguments::Readers;
+use macroblock::arguments::Reads;
 use macroblock::whole::Finish;
 use macroblock::whole::Outcome;
 use macroblock::whole::decode;
@@ -128,11 +129,16 @@ fn number(f: Finish) -> u64
 
 fn show_places(f: Finish) {
     let Finish::Done(readers) = f else {
-        io::write_all(1, b" 0 0\n");
+        io::write_all(1, b" 0 0");
         return;
     };
     show(readers.first.at as u64);
     show(readers.token.at as u64);
+}
+
+fn show_reads(r: Reads) {
+    show(r.first);
+    show(r.tokens);
     io::write_all(1, b"\n");
 }
 
@@ -181,7 +187,7 @@ fn one(case: &[u8], first: &[u8], tokens: &[u8], readers: Readers, frame: Frame,
         row: wide(case[1]),
         width: 48,
     };
-    let w = decode(
+    let read = decode(
         first,
         tokens,
         readers,
@@ -193,7 +199,8 @@ fn one(case: &[u8], first: &[u8], tokens: &[u8], readers: Readers, frame: Frame,
         &mut u,
         &mut v,
     );
-    show_outcome(w, &y, &u, &v);
+    show_outcome(read.outcome, &y, &u, &v);
+    show_reads(read.reads);
 }
 
 fn opened(case: &[u8], first: &[u8], tokens: &[u8], frame: Frame, table: &[u8])

@@ -110,7 +110,7 @@ fn decoded(width: usize, height: usize, count: usize) {
         &mut m,
         &mut s,
     );
-    answer(d);
+    answer(d.answer);
 }
 
 fn row(width: usize, height: usize, count: usize) {

@@ -74,7 +74,7 @@ same-length-6 c = search needs
 -- src/lib.rt:47:1
 returns-3 : tie.Need-returns-3
 returns-3 c =
-    let d = c .before .before .before .before .before .before .before .before .before .before .before .before .before .before in
+    let d = c .before .before .before .before .before .before .before .before .before .before .before .before .before .before .before in
     let e = d .before .before .before .before .before .before .before in
     let s = e .before .before .before .before .before .before .before .before .before .before .before .before in
     called-found (s .args .starts .now) (s .args .lengths .now) (call s) (lent s) (e .before .before .if1 .left) (e .before .if2 .left) (c .number .ensures) (c .before .finished .ensures) (e .eight-spans .ensures) (d .decode .ensures)

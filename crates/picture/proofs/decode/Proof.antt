@@ -4,6 +4,7 @@ use Rattle.reader.specs.BooleanLaws.{Bytes}
 use Rattle.lent.specs.Memory.{Memory, memoryOf, sizesOf}
 use Rattle.picture.specs.Checks.{Call, callOf, refusalOf}
 use Rattle.picture.specs.CallLaws.{picture-bad, shared-found, live-found, run-found}
+use Rattle.picture.specs.CountsLaws.{cost-bad, cost-found}
 use Rattle.picture.proofs.decode.Statement.{statement}
 use Rattle.picture.proofs.decode.Tie as tie
 use Rattle.picture.proofs.decode.Reads as reads
@@ -48,7 +49,9 @@ refusal-requires c κs = search needs
 
 -- src/lib.rt:49:9
 returns : tie.Need-returns
-returns c = picture-bad (call (c .before .before .before .before .before .before .before .before .before)) (lent (c .before .before .before .before .before .before .before .before .before)) (c .before .refusal .ensures) (c .if1 .taken)
+returns c =
+    let s = c .before .before .before .before .before .before .before .before .before in
+    (picture-bad (call s) (lent s) (c .before .refusal .ensures) (c .if1 .taken), sym (cost-bad (call s) (lent s) (c .before .refusal .ensures) (c .if1 .taken)))
 
 -- src/lib.rt:51:5
 blank-requires : tie.Need-blank-requires
@@ -105,8 +108,10 @@ same-length-6 c = looped c .rows .kept .1 .1 .1 .1 .1 .1 .1 .1 .1 .0 ∙ blanked
 returns-2 : tie.Need-returns-2
 returns-2 c =
     let r = looped c in
-    let f = framed r in
-    run-found (call (start f)) (lent (start f)) (fine f) (f .before .take .ensures) (f .before .before .before .probabilities .ensures) (blanked f .blank .ensures) (r .rows .ensures)
+    let f = framed r in (
+      run-found (call (start f)) (lent (start f)) (fine f) (f .before .take .ensures) (f .before .before .before .probabilities .ensures) (blanked f .blank .ensures) (r .rows .ensures .0),
+      cost-found (call (start f)) (lent (start f)) (fine f) (f .before .take .ensures) (f .before .before .before .probabilities .ensures) (blanked f .blank .ensures) (r .rows .ensures .1),
+    )
 
 pub decode-spec : {M : Type 1} → statement M
 decode-spec =

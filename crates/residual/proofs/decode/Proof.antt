@@ -2,7 +2,7 @@ use lib.ListN.{length}
 use mathlib.Core.Path.{sym, _∙_}
 use borrow.Author.Tests.{not-true, not-false}
 use Rattle.reader.specs.BooleanLaws.{valid-fact}
-use Rattle.residual.specs.ResidualSteps.{arguments-fact, decode-reader, decode-arguments, decode-passed}
+use Rattle.residual.specs.ResidualSteps.{arguments-fact, decode-reader, decode-arguments, decode-passed, reads-passed}
 use borrow.Author.Needs.{needs}
 use borrow.Kind.Array.{eInt, good-length}
 use mir.Syntax.{w8}
@@ -16,7 +16,7 @@ no-residual-requires : tie.Need-no-residual-requires
 no-residual-requires c κs = search needs
 
 returns : tie.Need-returns
-returns c = decode-reader _ _ _ _ _ _ _ _ _ (sym (c .before .before .valid .ensures) ∙ not-true _ (c .before .if1 .taken)) (c .no-residual .ensures)
+returns c = decode-reader _ _ _ _ _ _ _ _ _ (c .no-residual .ensures) (sym (c .before .before .valid .ensures) ∙ not-true _ (c .before .if1 .taken))
 
 arguments-requires : tie.Need-arguments-requires
 arguments-requires c κs = search needs
@@ -25,7 +25,7 @@ no-residual-requires-2 : tie.Need-no-residual-requires-2
 no-residual-requires-2 c κs = search needs
 
 returns-2 : tie.Need-returns-2
-returns-2 c = decode-arguments _ _ _ _ _ _ _ _ _ (sym (c .before .before .arguments .ensures) ∙ not-true _ (c .before .if2 .taken)) (c .no-residual2 .ensures)
+returns-2 c = decode-arguments _ _ _ _ _ _ _ _ _ (c .no-residual2 .ensures) (sym (c .before .before .arguments .ensures) ∙ not-true _ (c .before .if2 .taken))
 
 read-residual-requires : tie.Need-read-residual-requires
 read-residual-requires c κs =
@@ -39,7 +39,11 @@ same-length : tie.Need-same-length
 same-length c = search needs
 
 returns-3 : tie.Need-returns-3
-returns-3 c = c .before .read-residual .ensures ∙ decode-passed _ _ _ _ _ _ _ _ _ (sym (c .before .before .before .before .before .before .valid .ensures) ∙ not-false _ (c .before .before .before .before .before .if1 .left)) (sym (c .before .before .before .before .arguments .ensures) ∙ not-false _ (c .before .before .before .if2 .left))
+returns-3 c =
+    let v = sym (c .before .before .before .before .before .before .valid .ensures) ∙ not-false _ (c .before .before .before .before .before .if1 .left) in
+    let a = sym (c .before .before .before .before .arguments .ensures) ∙ not-false _ (c .before .before .before .if2 .left) in
+    let e = c .before .read-residual .ensures in
+    (e .0 ∙ decode-passed _ _ _ _ _ _ _ _ _ v a, e .1 ∙ reads-passed _ _ _ _ _ _ _ _ _ v a)
 
 pub decode-spec : {M : Type 1} → statement M
 decode-spec =

@@ -1,4 +1,3 @@
-use mathlib.Core.Path.{_∙_}
 use Rattle.residual.specs.ResidualSteps.{header-none, header-some}
 use borrow.Author.Needs.{needs}
 use Rattle.residual.proofs.decode_header.Statement.{statement}
@@ -32,7 +31,7 @@ same-length : tie.Need-same-length
 same-length c = search needs
 
 returns-2 : tie.Need-returns-2
-returns-2 c = c .before .decode .ensures ∙ header-some _ _ _ _ _ _ _ _ _ (c .before .before .before .before .before .before .before .before .before .for-segment .ensures) (c .before .before .before .before .before .before .before .f .given .1) (c .before .before .before .before .before .probabilities .ensures)
+returns-2 c = header-some _ _ _ _ _ _ _ _ _ (c .before .before .before .before .before .before .before .before .before .for-segment .ensures) (c .before .before .before .before .before .before .before .f .given .1) (c .before .before .before .before .before .probabilities .ensures) (c .before .decode .ensures)
 
 pub decode-header-spec : {M : Type 1} → statement M
 decode-header-spec =

@@ -15,51 +15,39 @@ Inv-loop s table out₀ r₀ i₀ out r i = i ≤ 25
 abbrev μ-loop : tie.MeasureT-loop
 μ-loop s table out₀ r₀ i₀ out r i = 25 - i
 
--- src/main.rt:89:9
 open-requires : tie.Need-open-requires Inv-loop μ-loop
 open-requires c κs = search needs
 
--- src/main.rt:91:5
 loop-holds : tie.Need-loop-holds Inv-loop μ-loop
 loop-holds c = search needs
 
--- src/main.rt:92:50
 slice-aggregate-decode : tie.Need-slice-aggregate-decode Inv-loop μ-loop
 slice-aggregate-decode c = search needs
 
--- src/main.rt:92:58
 kind-requires : tie.Need-kind-requires Inv-loop μ-loop
 kind-requires c κs = search needs
 
--- src/main.rt:92:70
 first-requires : tie.Need-first-requires Inv-loop μ-loop
 first-requires c κs = search needs
 
--- src/main.rt:92:37
 decode-requires : tie.Need-decode-requires Inv-loop μ-loop
 decode-requires c κs = search needs
 
--- src/main.rt:92:29
-enum-known-next : tie.Need-enum-known-next Inv-loop μ-loop
-enum-known-next c = search needs
+enum-known-answer : tie.Need-enum-known-answer Inv-loop μ-loop
+enum-known-answer c = search needs
 
--- src/main.rt:94:13
 returns : tie.Need-returns Inv-loop μ-loop
 returns c = search needs
 
--- src/main.rt:97:13
 add-i : tie.Need-add-i Inv-loop μ-loop
 add-i c = search needs
 
--- src/main.rt:91:5
 loop-less : tie.Need-loop-less Inv-loop μ-loop
 loop-less c = search needs
 
--- src/main.rt:91:5
 loop-again : tie.Need-loop-again Inv-loop μ-loop
 loop-again c = search needs
 
--- src/main.rt:86:1
 returns-2 : tie.Need-returns-2 Inv-loop μ-loop
 returns-2 c = search needs
 
@@ -75,7 +63,7 @@ held-spec =
     kind-requires
     first-requires
     decode-requires
-    enum-known-next
+    enum-known-answer
     returns
     add-i
     loop-less

@@ -13,7 +13,7 @@ returns : tie.Need-returns
 returns c =
     let d = called c in
     let g = given d in
-    given-is _ _ (d .decode .ensures) (g .tile-of .ensures) (g .before .header .ensures)
+    given-is _ _ (d .decode .ensures .0) (g .tile-of .ensures) (g .before .header .ensures)
 
 pub through-spec : {M : Type 1} → statement M
 through-spec =

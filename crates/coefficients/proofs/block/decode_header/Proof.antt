@@ -1,5 +1,4 @@
 -- `decode_header` meets its contract: a header that is taken gives the table that `decode` is called with.
-use mathlib.Core.Path.{_∙_}
 use borrow.Author.Needs.{needs}
 use Rattle.coefficients.specs.BlockLaws.{table-taken, table-not}
 use Rattle.coefficients.specs.BlockSteps.{header-good, header-refused}
@@ -15,8 +14,11 @@ enum-told c = search needs
 enum-told-2 : tie.Need-enum-told-2
 enum-told-2 c = search needs
 
+counted-requires : tie.Need-counted-requires
+counted-requires c κs = search needs
+
 returns : tie.Need-returns
-returns c = header-refused _ _ _ _ _ _ _ _ _ (table-not _ (c .before .before .probabilities .ensures) (c .enum-told2 .given .1))
+returns c = header-refused _ _ _ _ _ _ _ _ _ (table-not _ (c .before .before .before .probabilities .ensures) (c .before .enum-told2 .given .1)) (c .counted .ensures)
 
 slice-aggregate-decode : tie.Need-slice-aggregate-decode
 slice-aggregate-decode c = search needs
@@ -25,7 +27,7 @@ decode-requires : tie.Need-decode-requires
 decode-requires c κs = search needs
 
 returns-2 : tie.Need-returns-2
-returns-2 c = let t = table-taken _ (c .before .before .before .before .before .before .probabilities .ensures) (c .before .before .before .before .enum-told .given .1) in c .decode .ensures ∙ header-good _ _ _ _ _ _ _ _ _ (t .0) (t .1)
+returns-2 c = let t = table-taken _ (c .before .before .before .before .before .before .probabilities .ensures) (c .before .before .before .before .enum-told .given .1) in header-good _ _ _ _ _ _ _ _ _ (t .0) (t .1) (c .decode .ensures)
 
 pub decode-header-spec : {M : Type 1} → statement M
 decode-header-spec =
@@ -34,6 +36,7 @@ decode-header-spec =
     probabilities-requires
     enum-told
     enum-told-2
+    counted-requires
     returns
     slice-aggregate-decode
     decode-requires

@@ -1,8 +1,8 @@
 -- `read_category` meets its contract: each arm is its category, and what is left is the last.
-use Prim.Native.Nat.{ℕ, _+_, _≤_}
-use native.Mathlib.Omega.{arith}
+use Prim.Native.Nat.{ℕ}
 use mathlib.Core.Path.{_≡_, sym, _∙_, ap}
 use borrow.Author.Needs.{needs}
+use Rattle.coefficients.proofs.BlockAnswers.{last}
 use Rattle.coefficients.specs.Block.{categories, bases, magnitude, magnitudeOf}
 use Rattle.coefficients.proofs.block.read_category.Statement.{statement}
 use Rattle.coefficients.proofs.block.read_category.Tie as tie
@@ -47,15 +47,6 @@ extended-requires-6 c κs = search needs
 at-token : (c : tie.Start) {k : ℕ} → c .args .token ≡ k → magnitudeOf (c .args .s .now) k (c .args .r) ≡ magnitudeOf (c .args .s .now) (c .args .token) (c .args .r)
 at-token c e = ap (λ t. magnitudeOf (c .args .s .now) t (c .args .r)) (sym e)
 
--- what no arm took is 11
-past : {t k : ℕ} → k ≤ t → (t ≡ k → ⊥) → k + 1 ≤ t
-past l n = omega arith
-
-last : {t : ℕ} → (6 ≤ t) × (t ≤ 11) → (((((Unit {0} × (t ≡ 6 → ⊥)) × (t ≡ 7 → ⊥)) × (t ≡ 8 → ⊥)) × (t ≡ 9 → ⊥)) × (t ≡ 10 → ⊥)) → t ≡ 11
-last r n =
-    let eleven = past (past (past (past (past (r .0) (n .0 .0 .0 .0 .1)) (n .0 .0 .0 .1)) (n .0 .0 .1)) (n .0 .1)) (n .1) in
-    omega (arith, eleven, r .1)
-
 returns : tie.Need-returns
 unfolding magnitudeOf magnitude categories bases
 returns c = c .extended .ensures ∙ at-token (c .before .before .before .before) (c .before .before .match .keys1)
@@ -78,7 +69,7 @@ returns-5 c = c .extended5 .ensures ∙ at-token (c .before .before .before .bef
 
 returns-6 : tie.Need-returns-6
 unfolding magnitudeOf magnitude categories bases
-returns-6 c = c .extended6 .ensures ∙ at-token (c .before .before .before .before) (last (c .before .before .before .before .pre .1) (c .before .before .match .rest))
+returns-6 c = c .extended6 .ensures ∙ at-token (c .before .before .before .before) (let p = c .before .before .before .before .pre .1 in last (p .0) (p .1) (c .before .before .match .rest))
 
 pub read-category-spec : {M : Type 1} → statement M
 read-category-spec =

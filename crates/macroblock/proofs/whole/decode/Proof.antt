@@ -5,6 +5,7 @@ use borrow.Author.Tests.{not-true, not-false}
 use borrow.Author.Needs.{needs}
 use Rattle.macroblock.specs.Macroblock.{readyOf, placeFine}
 use Rattle.macroblock.specs.DecodeLaws.{ready-out, laid-out, decode-passed, decode-unready, decode-unlaid}
+use Rattle.macroblock.specs.CountsLaws.{reads-passed, reads-unready, reads-unlaid}
 use Rattle.macroblock.proofs.whole.decode.Statement.{statement}
 use Rattle.macroblock.proofs.whole.decode.Tie as tie
 
@@ -15,7 +16,9 @@ stopped-requires : tie.Need-stopped-requires
 stopped-requires c κs = search needs
 
 returns : tie.Need-returns
-returns c = decode-unready _ _ _ _ _ _ _ _ (sym (c .before .before .ready .ensures .0) ∙ not-true _ (c .before .if1 .taken)) (c .stopped .ensures)
+returns c =
+    let e = sym (c .before .before .ready .ensures .0) ∙ not-true _ (c .before .if1 .taken) in
+    (decode-unready _ _ _ _ _ _ _ _ e (c .stopped .ensures .0), reads-unready _ _ _ _ _ _ _ _ e (c .stopped .ensures .1))
 
 laid-requires : tie.Need-laid-requires
 laid-requires c κs = search needs
@@ -24,7 +27,9 @@ stopped-requires-2 : tie.Need-stopped-requires-2
 stopped-requires-2 c κs = search needs
 
 returns-2 : tie.Need-returns-2
-returns-2 c = decode-unlaid _ _ _ _ _ _ _ _ (sym (c .before .before .laid .ensures) ∙ not-true _ (c .before .if2 .taken)) (c .stopped2 .ensures)
+returns-2 c =
+    let e = sym (c .before .before .laid .ensures) ∙ not-true _ (c .before .if2 .taken) in
+    (decode-unlaid _ _ _ _ _ _ _ _ e (c .stopped2 .ensures .0), reads-unlaid _ _ _ _ _ _ _ _ e (c .stopped2 .ensures .1))
 
 abbrev start : tie.Else2 → tie.Start
 start e = e .before .before .before .before .before .before .before .before .before .before
@@ -52,7 +57,7 @@ same-length-3 c = search needs
 returns-3 : tie.Need-returns-3
 returns-3 c = let d = c .before .before .before .before .before .before in
     let e = d .before .before .before .before in
-    d .step .ensures ∙ decode-passed _ _ _ _ _ _ _ _ (able e) (fine e)
+    (d .step .ensures .0 ∙ decode-passed _ _ _ _ _ _ _ _ (able e) (fine e), d .step .ensures .1 ∙ reads-passed _ _ _ _ _ _ _ _ (able e) (fine e))
 
 pub decode-spec : {M : Type 1} → statement M
 decode-spec =

@@ -9,6 +9,9 @@ use Rattle.modes.specs.Answers.{macroblockOf}
 use Rattle.residual.specs.Residual.{residualOf}
 use Rattle.residual.specs.ResidualLaws.{fromResidual, fromEnded, decoded, decode-ends}
 use Rattle.header.specs.Frame.{factorsAt}
+use Rattle.reader.specs.Trace.{count}
+use Rattle.residual.specs.ResidualLaws as ResidualLaws
+use Rattle.macroblock.specs.Counts.{readsMade, tokenReads}
 use Rattle.macroblock.specs.MacroblockLaws.{tokens-missing, tokens-done, painting}
 use denote.Enum.Declared.{tagOf}
 use Rattle.residual.specs.ResidualLaws.{not-done}
@@ -47,25 +50,37 @@ abbrev start : tie.After-c2 → tie.Start
 start c = c .before .before .before .before .before .before .before .before .before .before .before .before .before .before .before .before
 
 -- what the residual's answer says of the grammar
-is : (c : tie.After-c2) → (let a = start c .args in run (residualOf (a .table .now) (factorsAt (a .frame) (a .m .kinds .segment)) (a .m .kinds .small) (a .m .kinds .skip) (a .around .top .flags) (a .around .left .flags)) (a .tokens .now) (a .t) ≡ fromResidual (c .before .decode .last .1 .1 .1 .1 .1 .1 .1 .1 .0) (c .before .decode .result))
+is : (c : tie.After-c2) → (let a = start c .args in run (residualOf (a .table .now) (factorsAt (a .frame) (a .m .kinds .segment)) (a .m .kinds .small) (a .m .kinds .skip) (a .around .top .flags) (a .around .left .flags)) (a .tokens .now) (a .t) ≡ fromResidual (c .before .decode .last .1 .1 .1 .1 .1 .1 .1 .1 .0) (c .before .decode .result .residual))
 is c =
     let a = start c .args in
     let p = start c .pre .0 in
     ap (λ (f : Factors). run (residualOf (a .table .now) f (a .m .kinds .small) (a .m .kinds .skip) (a .around .top .flags) (a .around .left .flags)) (a .tokens .now) (a .t)) (sym (c .before .before .before .factors-of .ensures ∙ ap (factorsAt (a .frame)) (c .before .before .before .before .index .ensures)))
-    ∙ decoded _ _ _ _ _ _ _ _ _ (p .token) (record { size = p .size; top-flags = p .top; left-flags = p .left; long = refl }) (c .before .decode .ensures)
+    ∙ decoded _ _ _ _ _ _ _ _ _ (p .token) (record { size = p .size; top-flags = p .top; left-flags = p .left; long = refl }) (c .before .decode .ensures .0)
+
+-- and its count
+counted : (c : tie.After-c2) → (let a = start c .args in c .before .decode .result .reads ≡ tokenReads (a .tokens .now) (a .t) (a .frame) (a .table .now) (a .around) (given (macroblockOf (a .m .kinds) (a .m .modes)) (a .m .next)))
+counted c =
+    let a = start c .args in
+    let p = start c .pre .0 in
+    ResidualLaws.decode-reads _ _ _ _ _ _ _ _ _ (p .token) (record { size = p .size; top-flags = p .top; left-flags = p .left; long = refl }) (c .before .decode .ensures .1)
+    ∙ ap (λ (f : Factors). count (residualOf (a .table .now) f (a .m .kinds .small) (a .m .kinds .skip) (a .around .top .flags) (a .around .left .flags)) (a .tokens .now) (a .t)) (c .before .before .before .factors-of .ensures ∙ ap (factorsAt (a .frame)) (c .before .before .before .before .index .ensures))
 
 abbrev at-c2 : tie.After-known-told → tie.After-c2
-at-c2 c = c .before .before .before
+at-c2 c = c .before .before .before .before
 
 -- the coefficients, the flags and the reader that it gave
-gave : (c : tie.After-known-told) → (let d = at-c2 c in let x = d .before .decode .result in let a = start d .args in run (residualOf (a .table .now) (factorsAt (a .frame) (a .m .kinds .segment)) (a .m .kinds .small) (a .m .kinds .skip) (a .around .top .flags) (a .around .left .flags)) (a .tokens .now) (a .t) ≡ given (record { top = x .top; left = x .left; coefficients = d .before .decode .last .1 .1 .1 .1 .1 .1 .1 .1 .0; empty = c .before .answer .given .0 .1 .0 }) (c .before .answer .given .0 .0))
+gave : (c : tie.After-known-told) → (let d = at-c2 c in let x = d .before .decode .result .residual in let a = start d .args in run (residualOf (a .table .now) (factorsAt (a .frame) (a .m .kinds .segment)) (a .m .kinds .small) (a .m .kinds .skip) (a .around .top .flags) (a .around .left .flags)) (a .tokens .now) (a .t) ≡ given (record { top = x .top; left = x .left; coefficients = d .before .decode .last .1 .1 .1 .1 .1 .1 .1 .1 .0; empty = c .before .answer .given .0 .1 .0 }) (c .before .answer .given .0 .0))
 gave c =
     let d = at-c2 c in
-    is d ∙ ap (fromEnded (d .before .decode .result .top) (d .before .decode .result .left) (d .before .decode .last .1 .1 .1 .1 .1 .1 .1 .1 .0)) (c .before .answer .given .1)
+    is d ∙ ap (fromEnded (d .before .decode .result .residual .top) (d .before .decode .result .residual .left) (d .before .decode .last .1 .1 .1 .1 .1 .1 .1 .1 .0)) (c .before .answer .given .1)
 
 returns : tie.Need-returns
-returns c = let a = start (c .before .before) .args in
-    tokens-missing (a .tokens .now) (a .t) (a .frame) (a .table .now) (a .around) (a .place) (macroblockOf (a .m .kinds) (a .m .modes)) _ _ (is (c .before .before) ∙ not-done (tagOf ended-answer.the-type) (λ r empty. refl) _ _ _ (c .before .before .before .decode .result .answer) (c .before .match .keys2)) (c .stopped .ensures)
+returns c =
+    let d = c .before .before .before in
+    let a = start d .args in (
+      tokens-missing (a .tokens .now) (a .t) (a .frame) (a .table .now) (a .around) (a .place) (macroblockOf (a .m .kinds) (a .m .modes)) _ _ (is d ∙ not-done (tagOf ended-answer.the-type) (λ r empty. refl) _ _ _ (d .before .decode .result .residual .answer) (c .before .match .keys2)) (c .stopped .ensures .0),
+      c .stopped .ensures .1 ∙ ap (readsMade (a .m .reads)) (counted d),
+    )
 
 slice-aggregate-squares : tie.Need-slice-aggregate-squares
 slice-aggregate-squares c = search needs
@@ -79,7 +94,7 @@ squares-requires c κs =
     (p .1 .1, painting (p .1 .0) (e .value))
 
 ending-requires : tie.Need-ending-requires
-ending-requires c κs = let p = start (c .before .before .before .before .before .before .before .before .before .before .before .before .before .before .before .before .before) .pre in (p .1 .0 .segment, p .0 .sound)
+ending-requires c κs = let p = start (c .before .before .before .before .before .before .before .before .before .before .before .before .before .before .before .before .before .before) .pre in (p .1 .0 .segment, p .0 .sound)
 
 same-length : tie.Need-same-length
 same-length c = search needs
@@ -93,8 +108,10 @@ same-length-3 c = search needs
 returns-2 : tie.Need-returns-2
 returns-2 c =
     let k = c .before .before .before .before .before .before .before .before .before .before .before .before .before .before .before in
-    let a = start (at-c2 k) .args in
-    tokens-done (a .tokens .now) (a .t) (a .frame) (a .table .now) (a .around) (a .place) (macroblockOf (a .m .kinds) (a .m .modes)) _ _ (gave k) (c .ending .ensures) (c .before .before .before .before .before .before .before .before .before .squares .ensures)
+    let a = start (at-c2 k) .args in (
+      tokens-done (a .tokens .now) (a .t) (a .frame) (a .table .now) (a .around) (a .place) (macroblockOf (a .m .kinds) (a .m .modes)) _ _ (gave k) (c .ending .ensures) (c .before .before .before .before .before .before .before .before .before .squares .ensures),
+      ap (readsMade (a .m .reads)) (counted (at-c2 k)),
+    )
 
 pub with-tokens-spec : {M : Type 1} → statement M
 with-tokens-spec =

@@ -12,14 +12,18 @@ use Rattle.lent.specs.Memory.{Memory, memoryOf}
 use Rattle.picture.specs.Picture.{Picture, State, Ended, cutOut, startOf, rowOf, columnOf, partitionOf, planesIn, stepAt, runOf}
 use Rattle.picture.specs.Turn.{Turned, turnedOf, turned}
 use Rattle.picture.specs.TurnLaws.{Ends}
+use Rattle.macroblock.specs.Counts.{AtMost}
+use Rattle.picture.specs.Counts.{readsAt}
+use Rattle.picture.specs.CountsLaws.{reads-in}
 use Rattle.picture.specs.PictureLaws.{Shared, ready-at, ends-at, laid-in, room-in, turn-at}
 use Rattle.picture.proofs.Answers.{not-done}
-use Rattle.picture.proofs.Turns.{AtRow, InRow, Going, KeptAll, live-from, going-start, going-next, going-refused, going-end, row-from, column-from, less-from, next-row, stateOf}
+use Rattle.picture.proofs.Turns.{Total, totalOf, AtRow, InRow, Going, KeptAll, live-from, total-most, both-are, going-start, going-able, going-next, going-refused, going-end, row-from, column-from, less-from, next-row, stateOf}
 use Rattle.picture.proofs.rows.rows.Statement.{statement}
 use Rattle.picture.proofs.rows.rows.Tie as tie
 use Rattle.picture.proofs.rows.rows.Reads as reads
 use Rattle.picture.proofs.rows.rows.Lts as lts
 use Rattle.modes.proofs.contexts.Context.empty.Reads as empty-reads
+use Rattle.picture.proofs.rows.plus.Reads as plus-reads
 use Rattle.picture.proofs.rows.stopped.Reads as stopped-reads
 use Rattle.picture.proofs.turn.turn.Reads as turn-reads
 use Rattle.tile.proofs.partitions.openers.Reads as openers-reads
@@ -28,19 +32,19 @@ use Rattle.tile.proofs.partitions.pick.Reads as pick-reads
 use Rattle.tile.proofs.partitions.token.Reads as token-reads
 
 abbrev Inv-across : tie.InvT-across
-Inv-across bytes tile frame table y₀ u₀ v₀ columns₀ modes₀ strengths₀ wide high blocks first r₀ readers₀ left₀ k₀ answer₀ width row p tokens column₀ y u v columns modes strengths r readers left k answer column =
-    InRow (cutOut bytes tile frame table) k₀ (stateOf r₀ readers₀ left₀ (memoryOf y₀ u₀ v₀ columns₀ modes₀ strengths₀)) answer₀ k answer column (stateOf r readers left (memoryOf y u v columns modes strengths))
+Inv-across bytes tile frame table y₀ u₀ v₀ columns₀ modes₀ strengths₀ wide high blocks first r₀ readers₀ left₀ k₀ answer₀ reads₀ width row p tokens column₀ y u v columns modes strengths r readers left k answer reads column =
+    InRow (cutOut bytes tile frame table) k₀ (stateOf r₀ readers₀ left₀ (memoryOf y₀ u₀ v₀ columns₀ modes₀ strengths₀)) answer₀ reads₀ k answer column (stateOf r readers left (memoryOf y u v columns modes strengths)) reads
 
 abbrev μ-across : tie.MeasureT-across
-μ-across bytes tile frame table y₀ u₀ v₀ columns₀ modes₀ strengths₀ wide high blocks first r₀ readers₀ left₀ k₀ answer₀ width row p tokens column₀ y u v columns modes strengths r readers left k answer column =
+μ-across bytes tile frame table y₀ u₀ v₀ columns₀ modes₀ strengths₀ wide high blocks first r₀ readers₀ left₀ k₀ answer₀ reads₀ width row p tokens column₀ y u v columns modes strengths r readers left k answer reads column =
     tile .width / 16 - column
 
 abbrev Inv-rows : tie.InvT-rows
-Inv-rows bytes tile frame table y₀ u₀ v₀ columns₀ modes₀ strengths₀ wide high blocks first r₀ readers₀ left₀ k₀ answer₀ width row₀ y u v columns modes strengths r readers left k answer row =
-    AtRow (cutOut bytes tile frame table) (runOf (blocksOf (tile .width) (tile .height)) (cutOut bytes tile frame table) 0 (stateOf r₀ readers₀ left₀ (memoryOf y₀ u₀ v₀ columns₀ modes₀ strengths₀))) k answer row (stateOf r readers left (memoryOf y u v columns modes strengths))
+Inv-rows bytes tile frame table y₀ u₀ v₀ columns₀ modes₀ strengths₀ wide high blocks first r₀ readers₀ left₀ k₀ answer₀ reads₀ width row₀ y u v columns modes strengths r readers left k answer reads row =
+    AtRow (cutOut bytes tile frame table) (totalOf (cutOut bytes tile frame table) (stateOf r₀ readers₀ left₀ (memoryOf y₀ u₀ v₀ columns₀ modes₀ strengths₀))) k answer row (stateOf r readers left (memoryOf y u v columns modes strengths)) reads
 
 abbrev μ-rows : tie.MeasureT-rows
-μ-rows bytes tile frame table y₀ u₀ v₀ columns₀ modes₀ strengths₀ wide high blocks first r₀ readers₀ left₀ k₀ answer₀ width row₀ y u v columns modes strengths r readers left k answer row =
+μ-rows bytes tile frame table y₀ u₀ v₀ columns₀ modes₀ strengths₀ wide high blocks first r₀ readers₀ left₀ k₀ answer₀ reads₀ width row₀ y u v columns modes strengths r readers left k answer reads row =
     tile .height / 16 - row
 
 -- places: the function's start from the outer loop, the outer loop from the inner, the inner from the call
@@ -59,8 +63,8 @@ pic c = let a = start c .args in cutOut (a .bytes .now) (a .tile) (a .frame) (a 
 abbrev mem₀ : tie.At-rows Inv-across μ-across Inv-rows μ-rows → Memory
 mem₀ c = let a = start c .args in memoryOf (a .y .now) (a .u .now) (a .v .now) (a .columns .now) (a .modes .now) (a .strengths .now)
 
-abbrev end : tie.At-rows Inv-across μ-across Inv-rows μ-rows → Ended
-end c = runOf (pic c .wide * pic c .high) (pic c) 0 (stateOf (start c .args .tile .reader) (c .before .before .openers .result) (c .before .empty .result) (mem₀ c))
+abbrev end : tie.At-rows Inv-across μ-across Inv-rows μ-rows → Total
+end c = totalOf (pic c) (stateOf (start c .args .tile .reader) (c .before .before .openers .result) (c .before .empty .result) (mem₀ c))
 
 abbrev state : tie.At-across Inv-across μ-across Inv-rows μ-rows → State
 state c = let l = c .across in stateOf (l .r) (l .readers) (l .left) (memoryOf (l .y) (l .u) (l .v) (l .columns) (l .modes) (l .strengths))
@@ -78,7 +82,7 @@ token-bytes : (c : tie.At-rows Inv-across μ-across Inv-rows μ-rows) (q : ℕ) 
 token-bytes c q = part-bytes _ (spanAt (start c .args .tile) q) (bytes-known c)
 
 -- in the inner loop the run goes on
-here : (c : tie.In-across Inv-across μ-across Inv-rows μ-rows) → Going (pic (outer c)) (end (outer c)) (c .before .across .k) (state (c .before))
+here : (c : tie.In-across Inv-across μ-across Inv-rows μ-rows) → Going (pic (outer c)) (end (outer c)) (c .before .across .k) (state (c .before)) (c .before .across .reads)
 here c = c .before .across .inv .going _ (outer c .rows .inv .going)
 
 -- the place of macroblock k
@@ -103,9 +107,13 @@ small c = mul-le-mul (shared c .wide) (shared c .high)
 less : (c : tie.In-across Inv-across μ-across Inv-rows μ-rows) → c .before .across .k < pic (outer c) .wide * pic (outer c) .high
 less c = less-from _ _ _ _ _ (c .before .across .inv .place) (outer c .rows .inv .place) (c .across-test .taken) _ (c .before .before .before .before .rows-test .taken)
 
+-- all that the picture reads
+most : (c : tie.At-rows Inv-across μ-across Inv-rows μ-rows) → AtMost 1048576 (end c .reads)
+most c = total-most (shared c) (first-bytes c) (λ q h. token-bytes c q) (live-from (c .before .before .openers .ensures) (c .before .empty .ensures) (start c .pre .1)) (small c)
+
 -- the call that ended the picture
 abbrev stop : tie.After-stopped Inv-across μ-across Inv-rows μ-rows → tie.After-turn Inv-across μ-across Inv-rows μ-rows
-stop c = c .before .before .before .before .before .before .before .before .before .before .before .before .before .before
+stop c = c .before .before .before .before .before .before .before .before .before .before .before .before .before .before .before
 
 abbrev after : tie.After-turn Inv-across μ-across Inv-rows μ-rows → Turned
 after c =
@@ -117,8 +125,16 @@ turned-is : (c : tie.After-turn Inv-across μ-across Inv-rows μ-rows) → (let 
 turned-is c =
     let i = inner c in
     let o = outer i in
-    turn-at (pic o) (i .before .across .k) (state (i .before)) (i .before .across .column) (o .rows .row) (i .before .before .before .pick .result) _ _ (c .turn .ensures)
+    turn-at (pic o) (i .before .across .k) (state (i .before)) (i .before .across .column) (o .rows .row) (i .before .before .before .pick .result) _ _ (c .turn .ensures .0)
     (o .before .before .before .before .part .ensures) (in-column i) (in-row i) (picked i) (i .before .before .token .ensures)
+
+-- and so is what it read
+counted : (c : tie.After-turn Inv-across μ-across Inv-rows μ-rows) → (let i = inner c in c .turn .result .reads ≡ readsAt (pic (outer i)) (i .before .across .k) (state (i .before)))
+counted c =
+    let i = inner c in
+    let o = outer i in
+    reads-in (pic o) (i .before .across .k) (state (i .before)) (i .before .across .column) (i .before .before .before .pick .result) _ _ (c .turn .ensures .1)
+    (o .before .before .before .before .part .ensures) (in-column i) (picked i) (i .before .before .token .ensures)
 
 ends : (c : tie.In-across Inv-across μ-across Inv-rows μ-rows) → (x : Finished) → stepAt (pic (outer c)) (c .before .across .k) (state (c .before)) ≡ finished x → Ends (pic (outer c) .first) (pic (outer c) .token (partitionOf (pic (outer c)) (c .before .across .k))) (planesIn (state (c .before) .mem)) x
 ends c = ends-at (pic (outer c)) (state (c .before)) (c .before .across .k) (shared (outer c)) (here c .live) (less c) (first-bytes (outer c)) (token-bytes (outer c) _)
@@ -137,8 +153,8 @@ ended c =
     record { y = l .y ∙ sym (m .y); u = l .u ∙ sym (m .u); v = l .v ∙ sym (m .v); columns = l .columns ∙ sym (m .columns); modes = l .modes ∙ sym (m .modes); strengths = l .strengths ∙ sym (m .strengths) }
 
 -- the run from the readers opened and the empty context
-begin : (c : tie.At-rows Inv-across μ-across Inv-rows μ-rows) → end c ≡ runOf (pic c .wide * pic c .high) (pic c) 0 (startOf (start c .args .bytes .now) (start c .args .tile) (mem₀ c))
-begin c = λ i. runOf (pic c .wide * pic c .high) (pic c) 0 (stateOf (start c .args .tile .reader) (c .before .before .openers .ensures i) (c .before .empty .ensures i) (mem₀ c))
+begin : (c : tie.At-rows Inv-across μ-across Inv-rows μ-rows) → end c ≡ totalOf (pic c) (startOf (start c .args .bytes .now) (start c .args .tile) (mem₀ c))
+begin c = λ i. totalOf (pic c) (stateOf (start c .args .tile .reader) (c .before .before .openers .ensures i) (c .before .empty .ensures i) (mem₀ c))
 
 -- src/rows.rt:91:18
 mul-blocks : tie.Need-mul-blocks Inv-across μ-across Inv-rows μ-rows
@@ -195,6 +211,12 @@ turn-requires c κs =
       (laid-in p (state (i .before)) (i .before .across .k) t l (less i) (in-column i) (in-row i), room-in p (state (i .before)) (i .before .across .k) t l (less i) (in-column i)),
     )
 
+plus-requires : tie.Need-plus-requires Inv-across μ-across Inv-rows μ-rows
+plus-requires c κs =
+    let b = c .before .before .before .before .before .before .before .before .before .before .before .before in
+    let i = inner b in
+    going-able (shared (outer i)) (here i) (less i) (counted b) (most (outer i))
+
 -- src/rows.rt:130:30
 enum-known-finish : tie.Need-enum-known-finish Inv-across μ-across Inv-rows μ-rows
 enum-known-finish c = search needs
@@ -205,31 +227,31 @@ stopped-requires c κs = search needs
 
 -- src/rows.rt:136:13
 mul-readers : tie.Need-mul-readers Inv-across μ-across Inv-rows μ-rows
-mul-readers c = omega (arith, pick-eight (inner (c .before .before .before .before .before .before .before .before .before .before .before .before .before .before .before .before .before) .before .before .before))
+mul-readers c = omega (arith, pick-eight (inner (c .before .before .before .before .before .before .before .before .before .before .before .before .before .before .before .before .before .before) .before .before .before))
 
 -- src/rows.rt:136:13
 array-set-from-readers : tie.Need-array-set-from-readers Inv-across μ-across Inv-rows μ-rows
-array-set-from-readers c = omega (arith, pick-eight (inner (c .before .before .before .before .before .before .before .before .before .before .before .before .before .before .before .before .before) .before .before .before))
+array-set-from-readers c = omega (arith, pick-eight (inner (c .before .before .before .before .before .before .before .before .before .before .before .before .before .before .before .before .before .before) .before .before .before))
 
 -- src/rows.rt:138:17
 add-k : tie.Need-add-k Inv-across μ-across Inv-rows μ-rows
-add-k c = let i = inner (c .before .before .before .before .before .before .before .before .before .before .before .before .before .before .before .before .before .before) in omega (arith, less i, small (outer i))
+add-k c = let i = inner (c .before .before .before .before .before .before .before .before .before .before .before .before .before .before .before .before .before .before .before) in omega (arith, less i, small (outer i))
 
 -- src/rows.rt:102:22
 add-column : tie.Need-add-column Inv-across μ-across Inv-rows μ-rows
-add-column c = let i = inner (c .before .before .before .before .before .before .before .before .before .before .before .before .before .before .before .before .before .before) in omega (arith, i .across-test .taken, shared (outer i) .wide)
+add-column c = let i = inner (c .before .before .before .before .before .before .before .before .before .before .before .before .before .before .before .before .before .before .before) in omega (arith, i .across-test .taken, shared (outer i) .wide)
 
 -- src/rows.rt:102:9
 across-less : tie.Need-across-less Inv-across μ-across Inv-rows μ-rows
-across-less c = let i = inner (c .before .before .before .before .before .before .before .before .before .before .before .before .before .before .before .before .before .before) in omega (arith, i .across-test .taken)
+across-less c = let i = inner (c .before .before .before .before .before .before .before .before .before .before .before .before .before .before .before .before .before .before .before) in omega (arith, i .across-test .taken)
 
 -- src/rows.rt:102:9
 across-again : tie.Need-across-again Inv-across μ-across Inv-rows μ-rows
 across-again c =
-    let b = c .before .before .before .before .before .before .before .before .before .before .before .before .before .before .before .before .before .before in
+    let b = c .before .before .before .before .before .before .before .before .before .before .before .before .before .before .before .before .before .before .before in
     let i = inner b in
     record {
-      going = λ E g. going-next (shared (outer i)) (i .before .across .inv .going E g) (less i) (after b) (turned-is b) (c .before .before .before .before .finish .given .1) (ends i) (picked i);
+      going = λ E g. going-next (shared (outer i)) (i .before .across .inv .going E g) (less i) (counted b) (c .before .before .before .before .before .before .plus .ensures) (after b) (turned-is b) (c .before .before .before .before .finish .given .1) (ends i) (picked i);
       place = omega (arith, i .before .across .inv .place);
       upto = omega (arith, i .across-test .taken);
       fine = i .before .across .inv .fine;
@@ -237,7 +259,7 @@ across-again c =
 
 -- src/rows.rt:99:16
 add-row : tie.Need-add-row Inv-across μ-across Inv-rows μ-rows
-add-row c = search needs
+add-row c = omega (arith, c .before .before .before .before .rows-test .taken, shared (c .before .before .before .before .before) .high)
 
 -- src/rows.rt:99:5
 rows-less : tie.Need-rows-less Inv-across μ-across Inv-rows μ-rows
@@ -279,7 +301,8 @@ returns : tie.Need-returns Inv-across μ-across Inv-rows μ-rows
 returns c =
     let l = c .before .rows in
     let p = pic (c .before) in
-    going-end (l .inv .going) (omega (arith, l .inv .place, mul-comm (p .wide) (p .high), mul-le-mul-right {m = p .high} {n = l .row} (p .wide) (c .rows-test .left))) (l .inv .fine) ∙ begin (c .before)
+    let e = going-end (l .inv .going) (omega (arith, l .inv .place, mul-comm (p .wide) (p .high), mul-le-mul-right {m = p .high} {n = l .row} (p .wide) (c .rows-test .left))) (l .inv .fine) in
+    both-are e (begin (c .before))
 
 -- src/rows.rt:67:1
 same-length-7 : tie.Need-same-length-7 Inv-across μ-across Inv-rows μ-rows
@@ -310,7 +333,7 @@ returns-2 : tie.Need-returns-2 Inv-across μ-across Inv-rows μ-rows
 returns-2 c =
     let b = stop c in
     let i = inner b in
-    going-refused (shared (outer i)) (here i) (less i) (after b) (turned-is b) (not-done (b .turn .result .answer) (c .before .match .keys2)) (c .stopped .ensures) ∙ begin (outer i)
+    both-are (going-refused (shared (outer i)) (here i) (less i) (counted b) (c .before .before .plus .ensures) (after b) (turned-is b) (not-done (b .turn .result .answer) (c .before .match .keys2)) (c .stopped .ensures)) (begin (outer i))
 
 pub rows-spec : {M : Type 1} → statement M
 rows-spec =
@@ -332,6 +355,7 @@ rows-spec =
     mul-t
     array-copy-out-t
     turn-requires
+    plus-requires
     enum-known-finish
     stopped-requires
     mul-readers

@@ -1,9 +1,10 @@
 use mathlib.Core.Path.{_≡_}
 use Rattle.lent.specs.Memory.{Memory, memoryOf}
 use Rattle.lent.specs.Records.{columnAt}
+use Rattle.macroblock.specs.Counts.{readsOf}
 use Rattle.macroblock.specs.Macroblock.{Planes, Finished, Step, finished, stepOf, toMacroblockCalled}
 use Rattle.picture.specs.Picture.{besideOf, planesIn}
-use Rattle.picture.specs.TurnLaws.{Ends, ends-of, call-is, column-is, turn-stopped, turn-done}
+use Rattle.picture.specs.TurnLaws.{Ends, ends-of, call-is, call-reads, column-is, turn-stopped, turn-done}
 use Rattle.picture.proofs.Answers.{not-done}
 use borrow.Author.Needs.{needs}
 use Rattle.picture.proofs.turn.turn.Statement.{statement}
@@ -18,8 +19,8 @@ use Rattle.macroblock.proofs.whole.decode.Reads as decode-reads
 use Rattle.picture.proofs.turn.beside.Reads as beside-reads
 
 -- places: the call from behind it, and the function's start
-abbrev called : tie.After-slice-known9 → tie.After-decode
-called c = c .before .before .before .before .before .before
+abbrev called : tie.After-reads → tie.After-decode
+called c = c .before .before .before .before .before .before .before .before
 
 abbrev start : tie.After-decode → tie.Start
 start c = c .before .before .before .before .before .before .before .before .before .before .before .before .before .before .before .before .before .before
@@ -36,10 +37,18 @@ step c =
 abbrev painted : tie.After-decode → Planes
 painted c = let l = c .decode .last .1 .1 .1 .1 .1 .1 .1 in record { y = l .0; u = l .1 .0; v = l .1 .1 .0 }
 
-answer : (c : tie.After-decode) → record { answer = c .decode .result; planes = painted c } ≡ toMacroblockCalled (planesIn (before c)) (step c)
+answer : (c : tie.After-decode) → record { answer = c .decode .result .outcome; planes = painted c } ≡ toMacroblockCalled (planesIn (before c)) (step c)
 answer c =
     let p = start c .pre in
-    call-is _ _ _ _ _ _ _ _ _ (c .decode .ensures)
+    call-is _ _ _ _ _ _ _ _ _ (c .decode .ensures .0)
+    (column-is _ _ (c .before .before .before .before .before .before .read-column .ensures) (p .1 .1 .columns))
+    (c .before .before .before .before .beside .ensures)
+    (p .0) (p .1 .0)
+
+counted : (c : tie.After-decode) → (let a = start c .args in let t = a .task in c .decode .result .reads ≡ readsOf (a .first .now) (a .tokens .now) (t .readers) (t .frame) (a .table .now) (record { top = columnAt (a .columns .now) (t .place .column); left = besideOf (t .place .column) (t .left) }))
+counted c =
+    let p = start c .pre in
+    call-reads _ _ _ _ _ _ _ _ _ (c .decode .ensures .1)
     (column-is _ _ (c .before .before .before .before .before .before .read-column .ensures) (p .1 .1 .columns))
     (c .before .before .before .before .beside .ensures)
     (p .0) (p .1 .0)
@@ -86,7 +95,7 @@ same-length-4 c = search needs
 
 -- src/turn.rt:93:9
 returns : tie.Need-returns
-returns c = let d = called (c .before .before) in turn-stopped _ _ _ (before d) (step d) (answer d) (not-done (d .decode .result .answer) (c .before .match .keys2))
+returns c = let d = called (c .before .before) in (turn-stopped _ _ _ (before d) (step d) (answer d) (not-done (d .decode .result .outcome .answer) (c .before .match .keys2)), counted d)
 
 -- src/turn.rt:103:5
 write-column-requires : tie.Need-write-column-requires
@@ -132,7 +141,7 @@ returns-2 c =
     let q = o .before .before .before .before .before in
     let t = q .before .before .before .before .before .before .before .before in
     let d = called (t .before .before) in
-    turn-done _ _ _ (before d) (t .answer .given .1) (start d .pre .1 .1) (q .write-column .ensures) (o .write-mode-record .ensures) (w .write-strength .ensures) (step d) (answer d) (ends d)
+    (turn-done _ _ _ (before d) (t .answer .given .1) (start d .pre .1 .1) (q .write-column .ensures) (o .write-mode-record .ensures) (w .write-strength .ensures) (step d) (answer d) (ends d), counted d)
 
 pub turn-spec : {M : Type 1} → statement M
 turn-spec =

@@ -1,3 +1,4 @@
+-- `block` meets its contract: with arguments in range the checked call is the grammar's block.
 use native.Mathlib.Omega.{arith}
 use mathlib.Core.Path.{_∙_, ap}
 use lib.IntN.{pos}
@@ -6,6 +7,7 @@ use mir.Syntax.{w32}
 use Rattle.numbers.specs.Hand.{back}
 use Rattle.residual.proofs.Answers.{not-ended}
 use Rattle.residual.specs.Residual.{zeroOf}
+use Rattle.residual.specs.ResidualSteps.{BlockPart, coded-read}
 use Rattle.residual.proofs.Turns.{kind-fine, sixteen-fine, advance-lost, advance-read}
 use borrow.Author.Needs.{needs}
 use Rattle.residual.proofs.blocks.block.Statement.{statement}
@@ -17,41 +19,47 @@ kind-of-requires c κs = search needs
 location-requires : tie.Need-location-requires
 location-requires c κs = search needs
 
-mul-sixteen : tie.Need-mul-sixteen
-mul-sixteen c = search needs
-
-sixteen-requires : tie.Need-sixteen-requires
-sixteen-requires c κs = search needs
-
 context-at-requires : tie.Need-context-at-requires
 context-at-requires c κs =
     let h = c .before .before .before .before .pre .0 in
     let q = c .location .ensures .1 in
     ((h .whole .top, h .whole .left), (omega (arith, q .0), omega (arith, q .1)))
 
-read-coded-requires : tie.Need-read-coded-requires
-read-coded-requires c κs =
-    let n = c .before .before .before in
-    let p = n .before in
-    let b = p .before .before .before .before in
-    let a = b .args in
-    let h = b .pre .0 in
-    ((h .reader, h .size), ((kind-fine (a .f) (a .small) (a .i) (p .before .kind-of .ensures), n .context-at .ensures .1), sixteen-fine _ (c .before .sixteen .ensures) (h .whole .each)))
+mul-sixteen : tie.Need-mul-sixteen
+mul-sixteen c = search needs
 
-enum-known-end : tie.Need-enum-known-end
-enum-known-end c = search needs
+sixteen-requires : tie.Need-sixteen-requires
+sixteen-requires c κs = search needs
+
+decode-requires : tie.Need-decode-requires
+decode-requires c κs = search needs
+
+enum-known-answer : tie.Need-enum-known-answer
+enum-known-answer c = search needs
 
 same-length : tie.Need-same-length
 same-length c = search needs
+
+abbrev start : tie.After-decode → tie.Start
+start c = c .before .before .before .before .before .before .before .before .before
+
+-- the block as it was read
+part : (c : tie.After-decode) → (let a = start c .args in let n = c .before .before .before .before in BlockPart (a .table .now) (n .before .before .kind-of .result) (n .context-at .result) (c .before .before .sixteen .result) (a .s .now) (a .m .reader) (c .decode .result) (c .decode .last .1 .1 .1 .1 .1 .1 .1 .1 .0))
+part c =
+    let b = start c in
+    let a = b .args in
+    let h = b .pre .0 in
+    let n = c .before .before .before .before in
+    coded-read _ _ _ _ _ _ (h .reader) (h .size) (kind-fine (a .f) (a .small) (a .i) (n .before .before .kind-of .ensures)) (n .context-at .ensures .1) (sixteen-fine _ (c .before .before .sixteen .ensures) (h .whole .each)) (c .decode .ensures)
 
 returns : tie.Need-returns
 returns c =
     let x = c .before in
     let n = x .before .before .before .before in
     let p = n .before in
-    let a = p .before .before .before .before .args in
+    let a = start x .args in
     advance-lost (a .s .now) (a .table .now) (a .f) (a .m) (a .flat .now) (a .small) (a .i) (p .before .kind-of .ensures) (p .location .ensures .0) (x .before .before .sixteen .ensures)
-    (n .context-at .ensures .0) (x .read-coded .result) (x .read-coded .last .1 .1 .1 .1 .1 .0) (x .read-coded .ensures) (not-ended _ (x .read-coded .result) (c .match .keys2))
+    (n .context-at .ensures .0) (part x) (not-ended _ (x .decode .result .answer) (c .match .keys2))
 
 mul-store : tie.Need-mul-store
 mul-store c = search needs
@@ -76,12 +84,12 @@ returns-2 c =
     let z = c .before .before .before in
     let d = z .before .before .before in
     let x = d .before .before .before .before .before .before in
-    let l = x .read-coded .last .1 .1 .1 .1 .1 .0 in
+    let l = x .decode .last .1 .1 .1 .1 .1 .1 .1 .1 .0 in
     let n = x .before .before .before .before in
     let p = n .before in
-    let a = p .before .before .before .before .args in
+    let a = start x .args in
     advance-read (a .s .now) (a .table .now) (a .f) (a .m) (a .flat .now) (a .small) (a .i) (p .before .kind-of .ensures) (p .location .ensures .0) (x .before .before .sixteen .ensures)
-    (n .context-at .ensures .0) (x .read-coded .result) l (x .read-coded .ensures) (d .before .before .before .before .end .given .1) (d .store .ensures)
+    (n .context-at .ensures .0) (part x) (d .before .before .before .before .answer .given .1) (d .store .ensures)
     (z .zero .ensures ∙ ap zeroOf (back w32 {z = getD l 0 (pos 0)} (z .before .zero-arg .given))) (c .passed .ensures)
 
 pub block-spec : {M : Type 1} → statement M
@@ -93,8 +101,8 @@ block-spec =
     context-at-requires
     mul-sixteen
     sixteen-requires
-    read-coded-requires
-    enum-known-end
+    decode-requires
+    enum-known-answer
     same-length
     returns
     mul-store

@@ -3,17 +3,18 @@ use native.Mathlib.Omega.{arith}
 use mathlib.Core.Path.{sym, _∙_}
 use borrow.Author.Tests.{not-true, not-false}
 use Rattle.reader.specs.Reading.{run}
+use Rattle.reader.specs.Trace.{count}
 use Rattle.residual.specs.Residual.{blocksFrom}
 use Rattle.residual.specs.ResidualSteps.{modelOf}
-use Rattle.residual.proofs.Turns.{Going, going-start, going-end, going-missing, going-next}
+use Rattle.residual.proofs.Turns.{Going, going-start, going-end, turn-few, going-missing, going-next}
 use Rattle.residual.proofs.blocks.blocks.Statement.{statement}
 use Rattle.residual.proofs.blocks.blocks.Tie as tie
 
 abbrev Inv-loop : tie.InvT-loop
-Inv-loop s table f small flat₀ m₀ i₀ flat m i = Going s table f small (run (blocksFrom table f small 24 0 (modelOf m₀ flat₀)) s (m₀ .reader)) i m flat
+Inv-loop s table f small flat₀ m₀ reads₀ i₀ flat m reads i = (let g = blocksFrom table f small 24 0 (modelOf m₀ flat₀) in Going s table f small (run g s (m₀ .reader)) (count g s (m₀ .reader)) i m flat reads)
 
 abbrev μ-loop : tie.MeasureT-loop
-μ-loop s table f small flat₀ m₀ i₀ flat m i = 24 - i
+μ-loop s table f small flat₀ m₀ reads₀ i₀ flat m reads i = 24 - i
 
 loop-holds : tie.Need-loop-holds Inv-loop μ-loop
 loop-holds c = going-start _ _ (c .before .before .pre)
@@ -21,15 +22,24 @@ loop-holds c = going-start _ _ (c .before .before .pre)
 block-requires : tie.Need-block-requires Inv-loop μ-loop
 block-requires c κs = (c .before .before .loop .inv .held, c .before .loop-test .taken)
 
+add-reads : tie.Need-add-reads Inv-loop μ-loop
+add-reads c =
+    let b = c .before .before in
+    let l = b .before .before .before in
+    let g = l .loop .inv in
+    let t = b .before .before .loop-test .taken in
+    record { fits = omega (arith, g .few, t, turn-few g t (b .block .result) _ (b .block .ensures) (λ i. l .before .shared-slice-known2 .given i .fits)) }
+
 same-length : tie.Need-same-length Inv-loop μ-loop
 same-length c =
-    let l = c .before .before .before .before .before .before in
-    c .before .before .flat .given ∙ (l .loop .inv .held .whole .long ∙ sym (l .before .before .before .pre .whole .long))
+    let l = c .before .before .before .before .before .before .before .before in
+    c .before .before .before .before .flat .given ∙ (l .loop .inv .held .whole .long ∙ sym (l .before .before .before .pre .whole .long))
 
 returns : tie.Need-returns Inv-loop μ-loop
 returns c =
-    let b = c .before .before .before in
-    going-missing (b .before .before .before .loop .inv) (b .before .before .loop-test .taken) (b .block .result) _ (b .block .ensures) (not-true _ (c .if1 .taken))
+    let b = c .before .before .before .before .before in
+    let g = going-missing (b .before .before .before .loop .inv) (b .before .before .loop-test .taken) (b .block .result) _ (b .block .ensures) (not-true _ (c .if1 .taken)) in
+    record { gave = g .0; took = g .1 }
 
 add-i : tie.Need-add-i Inv-loop μ-loop
 add-i c = omega arith
@@ -39,16 +49,16 @@ loop-less c = omega arith
 
 loop-again : tie.Need-loop-again Inv-loop μ-loop
 loop-again c =
-    let b = c .before .before .before .before in
+    let b = c .before .before .before .before .before in
     let l = b .before .before .before in
     going-next (l .loop .inv) (b .before .before .loop-test .taken) (b .block .result) _ (b .block .ensures)
-    (λ i. l .before .before .shared-slice-known .given i .fits) (λ i. l .before .shared-slice-known2 .given i .fits) (not-false _ (c .before .if1 .left))
+    (λ i. l .before .before .shared-slice-known .given i .fits) (λ i. l .before .shared-slice-known2 .given i .fits) (not-false _ (c .if1 .left))
 
 same-length-2 : tie.Need-same-length-2 Inv-loop μ-loop
 same-length-2 c = c .before .loop .inv .held .whole .long ∙ sym (c .before .before .before .before .pre .whole .long)
 
 returns-2 : tie.Need-returns-2 Inv-loop μ-loop
-returns-2 c = going-end (c .before .loop .inv) (c .loop-test .left)
+returns-2 c = let g = going-end (c .before .loop .inv) (c .loop-test .left) in record { gave = g .0; took = g .1 }
 
 pub blocks-spec : {M : Type 1} → statement M
 blocks-spec =
@@ -58,6 +68,7 @@ blocks-spec =
     μ-loop
     loop-holds
     block-requires
+    add-reads
     same-length
     returns
     add-i

@@ -4,7 +4,7 @@ use Rattle.residual.proofs.blocks.dc_stage.Statement.{statement}
 use Rattle.residual.proofs.blocks.dc_stage.Tie as tie
 
 returns : tie.Need-returns
-returns c = dc-small _ _ _ _ _ _ (c .if1 .taken)
+returns c = dc-small _ _ _ _ (c .if1 .taken) _ _
 
 read-second-requires : tie.Need-read-second-requires
 read-second-requires c κs = search needs

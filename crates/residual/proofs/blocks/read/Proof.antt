@@ -1,6 +1,8 @@
+use native.Mathlib.Omega.{arith}
 use borrow.Author.Tests.{not-true, not-false}
+use Rattle.reader.specs.BooleanLaws.{Bytes}
 use Rattle.residual.specs.ResidualSteps.{Held}
-use Rattle.residual.proofs.Turns.{first, first-held, dc-held, read-skipped, read-lost, read-on}
+use Rattle.residual.proofs.Turns.{first, first-held, dc-held, dc-few, rest-few, read-skipped, read-lost, read-on}
 use borrow.Author.Needs.{needs}
 use Rattle.residual.proofs.blocks.read.Statement.{statement}
 use Rattle.residual.proofs.blocks.read.Tie as tie
@@ -34,22 +36,40 @@ returns-2 c =
     let a = b .args in
     read-lost (a .s .now) (a .table .now) (a .f) (a .small) (a .skip) (a .r) (a .top) (a .left) (b .pre .1 .1) (d .before .before .if1 .left) (d .dc-stage .result) _ (d .dc-stage .ensures) (not-true _ (c .if2 .taken))
 
+-- what the first part leaves to the others
+abbrev start : tie.After-dc-stage → tie.Start
+start d = d .before .before .before .before .before
+
+probs : (d : tie.After-dc-stage) → Bytes (start d .args .table .now)
+probs d i = d .before .before .before .shared-slice-known2 .given i .fits
+
+left : (c : tie.Else2) → (let d = c .before .before .before in Held (start d .args .s .now) (start d .args .table .now) (d .dc-stage .result .state) (d .dc-stage .last .1 .1 .1 .1 .1 .0))
+left c =
+    let d = c .before .before .before in
+    let a = start d .args in
+    dc-held (a .table .now) (a .f) (a .small) (d .dc-stage .result) _ (begun (start d)) (probs d) (d .dc-stage .ensures) (λ i. d .before .before .before .before .shared-slice-known .given i .fits) (not-false _ (c .if2 .left))
+
 blocks-requires : tie.Need-blocks-requires
-blocks-requires c κs =
-    let d = c .before .before .before .before .before in
-    let b = d .before .before .before .before .before in
-    let a = b .args in
-    dc-held (a .table .now) (a .f) (a .small) (d .dc-stage .result) _ (begun b) (λ i. d .before .before .before .before .shared-slice-known .given i .fits) (λ i. d .before .before .before .shared-slice-known2 .given i .fits) (not-false _ (c .before .before .if2 .left)) (d .dc-stage .ensures)
+blocks-requires c κs = left (c .before .before)
+
+add-t21 : tie.Need-add-t21
+add-t21 c =
+    let e = c .before .before .before .before .before .before .before in
+    let d = e .before .before .before in
+    let a = start d .args in
+    let b = c .before .before .before .before in
+    record { fits = omega (arith, dc-few (a .table .now) (a .f) (a .small) (d .dc-stage .result) _ (begun (start d)) (probs d) (d .dc-stage .ensures), rest-few (a .table .now) (a .f) (a .small) (b .blocks2 .result) _ (left e) (probs d) (b .blocks2 .ensures)) }
 
 same-length-2 : tie.Need-same-length-2
 same-length-2 c = search needs
 
 returns-3 : tie.Need-returns-3
 returns-3 c =
-    let d = c .before .before .before .before .before .before .before in
-    let b = d .before .before .before .before .before in
-    let a = b .args in
-    read-on (a .s .now) (a .table .now) (a .f) (a .small) (a .skip) (a .r) (a .top) (a .left) (b .pre .1 .1) (d .before .before .if1 .left) (d .dc-stage .result) _ (d .dc-stage .ensures) (not-false _ (c .before .before .before .before .if2 .left)) (c .before .blocks2 .ensures)
+    let e = c .before .before .before .before .before .before .before in
+    let d = e .before .before .before in
+    let a = start d .args in
+    let b = c .before .before .before .before in
+    read-on (a .s .now) (a .table .now) (a .f) (a .small) (a .skip) (a .r) (a .top) (a .left) (start d .pre .1 .1) (d .before .before .if1 .left) (d .dc-stage .result) _ (d .dc-stage .ensures) (not-false _ (e .if2 .left)) (b .blocks2 .result) _ (b .blocks2 .ensures)
 
 pub read-spec : {M : Type 1} → statement M
 read-spec =
@@ -61,5 +81,6 @@ read-spec =
     same-length
     returns-2
     blocks-requires
+    add-t21
     same-length-2
     returns-3)
