@@ -1,5 +1,7 @@
--- tokens: definitions, the steps of a block and of its count, laws that callers cite
+-- tokens: definitions, the steps of a block and of its count, laws that callers cite; the same over a wide reader
 pub mod Block
 pub mod BlockSteps
 pub mod CountSteps
 pub mod BlockLaws
+pub mod Fast
+pub mod FastLaws

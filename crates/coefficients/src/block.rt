@@ -33,7 +33,7 @@ ghost use Rattle.coefficients.specs.CountSteps.{costs, countGiven};
 // The band of a position, and where its number stands in the block.
 pub(crate) const BANDS: [u8; 16] = [0, 1, 2, 3, 6, 4, 5, 6, 6, 6, 6, 6, 6, 6, 6, 7];
 
-const ZIGZAG: [u8; 16] = [0, 1, 4, 8, 5, 2, 3, 6, 9, 12, 13, 10, 7, 11, 14, 15];
+pub(crate) const ZIGZAG: [u8; 16] = [0, 1, 4, 8, 5, 2, 3, 6, 9, 12, 13, 10, 7, 11, 14, 15];
 
 // The symbols of each token, with its number's bits and its sign, where its walk starts at the root. After a zero it does not, so the token
 // there is counted one too many, and a zero therefore one too few; a zero at the last position is put right after the loop.
@@ -158,7 +158,7 @@ pub(crate) fn read_signed(s: &[u8], r: Reader, token: u8, q: u16) -> Signed
 // ---- a block
 
 // What a table of the sixteen positions has for one of them.
-fn entry(table: &[u8; 16], n: usize) -> usize
+pub(crate) fn entry(table: &[u8; 16], n: usize) -> usize
     requires { ⌜ n < 16 ⌝ }
     requires { ⌜ ((k : ℕ) → getD (now table) k 0 < 16) ⌝ }
     ensures { λ r. ⌜ (r ≡ getD (now (table .entry)) n 0) × (r < 16) ⌝ }
@@ -175,7 +175,7 @@ pub(crate) fn place(table: &[u8; 16], kind: usize, n: usize, ctx: usize) -> usiz
     ((kind * 8 + entry(table, n)) * 3 + ctx) * 11
 }
 
-fn quantizer(n: usize, q0: u16, q1: u16) -> u16
+pub(crate) fn quantizer(n: usize, q0: u16, q1: u16) -> u16
     ensures { λ r. ⌜ r ≡ quantizerAt n q0 q1 ⌝ }
 {
     if n == 0 { q0 } else { q1 }
@@ -311,7 +311,7 @@ pub fn dequant(s: &[u8], r: Reader, token: u8, q: u16) -> Signed
     read_signed(s, r, token, q)
 }
 
-fn arguments(table: &[u8], kind: usize, ctx: usize, first: usize) -> bool
+pub(crate) fn arguments(table: &[u8], kind: usize, ctx: usize, first: usize) -> bool
     ensures { λ r. ⌜ r ≡ blockArguments (now (table .entry)) kind ctx first ⌝ }
 {
     (table.len() == PROBABILITY_COUNT) & ((kind < 4) & ((ctx < 3) & (first <= 1)))

@@ -26,7 +26,7 @@ use Rattle.reader.specs.TreesLaws.{passes}
 use Rattle.reader.specs.Token.{tokenTree, tokenStart, token, elevenAt}
 use Rattle.reader.specs.TokenLaws.{eleven-part}
 use Rattle.reader.specs.Extra.{extraFrom, extra}
-use Rattle.reader.specs.ExtraLaws.{asks-next}
+use Rattle.reader.specs.ExtraLaws.{extra-asks}
 use Rattle.reader.specs.Counts.{Costs, ends, asks, treeCount, tokenCount, extraCount, tokenReads}
 
 -- ---- one symbol
@@ -164,13 +164,13 @@ module _ (s ps : List ℕ) (v i : ℕ) (r : Reader) where
   module _ (h : i < length ps) where
     pub bits-missing : run (symbol (getD ps i 0)) s r ≡ missing → count (extraFrom v (drop i ps)) s r ≡ 0
     bits-missing e =
-        ap (λ m. count m s r) (asks-next s ps v i r h)
+        ap (λ m. count m s r) (extra-asks ps v i h)
         ∙ count-stops (λ b. extraFrom (v + v + bitOf b) (drop (i + 1) ps)) s (symbol (getD ps i 0)) r e
         ∙ symbol-missing (getD ps i 0) s r e
 
     pub bits-got : {b : Bool} {q : Reader} → run (symbol (getD ps i 0)) s r ≡ given b q → count (extraFrom v (drop i ps)) s r ≡ suc (count (extraFrom (v + v + bitOf b) (drop (i + 1) ps)) s q)
     bits-got {b} {q} e =
-        ap (λ m. count m s r) (asks-next s ps v i r h)
+        ap (λ m. count m s r) (extra-asks ps v i h)
         ∙ count-then (λ b. extraFrom (v + v + bitOf b) (drop (i + 1) ps)) s (symbol (getD ps i 0)) r e
         ∙ ap (λ (k : ℕ). k + count (extraFrom (v + v + bitOf b) (drop (i + 1) ps)) s q) (symbol-got (getD ps i 0) s r e)
         ∙ omega arith

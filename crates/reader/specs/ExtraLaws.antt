@@ -24,21 +24,25 @@ use Rattle.numbers.specs.Flags.{bitOf, bit-small}
 use Rattle.reader.specs.Extra.{extraFrom, extra, toNumber, extraOf, extraAnswer}
 
 -- ---- one bit at a time, at index i
+module _ (ps : List ℕ) (v i : ℕ) where
+  pub extra-ends : length ps ≤ i → extraFrom v (drop i ps) ≡ done v
+  unfolding extraFrom
+  extra-ends h = rw (drop-of-length-le ps h, extraFrom)
+
+  pub extra-asks : i < length ps → extraFrom v (drop i ps) ≡ (symbol (getD ps i 0) >>= λ b. extraFrom (v + v + bitOf b) (drop (i + 1) ps))
+  unfolding extraFrom
+  extra-asks h = rw (drop-cons ps i 0 h, add-one, extraFrom)
+
 module _ (s ps : List ℕ) (v i : ℕ) (r : Reader) where
   pub extra-end : length ps ≤ i → run (extraFrom v (drop i ps)) s r ≡ given v r
-  unfolding extraFrom
-  extra-end h = rw (drop-of-length-le ps h, extraFrom) (run-done v s r)
+  extra-end h = ap (λ m. run m s r) (extra-ends ps v i h) ∙ run-done v s r
 
   module _ (h : i < length ps) where
-    pub asks-next : extraFrom v (drop i ps) ≡ (symbol (getD ps i 0) >>= λ b. extraFrom (v + v + bitOf b) (drop (i + 1) ps))
-    unfolding extraFrom
-    asks-next = rw (drop-cons ps i 0 h, add-one, extraFrom)
-
     pub extra-missing : run (symbol (getD ps i 0)) s r ≡ missing → run (extraFrom v (drop i ps)) s r ≡ missing
-    extra-missing e = ap (λ m. run m s r) asks-next ∙ run-stops (λ b. extraFrom (v + v + bitOf b) (drop (i + 1) ps)) s (symbol (getD ps i 0)) r e
+    extra-missing e = ap (λ m. run m s r) (extra-asks ps v i h) ∙ run-stops (λ b. extraFrom (v + v + bitOf b) (drop (i + 1) ps)) s (symbol (getD ps i 0)) r e
 
     pub extra-got : {b : Bool} {q : Reader} → run (symbol (getD ps i 0)) s r ≡ given b q → run (extraFrom v (drop i ps)) s r ≡ run (extraFrom (v + v + bitOf b) (drop (i + 1) ps)) s q
-    extra-got e = ap (λ m. run m s r) asks-next ∙ run-then (λ b. extraFrom (v + v + bitOf b) (drop (i + 1) ps)) s (symbol (getD ps i 0)) r e
+    extra-got e = ap (λ m. run m s r) (extra-asks ps v i h) ∙ run-then (λ b. extraFrom (v + v + bitOf b) (drop (i + 1) ps)) s (symbol (getD ps i 0)) r e
 
 -- every path asks as many symbols as there are probabilities, and gives a number of as many bits
 extra-from-within : (ps : List ℕ) (v m : ℕ) → Bytes ps → v < m → Within (λ x. x < m * 2 ^ length ps) (length ps) (extraFrom v ps)

@@ -23,7 +23,7 @@ use Rattle.transform.specs.TransformLaws.{transform-good}
 use Rattle.coefficients.specs.declared.block.Block.the-variants as B
 use Rattle.coefficients.specs.declared.block.BlockRead.{BlockRead}
 use Rattle.transform.specs.declared.Transformed.{Transformed}
-use Rattle.residual.specs.Residual.{Model, Flags, ModelInRange, initial, coordinates, secondKind, kindOf, zeroOf, coded, spread, secondPlace, second, sixteenAt, storedAt, advance, blocksFrom, dcStage, cleared, residualOf, noResidual, toResidualCalled, residualAnswer}
+use Rattle.residual.specs.Residual.{Model, Flags, ModelInRange, initial, coordinates, secondKind, kindOf, zeroOf, coded, spread, secondPlace, second, sixteenAt, stored, advance, blocksFrom, dcStage, cleared, residualOf, noResidual, toResidualCalled, residualAnswer}
 use Rattle.residual.specs.ResidualLaws.{kind-in, initial-whole, zeros-sixteen, sixteen-in, sixteen-fit, second-within, advance-within, blocks-few}
 use Rattle.residual.specs.ResidualSteps.{modelOf, turnOf, Part, BlockPart, Held, coded-at, coded-count, second-count, second-missing, second-ended, advance-count, advance-missing, advance-ended, blocks-none, blocks-missing, blocks-next, blocks-count-none, blocks-count-missing, blocks-count-next, residual-skip, residual-missing, residual-next, residual-count-skip, residual-count-missing, residual-count-next, call-missing, call-handed}
 use Rattle.residual.specs.declared.Ended.the-variants as E
@@ -68,7 +68,7 @@ module _ (s table : List ℕ) (f : Factors) (m : State) (flat : List ℤ) where
     pub advance-lost : fromBlock l (a .answer) ≡ missing → Part (advance table f small i (modelOf m flat)) s (m .reader) (record { ended = false; state = m; reads = a .reads }) flat
     advance-lost h = record { gave = advance-missing table f s (modelOf m flat) (m .reader) small i (wanted ∙ h); took = paid }
 
-    pub advance-read : {end : ℕ} {q : Reader} → a .answer ≡ B.Ended end q → {to : List ℤ} → to ≡ storedAt flat (16 * i) l → {z : Bool} → z ≡ zeroOf (getD l 0 (pos 0))
+    pub advance-read : {end : ℕ} {q : Reader} → a .answer ≡ B.Ended end q → {to : List ℤ} → to ≡ stored flat (16 * i) l → {z : Bool} → z ≡ zeroOf (getD l 0 (pos 0))
         → {n : State} → n ≡ after m q k p end (m .empty && (leb end 1 && z)) → Part (advance table f small i (modelOf m flat)) s (m .reader) (record { ended = true; state = n; reads = a .reads }) to
     advance-read {end} {q} h {to} j {z} t {n} o =
         record { gave = rw (o, e, c, j, t) (advance-ended table f s (modelOf m flat) (m .reader) small i (wanted ∙ ap (fromBlock l) h)); took = paid }

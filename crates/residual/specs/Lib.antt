@@ -3,3 +3,5 @@ pub mod Residual
 pub mod ResidualSteps
 pub mod ResidualLaws
 pub mod ResidualSource
+pub mod Quick
+pub mod QuickLaws

@@ -10,8 +10,6 @@ use lib.ListN.{length, getD, set, replicate}
 use Rattle.header.specs.Entries.{probabilityCount}
 use Rattle.numbers.specs.Flags.{bitOf}
 use Rattle.numbers.specs.In.{Each}
-use Rattle.numbers.specs.Lists.{build}
-use Rattle.numbers.specs.Runs.{placed}
 use Rattle.numbers.specs.Tables.{allBelow}
 use Rattle.reader.specs.Boolean.{Given, given, missing, validOf, noReader}
 use Rattle.header.specs.Header.{headerOf}
@@ -20,6 +18,8 @@ use Rattle.reader.specs.Trace.{count}
 use Rattle.reader.specs.declared.boolean.Reader.{Reader}
 use Rattle.header.specs.Quantizers.{factorsOf}
 use Rattle.header.specs.declared.quantizers.Factors.{Factors}
+unfoldable pub use Rattle.coefficients.specs.Fast.{sixteenAt}
+pub use Rattle.coefficients.specs.Fast.{stored}
 use Rattle.coefficients.specs.Block.{Coefficients, block, headerTable}
 use Rattle.transform.specs.Transform.{samplesOf}
 use Rattle.residual.specs.declared.Ended.{Ended}
@@ -102,13 +102,6 @@ second table f m = do
   done (flagged (secondKind f) secondPlace (c .end) (spread (m .coefficients) (samplesOf true (c .values)) 16) (m .empty) m)
 
 -- ---- block i of the 24
--- the sixteen numbers from a place on, and sixteen others put there
-unfoldable pub sixteenAt : List ℤ → (at : ℕ) → List ℤ
-sixteenAt l at = build 16 (λ j. getD l (at + j) (pos 0))
-
-abbrev pub storedAt : List ℤ → (at : ℕ) → (c : List ℤ) → List ℤ
-storedAt l at c = placed l at (λ j. getD c j (pos 0)) 16
-
 abbrev pub zeroOf : ℤ → Bool
 zeroOf (pos zero) = true
 zeroOf (pos (suc n)) = false
@@ -122,7 +115,7 @@ module _ (table : List ℕ) (f : Factors) (small : Bool) where
   unfoldable pub advance : (i : ℕ) → Model → Reading Model
   advance i m = do
     c ← coded table (kindOf f small i) (coordinates i) (m .top) (m .left) (sixteenAt (m .coefficients) (16 * i))
-    done (flagged (kindOf f small i) (coordinates i) (c .end) (storedAt (m .coefficients) (16 * i) (c .values)) (m .empty && emptyOf c) m)
+    done (flagged (kindOf f small i) (coordinates i) (c .end) (stored (m .coefficients) (16 * i) (c .values)) (m .empty && emptyOf c) m)
 
   -- n more blocks, from block i on
   unfoldable pub blocksFrom : (n i : ℕ) → Model → Reading Model

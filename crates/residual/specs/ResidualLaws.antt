@@ -74,6 +74,10 @@ flag-in false = omega arith
 flags-set : {l : List ℕ} → Flags l → (x : ℕ) {v : ℕ} → v ≤ 1 → Flags (set l x v)
 flags-set {l} h x {v} k = record { long = length-set l x v ∙ h .long; each = set-keeps (λ (n : ℕ). n ≤ 1) l x v 0 k (h .each) }
 
+-- after a block
+pub flags-flagged : {l : List ℕ} → Flags l → (x : ℕ) (on : Bool) → Flags (set l x (bitOf on))
+flags-flagged h x on = flags-set h x (flag-in on)
+
 flags-none : Flags (replicate 9 0)
 flags-none = record { long = refl; each = λ i. rw (getD-constant {A = ℕ} 9 i 0) (omega arith) }
 
@@ -91,7 +95,7 @@ pub initial-whole : {top left : List ℕ} → Flags top → Flags left → Model
 initial-whole t l = record { top = t; left = l; long = length-replicate 384 (pos 0); each = zeros-each 384 }
 
 flagged-whole : {m : Model} → ModelInRange m → (k : Kind) (p : FlagsAt) (end : ℕ) {l : List ℤ} (e : Bool) → length l ≡ 384 → Each (negsuc 32767) (pos 32767) l → ModelInRange (flagged k p end l e m)
-flagged-whole w k p end e n h = record { top = flags-set (w .top) (p .x) (flag-in (ltb (k .first) end)); left = flags-set (w .left) (p .y) (flag-in (ltb (k .first) end)); long = n; each = h }
+flagged-whole w k p end e n h = record { top = flags-flagged (w .top) (p .x) (ltb (k .first) end); left = flags-flagged (w .left) (p .y) (ltb (k .first) end); long = n; each = h }
 
 -- ---- the flat list
 pub zeros-sixteen : Sixteen (replicate 16 (pos 0))

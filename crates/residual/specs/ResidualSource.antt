@@ -22,7 +22,7 @@ use Rattle.reader.specs.declared.boolean.Reader.{Reader}
 use Rattle.header.specs.declared.quantizers.Factors.{Factors}
 use Rattle.coefficients.specs.Block.{Coefficients}
 use Rattle.transform.specs.Transform.{samplesOf}
-use Rattle.residual.specs.Residual.{Model, initial, coordinates, secondKind, kindOf, coded, flagged, spread, secondPlace, second, sixteenAt, storedAt, emptyOf, blocksFrom, cleared, residualOf}
+use Rattle.residual.specs.Residual.{Model, initial, coordinates, secondKind, kindOf, coded, flagged, spread, secondPlace, second, sixteenAt, stored, emptyOf, blocksFrom, cleared, residualOf}
 use Rattle.residual.specs.ResidualLaws.{length-spread}
 use Rattle.residual.specs.ResidualSteps.{second-missing, second-ended, advance-missing, advance-ended, blocks-none, blocks-missing, blocks-next}
 use Rattle.residual.specs.declared.blocks.Kind.{Kind}
@@ -163,15 +163,15 @@ module _ (dc : List ℤ) (blocks : List (List ℤ)) (i : ℕ) where
     off : (j : ℕ) → (j / 16 ≡ i → ⊥) → Off (16 * i) 16 j
     off j o = ⊎-elim (λ (h : j < 16 * i). inl h) (λ (h : 16 * i ≤ j). inr (omega arith)) (lt-or j (16 * i))
 
-    stored-read : storedAt (flatTo i dc blocks) (16 * i) v ≡ flatTo (i + 1) dc (set blocks i v)
+    stored-read : stored (flatTo i dc blocks) (16 * i) v ≡ flatTo (i + 1) dc (set blocks i v)
     unfolding flatTo
     stored-read = built _ 384 (flatAt (i + 1) dc (set blocks i v)) (pos 0) (length-placed (flatTo i dc blocks) (16 * i) (λ k. getD v k (pos 0)) 16 ∙ length-flat) at
       where
-        at : (j : ℕ) → j < 384 → getD (storedAt (flatTo i dc blocks) (16 * i) v) j (pos 0) ≡ flatAt (i + 1) dc (set blocks i v) j
+        at : (j : ℕ) → j < 384 → getD (stored (flatTo i dc blocks) (16 * i) v) j (pos 0) ≡ flatAt (i + 1) dc (set blocks i v) j
         at j h = elim (eq-or (j / 16) i) [
           | inl e ↦
               let q : j ≡ 16 * i + j % 16 = omega arith in
-              ap (λ (x : ℕ). getD (storedAt (flatTo i dc blocks) (16 * i) v) x (pos 0)) q
+              ap (λ (x : ℕ). getD (stored (flatTo i dc blocks) (16 * i) v) x (pos 0)) q
               ∙ placed-in (flatTo i dc blocks) (16 * i) (λ k. getD v k (pos 0)) 16 (j % 16) (pos 0) (rw length-flat (omega arith)) (omega arith) ∙ own j e
           | inr o ↦ placed-off (flatTo i dc blocks) (16 * i) (λ k. getD v k (pos 0)) 16 j (pos 0) (off j o) ∙ flat-at j h ∙ other j o
         ]

@@ -35,7 +35,7 @@ use Rattle.coefficients.specs.Block as tokens
 use Rattle.coefficients.specs.declared.block.BlockRead.{BlockRead}
 use Rattle.coefficients.specs.declared.block.Table.{Table}
 use Rattle.transform.specs.Transform.{samplesOf}
-use Rattle.residual.specs.Residual.{Model, Flags, ModelInRange, initial, coordinates, secondKind, kindOf, coded, flagged, spread, secondPlace, second, sixteenAt, storedAt, emptyOf, advance, blocksFrom, dcStage, cleared, residualOf, noResidual, toResidualCalled, flagsOf, residualArguments, residualAnswer, residualCallOf, residualByHeaderOf, residualReads, headerReads}
+use Rattle.residual.specs.Residual.{Model, Flags, ModelInRange, initial, coordinates, secondKind, kindOf, coded, flagged, spread, secondPlace, second, sixteenAt, stored, emptyOf, advance, blocksFrom, dcStage, cleared, residualOf, noResidual, toResidualCalled, flagsOf, residualArguments, residualAnswer, residualCallOf, residualByHeaderOf, residualReads, headerReads}
 use Rattle.residual.specs.declared.Ended.the-variants as E
 use Rattle.residual.specs.declared.Residual.{Residual}
 use Rattle.residual.specs.declared.ResidualRead.{ResidualRead}
@@ -115,14 +115,14 @@ module _ (table : List ℕ) (f : Factors) (s : List ℕ) (m : Model) (r : Reader
   module _ (small : Bool) (i : ℕ) where
     pub advance-count : count (advance table f small i m) s r ≡ count (coded table (kindOf f small i) (coordinates i) (m .top) (m .left) (sixteenAt (m .coefficients) (16 * i))) s r
     unfolding advance
-    advance-count = count-map (λ (c : Coefficients). flagged (kindOf f small i) (coordinates i) (c .end) (storedAt (m .coefficients) (16 * i) (c .values)) (m .empty && emptyOf c) m) s (coded table (kindOf f small i) (coordinates i) (m .top) (m .left) (sixteenAt (m .coefficients) (16 * i))) r
+    advance-count = count-map (λ (c : Coefficients). flagged (kindOf f small i) (coordinates i) (c .end) (stored (m .coefficients) (16 * i) (c .values)) (m .empty && emptyOf c) m) s (coded table (kindOf f small i) (coordinates i) (m .top) (m .left) (sixteenAt (m .coefficients) (16 * i))) r
 
     pub advance-missing : run (coded table (kindOf f small i) (coordinates i) (m .top) (m .left) (sixteenAt (m .coefficients) (16 * i))) s r ≡ missing → run (advance table f small i m) s r ≡ missing
     unfolding advance
     advance-missing e = run-stops _ s (coded table (kindOf f small i) (coordinates i) (m .top) (m .left) (sixteenAt (m .coefficients) (16 * i))) r e
 
     pub advance-ended : {c : Coefficients} {q : Reader} → run (coded table (kindOf f small i) (coordinates i) (m .top) (m .left) (sixteenAt (m .coefficients) (16 * i))) s r ≡ given c q
-        → run (advance table f small i m) s r ≡ given (flagged (kindOf f small i) (coordinates i) (c .end) (storedAt (m .coefficients) (16 * i) (c .values)) (m .empty && emptyOf c) m) q
+        → run (advance table f small i m) s r ≡ given (flagged (kindOf f small i) (coordinates i) (c .end) (stored (m .coefficients) (16 * i) (c .values)) (m .empty && emptyOf c) m) q
     unfolding advance
     advance-ended {c} {q} e = run-then _ s (coded table (kindOf f small i) (coordinates i) (m .top) (m .left) (sixteenAt (m .coefficients) (16 * i))) r e ∙ run-done _ s q
 

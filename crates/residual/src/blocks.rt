@@ -48,7 +48,7 @@ pub(crate) struct Turn {
     pub reads: u64,
 }
 
-fn second_kind(f: Factors) -> Kind
+pub(crate) fn second_kind(f: Factors) -> Kind
     ensures { λ k. ⌜ k ≡ secondKind f ⌝ }
 {
     Kind {
@@ -59,7 +59,7 @@ fn second_kind(f: Factors) -> Kind
     }
 }
 
-fn kind_of(f: Factors, small: bool, i: usize) -> Kind
+pub(crate) fn kind_of(f: Factors, small: bool, i: usize) -> Kind
     ensures { λ k. ⌜ k ≡ kindOf f small i ⌝ }
 {
     if 16 <= i {
@@ -145,7 +145,7 @@ fn read_second(s: &[u8], table: &[u8], f: Factors, m: State, flat: &mut [i32]) -
     }
 }
 
-fn zero(v: i32) -> bool
+pub(crate) fn zero(v: i32) -> bool
     ensures { λ b. ⌜ b ≡ zeroOf v ⌝ }
 {
     v == 0

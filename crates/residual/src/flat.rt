@@ -2,7 +2,7 @@
 ghost use mathlib.Core.Path.{_≡_};
 ghost use Prim.Native.Nat.{_+_, _≤_};
 ghost use lib.ListN.{length};
-ghost use Rattle.residual.specs.Residual.{sixteenAt, storedAt, spread};
+ghost use Rattle.residual.specs.Residual.{sixteenAt, stored, spread};
 
 // The sixteen from a place on.
 pub(crate) fn sixteen(flat: &[i32], at: usize) -> [i32; 16]
@@ -21,7 +21,7 @@ pub(crate) fn sixteen(flat: &[i32], at: usize) -> [i32; 16]
 // Sixteen stored from a place on.
 pub(crate) fn store(flat: &mut [i32], at: usize, c: &[i32; 16])
     requires { ⌜ at + 16 ≤ length (now flat) ⌝ }
-    ensures { λ _. ⌜ now (flat .exit) ≡ storedAt (now (flat .entry)) at (now (c .entry)) ⌝ }
+    ensures { λ _. ⌜ now (flat .exit) ≡ stored (now (flat .entry)) at (now (c .entry)) ⌝ }
 {
     let mut j = 0;
     while j < 16 {

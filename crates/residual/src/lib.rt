@@ -2,6 +2,7 @@
 use crate::blocks::read;
 use crate::contexts::flags_fine;
 use crate::flat::hand_over;
+use crate::quick::read_quick;
 use coefficients::block::probabilities;
 use header::entries::PROBABILITY_COUNT;
 use header::quantizers::Factors;
@@ -20,6 +21,7 @@ ghost use Rattle.residual.specs.Residual.{residualReads, headerReads};
 mod blocks;
 mod contexts;
 mod flat;
+mod quick;
 
 // The reader after the macroblock, and whether it is empty; Missing where a byte was; Refused where an argument is out of range.
 pub enum Ended {
@@ -41,7 +43,7 @@ pub struct ResidualRead {
     pub reads: u64,
 }
 
-fn no_residual(answer: Ended, reads: u64) -> ResidualRead
+pub(crate) fn no_residual(answer: Ended, reads: u64) -> ResidualRead
     ensures { λ q. ⌜ q ≡ record { residual = noResidual answer; reads = reads } ⌝ }
 {
     let residual = Residual {
@@ -55,7 +57,7 @@ fn no_residual(answer: Ended, reads: u64) -> ResidualRead
     }
 }
 
-// Arguments in range. The coefficients reach `out` only where all of them were read.
+// Arguments in range, one block after the other. The coefficients reach `out` only where all of them were read.
 fn read_residual(
     s: &[u8],
     r: Reader,
@@ -94,6 +96,35 @@ fn read_residual(
     }
 }
 
+// The same, all blocks at once where the partition has bytes enough, and else one after the other.
+fn read_fast(
+    s: &[u8],
+    r: Reader,
+    table: &[u8],
+    f: Factors,
+    small: bool,
+    skip: bool,
+    top: [u8; 9],
+    left: [u8; 9],
+    out: &mut [i32],
+) -> ResidualRead
+    requires { ⌜ Valid (now s) r × (length (now table) ≡ probabilityCount) ⌝ }
+    requires { ⌜ (Flags top × Flags left) × (length (now out) ≡ 384) ⌝ }
+    ensures { λ q. ⌜ (record { answer = q .residual; out = now (out .exit) }
+        ≡ residualAnswer (now (s .entry)) r (now (table .entry)) f small skip top left (now (out .entry)))
+        × (q .reads ≡ count (residualOf (now (table .entry)) f small skip top left) (now (s .entry)) r) ⌝ }
+{
+    if skip {
+        return read_residual(s, r, table, f, small, skip, top, left, out);
+    }
+    let q = read_quick(s, r, table, f, small, top, left, out);
+    if q.fine {
+        let read = q.read;
+        return read;
+    }
+    read_residual(s, r, table, f, small, skip, top, left, out)
+}
+
 fn arguments(table: &[u8], top: [u8; 9], left: [u8; 9], size: usize) -> bool
     ensures { λ b. ⌜ b ≡ residualArguments (now (table .entry)) top left size ⌝ }
 {
@@ -122,7 +153,7 @@ pub fn decode(
     if !arguments(table, top, left, out.len()) {
         return no_residual(Ended::Refused, 0);
     }
-    read_residual(s, r, table, f, small, skip, top, left, out)
+    read_fast(s, r, table, f, small, skip, top, left, out)
 }
 
 // `decode` with a header and a segment in place of the table and the factors.

@@ -27,8 +27,8 @@ no-residual-requires-2 c κs = search needs
 returns-2 : tie.Need-returns-2
 returns-2 c = decode-arguments _ _ _ _ _ _ _ _ _ (c .no-residual2 .ensures) (sym (c .before .before .arguments .ensures) ∙ not-true _ (c .before .if2 .taken))
 
-read-residual-requires : tie.Need-read-residual-requires
-read-residual-requires c κs =
+read-fast-requires : tie.Need-read-fast-requires
+read-fast-requires c κs =
     let b = c .before .before .before .before .before .before .before in
     let a = b .args in
     let g = b .good .1 .1 .1 .1 .1 .1 in
@@ -42,7 +42,7 @@ returns-3 : tie.Need-returns-3
 returns-3 c =
     let v = sym (c .before .before .before .before .before .before .valid .ensures) ∙ not-false _ (c .before .before .before .before .before .if1 .left) in
     let a = sym (c .before .before .before .before .arguments .ensures) ∙ not-false _ (c .before .before .before .if2 .left) in
-    let e = c .before .read-residual .ensures in
+    let e = c .before .read-fast .ensures in
     (e .0 ∙ decode-passed _ _ _ _ _ _ _ _ _ v a, e .1 ∙ reads-passed _ _ _ _ _ _ _ _ _ v a)
 
 pub decode-spec : {M : Type 1} → statement M
@@ -55,6 +55,6 @@ decode-spec =
     arguments-requires
     no-residual-requires-2
     returns-2
-    read-residual-requires
+    read-fast-requires
     same-length
     returns-3)

@@ -10,7 +10,7 @@ use Rattle.residual.specs.Residual.{residualOf}
 use Rattle.residual.specs.ResidualLaws.{fromResidual, fromEnded, decoded, decode-ends}
 use Rattle.header.specs.Frame.{factorsAt}
 use Rattle.reader.specs.Trace.{count}
-use Rattle.residual.specs.ResidualLaws as ResidualLaws
+use Rattle.residual.specs.ResidualLaws.{reads-good}
 use Rattle.macroblock.specs.Counts.{readsMade, tokenReads}
 use Rattle.macroblock.specs.MacroblockLaws.{tokens-missing, tokens-done, painting}
 use denote.Enum.Declared.{tagOf}
@@ -62,7 +62,8 @@ counted : (c : tie.After-c2) → (let a = start c .args in c .before .decode .re
 counted c =
     let a = start c .args in
     let p = start c .pre .0 in
-    ResidualLaws.decode-reads _ _ _ _ _ _ _ _ _ (p .token) (record { size = p .size; top-flags = p .top; left-flags = p .left; long = refl }) (c .before .decode .ensures .1)
+    c .before .decode .ensures .1
+    ∙ reads-good _ _ _ _ _ _ _ _ _ (p .token) (record { size = p .size; top-flags = p .top; left-flags = p .left; long = refl })
     ∙ ap (λ (f : Factors). count (residualOf (a .table .now) f (a .m .kinds .small) (a .m .kinds .skip) (a .around .top .flags) (a .around .left .flags)) (a .tokens .now) (a .t)) (c .before .before .before .factors-of .ensures ∙ ap (factorsAt (a .frame)) (c .before .before .before .before .index .ensures))
 
 abbrev at-c2 : tie.After-known-told → tie.After-c2

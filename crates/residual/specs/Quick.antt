@@ -1,0 +1,61 @@
+-- A macroblock over a wide reader, part after part: part 0 is the second-order block, part i + 1 is block i. Their numbers stand in one list,
+-- sixteen a part, so the 384 of the macroblock stand behind the sixteen of the second-order block.
+use Prim.Native.Nat.{ℕ, zero, suc, _+_, _*_}
+use mathlib.Core.Bool.{Bool, true, false, _&&_}
+use mathlib.Core.List.{List, _++_}
+use mathlib.Core.Path.{_≡_}
+use lib.Dec.{leb}
+use lib.IntN.{ℤ, pos}
+use lib.ListN.{getD, take, drop}
+use Rattle.reader.specs.Reading.{Reading, done, _>>=_}
+use Rattle.reader.specs.Trace.{count}
+use Rattle.reader.specs.declared.boolean.Reader.{Reader}
+use Rattle.header.specs.declared.quantizers.Factors.{Factors}
+use Rattle.transform.specs.Transform.{transformOf}
+use Rattle.residual.specs.Residual.{Model, secondKind, kindOf, secondPlace, coordinates, sixteenAt, spread, zeroOf, second, advance, residualOf, residualAnswer}
+use Rattle.residual.specs.declared.blocks.Kind.{Kind}
+use Rattle.residual.specs.declared.contexts.FlagsAt.{FlagsAt}
+use Rattle.residual.specs.declared.quick.Quick.{Quick}
+use Rattle.residual.specs.declared.quick.Wider.{Wider}
+
+abbrev pub modelAt : Wider → (flat : List ℤ) → Model
+modelAt m flat = record { top = m .top; left = m .left; coefficients = drop 16 flat; empty = m .empty }
+
+-- ---- the parts
+module _ (f : Factors) (small : Bool) where
+  abbrev pub kindAt : (j : ℕ) → Kind
+  kindAt zero = secondKind f
+  kindAt (suc i) = kindOf f small i
+
+abbrev pub placeAt : (j : ℕ) → FlagsAt
+placeAt zero = secondPlace
+placeAt (suc i) = coordinates i
+
+module _ (table : List ℕ) (f : Factors) (small : Bool) where
+  unfoldable pub partOf : (j : ℕ) → Model → Reading Model
+  partOf zero m = second table f m
+  partOf (suc i) m = advance table f small i m
+
+  -- n more parts, from part j on
+  unfoldable pub partsFrom : (n j : ℕ) → Model → Reading Model
+  partsFrom zero j m = done m
+  partsFrom (suc n) j m = do
+    next ← partOf j m
+    partsFrom n (suc j) next
+
+-- ---- what a part that was read leaves
+-- the transform of a second-order block gives the first coefficient of each luma block
+abbrev pub settledOf : (j : ℕ) → List ℤ → List ℤ
+settledOf zero flat = take 16 flat ++ spread (drop 16 flat) (transformOf (sixteenAt flat 0) true .samples) 16
+settledOf (suc i) flat = flat
+
+abbrev pub emptyAfter : (j end : ℕ) → Bool → List ℤ → Bool
+emptyAfter zero end empty flat = empty
+emptyAfter (suc i) end empty flat = empty && (leb end 1 && zeroOf (getD flat (16 * suc i) (pos 0)))
+
+-- ---- the whole: where the end was not passed it is the call's answer and the count of M-103; else nothing is written
+abbrev pub QuickWhere : Bool → List ℕ → Reader → List ℕ → Factors → (small : Bool) → (top left : List ℕ) → (old new : List ℤ) → Quick → Type 0
+QuickWhere true s r table f small top left old new q =
+    (record { answer = q .read .residual; out = new } ≡ residualAnswer s r table f small false top left old)
+    × (q .read .reads ≡ count (residualOf table f small false top left) s r)
+QuickWhere false s r table f small top left old new q = new ≡ old

@@ -1,0 +1,206 @@
+// A macroblock over a wide reader: all of its blocks are read over bytes that zeros follow, then one look says whether the partition's end
+// was passed. Where it was, nothing is kept, and the blocks are read again one by one.
+use crate::Ended;
+use crate::Residual;
+use crate::ResidualRead;
+use crate::blocks::Kind;
+use crate::blocks::kind_of;
+use crate::blocks::second_kind;
+use crate::blocks::zero;
+use crate::contexts::FlagsAt;
+use crate::contexts::flagged;
+use crate::contexts::location;
+use crate::contexts::near;
+use crate::flat::hand_over;
+use crate::flat::sixteen;
+use crate::flat::spread;
+use crate::no_residual;
+use coefficients::fast::coded_block;
+use header::quantizers::Factors;
+use reader::boolean::Reader;
+use transform::transform;
+use wide::wide::Wide;
+use wide::wide::inside;
+use wide::wide::narrow;
+use wide::wide::widen;
+ghost use mathlib.Core.Path.{_≡_};
+ghost use mathlib.Core.Bool.{true, false};
+ghost use Prim.Native.Nat.{_+_, _*_, _<_, _≤_};
+ghost use lib.IntN.{pos};
+ghost use lib.ListN.{length, replicate};
+ghost use Rattle.header.specs.Entries.{probabilityCount};
+ghost use Rattle.reader.specs.BooleanLaws.{Valid};
+ghost use Rattle.transform.specs.Transform.{transformOf};
+ghost use Rattle.wide.specs.Counted.{counted};
+ghost use Rattle.wide.specs.WideRuns.{Reads};
+ghost use Rattle.residual.specs.Residual.{Flags, sixteenAt, residualOf};
+ghost use Rattle.residual.specs.Quick.{modelAt, kindAt, placeAt, partOf, settledOf, emptyAfter, QuickWhere};
+ghost use Rattle.residual.specs.QuickLaws.{Ready, Parted};
+
+// What goes from block to block. The numbers stand beside it: sixteen of the second-order block, then the 384 of the macroblock.
+pub(crate) struct Wider {
+    pub next: Wide,
+    pub reads: u64,
+    pub top: [u8; 9],
+    pub left: [u8; 9],
+    pub empty: bool,
+}
+
+// The residual of a macroblock and its symbols, where its end was not passed.
+pub(crate) struct Quick {
+    pub fine: bool,
+    pub read: ResidualRead,
+}
+
+// Part 0 is the second-order block, part i + 1 is block i.
+fn kind_at(f: Factors, small: bool, j: usize) -> Kind
+    ensures { λ k. ⌜ k ≡ kindAt f small j ⌝ }
+{
+    if j == 0 {
+        return second_kind(f);
+    }
+    kind_of(f, small, j - 1)
+}
+
+fn place_at(j: usize) -> FlagsAt
+    requires { ⌜ j < 25 ⌝ }
+    ensures { λ p. ⌜ (p ≡ placeAt j) × ((p .x < 9) × (p .y < 9)) ⌝ }
+{
+    if j == 0 {
+        return FlagsAt { x: 8, y: 8 };
+    }
+    location(j - 1)
+}
+
+// The second-order block's transform gives the first coefficient of each luma block.
+fn spread_second(flat: &mut [i32])
+    requires { ⌜ length (now flat) ≡ 400 ⌝ }
+    ensures { λ _. ⌜ now (flat .exit) ≡ settledOf 0 (now (flat .entry)) ⌝ }
+{
+    let c = sixteen(flat, 0);
+    let t = transform(&c, true);
+    let dc = t.samples;
+    spread(&mut flat[16..400], &dc);
+}
+
+// What a part that was read leaves: whether the macroblock is still empty.
+fn settle(flat: &mut [i32], j: usize, end: usize, empty: bool) -> bool
+    requires { ⌜ (length (now flat) ≡ 400) × (j < 25) ⌝ }
+    ensures { λ b. ⌜ (now (flat .exit) ≡ settledOf j (now (flat .entry))) × (b ≡ emptyAfter j end empty (now (flat .entry))) ⌝ }
+{
+    if j == 0 {
+        spread_second(flat);
+        return empty;
+    }
+    empty & ((end <= 1) & zero(flat[16 * j]))
+}
+
+// A part in the context of its two flags.
+fn part(
+    s: &[u8],
+    table: &[u8],
+    f: Factors,
+    small: bool,
+    m: Wider,
+    j: usize,
+    flat: &mut [i32],
+) -> Wider
+    requires { ⌜ Ready (now table) m j (now flat) × (j < 25) ⌝ }
+    ensures { λ q. ⌜ Parted (now (s .entry)) (now (table .entry)) f small m j (now (flat .entry)) q (now (flat .exit)) ⌝ }
+{
+    let k = kind_at(f, small, j);
+    let p = place_at(j);
+    let top = m.top;
+    let left = m.left;
+    let ctx = near(top, left, p.x, p.y);
+    let b = coded_block(
+        s,
+        m.next,
+        table,
+        k.kind,
+        ctx,
+        k.first,
+        k.q0,
+        k.q1,
+        flat,
+        16 * j,
+    );
+    let empty = settle(flat, j, b.end, m.empty);
+    let on = k.first < b.end;
+    let top_after = flagged(top, p.x, on);
+    let left_after = flagged(left, p.y, on);
+    let next = b.next;
+    Wider {
+        next: next,
+        reads: m.reads + b.reads,
+        top: top_after,
+        left: left_after,
+        empty: empty,
+    }
+}
+
+// All parts, from numbers that are zeros. Small modes have no second-order block.
+fn parts(s: &[u8], table: &[u8], f: Factors, small: bool, start: Wider, flat: &mut [i32]) -> Wider
+    requires { ⌜ (length (now table) ≡ probabilityCount) × (now flat ≡ replicate 400 (pos 0)) ⌝ }
+    requires { ⌜ (Flags (start .top) × Flags (start .left)) × ((start .reads ≡ 0) × (start .empty ≡ true)) ⌝ }
+    ensures { λ q. ⌜ Reads (now (s .entry)) 0 30400 (counted 0 (residualOf (now (table .entry)) f small false (start .top) (start .left)))
+        (start .next) (modelAt q (now (flat .exit)), q .reads) (q .next) × (length (now (flat .exit)) ≡ 400) ⌝ }
+{
+    let mut m = start;
+    let mut j = small as usize;
+    while j < 25 {
+        m = part(s, table, f, small, m, j, flat);
+        j = j + 1;
+    }
+    m
+}
+
+// The macroblock. Its coefficients reach `out` only where its end was not passed.
+pub(crate) fn read_quick(
+    s: &[u8],
+    r: Reader,
+    table: &[u8],
+    f: Factors,
+    small: bool,
+    top: [u8; 9],
+    left: [u8; 9],
+    out: &mut [i32],
+) -> Quick
+    requires { ⌜ Valid (now s) r × (length (now table) ≡ probabilityCount) ⌝ }
+    requires { ⌜ (Flags top × Flags left) × (length (now out) ≡ 384) ⌝ }
+    ensures { λ q. ⌜ QuickWhere (q .fine) (now (s .entry)) r (now (table .entry)) f small top left
+        (now (out .entry)) (now (out .exit)) q ⌝ }
+{
+    let mut flat = [0; 400];
+    let start = Wider {
+        next: widen(r),
+        reads: 0,
+        top: top,
+        left: left,
+        empty: true,
+    };
+    let m = parts(s, table, f, small, start, &mut flat[..]);
+    let w = m.next;
+    if !inside(s, w) {
+        return Quick {
+            fine: false,
+            read: no_residual(Ended::Missing, 0),
+        };
+    }
+    hand_over(out, &flat[16..400]);
+    let top_after = m.top;
+    let left_after = m.left;
+    let residual = Residual {
+        answer: Ended::Done(narrow(s, w), m.empty),
+        top: top_after,
+        left: left_after,
+    };
+    let read = ResidualRead {
+        residual: residual,
+        reads: m.reads,
+    };
+    Quick {
+        fine: true,
+        read: read,
+    }
+}

@@ -1,0 +1,83 @@
+-- The boolean decoder with a window of 64 bits: what its calls give, for every input. Arithmetic wraps as the code's does.
+use Prim.Native.Nat.{ℕ, _+_, _-_, _*_, _/_, _%_, _^_}
+use mathlib.Core.List.{List}
+use mathlib.Core.Bool.{Bool, true, false}
+use lib.ListN.{length, getD}
+use lib.Dec.{ltb, leb}
+use lib.Count.{leadingZeros}
+use Rattle.reader.specs.declared.boolean.Reader.{Reader}
+use Rattle.wide.specs.declared.wide.Wide.{Wide}
+use Rattle.wide.specs.declared.wide.Bit.{Bit}
+
+-- a difference that wraps
+abbrev pub less32 : ℕ → ℕ → ℕ
+less32 a b = (a + (2 ^ 32 - b)) % 2 ^ 32
+
+abbrev pub less64 : ℕ → ℕ → ℕ
+less64 a b = (a + (2 ^ 64 - b)) % 2 ^ 64
+
+-- ---- four bytes more, zeros past the end, below the bits that are loaded
+abbrev pub fourOf : List ℕ → ℕ → ℕ
+fourOf s at = getD s at 0 * 16777216 + getD s (at + 1) 0 * 65536 + getD s (at + 2) 0 * 256 + getD s (at + 3) 0
+
+abbrev pub moreOf : List ℕ → Wide → Wide
+moreOf s w = record { at = (w .at + 4) % 2 ^ 64; value = (w .value + fourOf s (w .at) * 2 ^ (32 - w .count)) % 2 ^ 64; top = w .top; count = w .count + 32 }
+
+unfoldable pub fillOf : List ℕ → Wide → Wide
+fillOf s w = elim (leb 32 (w .count)) [ true ↦ w | false ↦ moreOf s w ]
+
+-- ---- one symbol. The split less one; a one is where the top eight bits are above it
+abbrev pub lowOf : Wide → ℕ → ℕ
+lowOf w prob = w .top % 256 * prob / 256
+
+abbrev pub onOf : Wide → ℕ → Bool
+onOf w prob = ltb (lowOf w prob) (w .value / 2 ^ 56)
+
+-- what the bit leaves of the range, and takes off the value
+abbrev pub rangeOf : ℕ → ℕ → Bool → ℕ
+rangeOf top x true = top - x
+rangeOf top x false = x + 1
+
+abbrev pub takenOf : ℕ → Bool → ℕ
+takenOf x true = (x + 1) * 2 ^ 56
+takenOf x false = 0
+
+-- the doublings at once: as many as the range has leading zeros of eight bits
+abbrev pub liftedOf : Wide → ℕ → ℕ → Wide
+liftedOf w value range =
+    record {
+      at = w .at;
+      value = value * 2 ^ leadingZeros 8 range % 2 ^ 64;
+      top = less32 (range * 2 ^ leadingZeros 8 range) 1;
+      count = less32 (w .count) (leadingZeros 8 range);
+    }
+
+unfoldable pub bitOf : Wide → ℕ → Bit
+bitOf w prob =
+    record {
+      on = onOf w prob;
+      next = liftedOf w (w .value - takenOf (lowOf w prob) (onOf w prob)) (rangeOf (w .top % 256) (lowOf w prob) (onOf w prob));
+    }
+
+-- ---- from a reader of sixteen bits and back
+unfoldable pub widenOf : Reader → Wide
+widenOf r = record { at = r .at; value = r .window * 2 ^ 48 % 2 ^ 64; top = less32 (r .range) 1; count = 16 - r .shifts % 8 }
+
+-- whether the next eight bits lie in s
+unfoldable pub insideOf : List ℕ → Wide → Bool
+insideOf s w = ltb (w .at) (length s + w .count / 8)
+
+abbrev pub backOf : ℕ → ℕ
+backOf count = count / 8 + (count % 8 + 7) / 8
+
+abbrev pub shiftsOf : ℕ → ℕ
+shiftsOf count = (8 - count % 8) % 8
+
+unfoldable pub narrowOf : List ℕ → Wide → Reader
+narrowOf s w =
+    record {
+      at = less64 ((w .at + 2) % 2 ^ 64) (backOf (w .count));
+      range = w .top % 256 + 1;
+      shifts = shiftsOf (w .count);
+      window = fillOf s w .value / 2 ^ 48 / 2 ^ shiftsOf (w .count) * 2 ^ shiftsOf (w .count);
+    }

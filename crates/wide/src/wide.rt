@@ -1,0 +1,243 @@
+// The boolean decoder with a window of 64 bits over bytes that zeros follow. Every call is total: WideLaws has what it says of a `Reader`.
+use reader::boolean::Reader;
+use std::num::wrapping_add_u64;
+use std::num::wrapping_add_usize;
+use std::num::wrapping_sub_u32;
+use std::num::wrapping_sub_usize;
+ghost use mathlib.Core.Path.{_≡_};
+ghost use mathlib.Core.Bool.{Bool, true, false};
+ghost use Prim.Native.Nat.{_<_, _≤_, _+_, _-_, _*_, _/_, _%_, _^_};
+ghost use lib.ListN.{length, getD};
+ghost use lib.Count.{leadingZeros};
+ghost use Rattle.wide.specs.Wide.{fourOf, fillOf, lowOf, rangeOf, takenOf, liftedOf, bitOf, widenOf, insideOf, backOf, narrowOf};
+
+// `at` is the next byte's place; `value` the loaded bits from the top on, less what was subtracted; `top` the range less one; `count` how
+// many bits are loaded.
+pub struct Wide {
+    pub at: usize,
+    pub value: u64,
+    pub top: u32,
+    pub count: u32,
+}
+
+// A symbol, and the reader after it.
+pub struct Bit {
+    pub on: bool,
+    pub next: Wide,
+}
+
+fn widest(x: u8) -> u64
+    ensures { λ r. ⌜ (r ≡ x) × (r < 256) ⌝ }
+{
+    x as u64
+}
+
+// The byte at a place; past the end it is zero.
+fn byte(s: &[u8], i: usize) -> u64
+    ensures { λ r. ⌜ (r ≡ getD (now (s .entry)) i 0) × (r < 256) ⌝ }
+{
+    if s.len() <= i {
+        return 0;
+    }
+    widest(s[i])
+}
+
+// Four bytes as a number, the first the highest.
+fn joined(a: u64, b: u64, c: u64, d: u64) -> u64
+    requires { ⌜ (a < 256) × (b < 256) × (c < 256) × (d < 256) ⌝ }
+    ensures { λ r. ⌜ (r ≡ a * 16777216 + b * 65536 + c * 256 + d) × (r < 4294967296) ⌝ }
+{
+    a * 16777216 + b * 65536 + c * 256 + d
+}
+
+// The four bytes from a place on; past the end they are zeros. The way past it is no call: so the compiler keeps `fill` small.
+fn four(s: &[u8], at: usize) -> u64
+    ensures { λ r. ⌜ (r ≡ fourOf (now (s .entry)) at) × (r < 4294967296) ⌝ }
+{
+    if 4 <= s.len() {
+        if at <= s.len() - 4 {
+            return joined(
+                widest(s[at]),
+                widest(s[at + 1]),
+                widest(s[at + 2]),
+                widest(s[at + 3]),
+            );
+        }
+    }
+    if s.len() <= at {
+        return 0;
+    }
+    byte(s, at) * 16777216 + byte(s, at + 1) * 65536 + byte(s, at + 2) * 256 + byte(s, at + 3)
+}
+
+// The split less one.
+fn low(top: u32, prob: u8) -> u32
+    requires { ⌜ top < 256 ⌝ }
+    ensures { λ r. ⌜ (r ≡ top * prob / 256) × (r ≤ top) × (r < 255) ⌝ }
+{
+    (top * (prob as u32)) >> 8
+}
+
+// The eight bits that decide a symbol.
+fn high(value: u64) -> u32
+    ensures { λ r. ⌜ (r ≡ value / 2 ^ 56) × (r < 256) ⌝ }
+{
+    (value >> 56) as u32
+}
+
+// What a bit takes off the value.
+fn taken(x: u32, on: bool) -> u64
+    requires { ⌜ x < 255 ⌝ }
+    ensures { λ r. ⌜ r ≡ takenOf x on ⌝ }
+{
+    if on {
+        return (x as u64 + 1) << 56;
+    }
+    0
+}
+
+// The part of the range that it chooses.
+fn part_of(top: u32, x: u32, on: bool) -> u32
+    requires { ⌜ (x ≤ top) × (x < 255) ⌝ }
+    ensures { λ r. ⌜ r ≡ rangeOf top x on ⌝ }
+{
+    if on {
+        return top - x;
+    }
+    x + 1
+}
+
+// The doublings at once, by the range's leading zeros of eight bits.
+fn scaled(w: Wide, value: u64, range: u32) -> Wide
+    requires { ⌜ range < 256 ⌝ }
+    ensures { λ q. ⌜ q ≡ liftedOf w value range ⌝ }
+{
+    let k = u8::leading_zeros(range as u8);
+    Wide {
+        at: w.at,
+        value: value << k,
+        top: wrapping_sub_u32(range << k, 1),
+        count: wrapping_sub_u32(w.count, k),
+    }
+}
+
+// The same; where the range is 128 or more, nothing: that is every other symbol.
+fn lifted(w: Wide, value: u64, range: u32) -> Wide
+    requires { ⌜ range < 256 ⌝ }
+    ensures { λ q. ⌜ q ≡ liftedOf w value range ⌝ }
+{
+    if 128 <= range {
+        return Wide {
+            at: w.at,
+            value: value,
+            top: range - 1,
+            count: w.count,
+        };
+    }
+    scaled(w, value, range)
+}
+
+impl Wide {
+    // Four bytes more where fewer than 32 bits are loaded: then four symbols can be read.
+    pub fn fill(self, s: &[u8]) -> Wide
+        ensures { λ q. ⌜ q ≡ fillOf (now (s .entry)) self ⌝ }
+    {
+        let at = self.at;
+        let count = self.count;
+        if 32 <= count {
+            return self;
+        }
+        Wide {
+            at: wrapping_add_usize(at, 4),
+            value: wrapping_add_u64(self.value, four(s, at) << (32 - count)),
+            top: self.top,
+            count: count + 32,
+        }
+    }
+
+    // One symbol.
+    pub fn bit(self, prob: u8) -> Bit
+        ensures { λ q. ⌜ q ≡ bitOf self prob ⌝ }
+    {
+        let top = self.top % 256;
+        let x = low(top, prob);
+        if x < high(self.value) {
+            return Bit {
+                on: true,
+                next: lifted(self, self.value - taken(x, true), part_of(top, x, true)),
+            };
+        }
+        Bit {
+            on: false,
+            next: lifted(self, self.value, part_of(top, x, false)),
+        }
+    }
+
+    // The same without a branch, where the bit is a number and not a way.
+    pub fn even(self, prob: u8) -> Bit
+        ensures { λ q. ⌜ q ≡ bitOf self prob ⌝ }
+    {
+        let top = self.top % 256;
+        let x = low(top, prob);
+        let on = x < high(self.value);
+        Bit {
+            on: on,
+            next: scaled(self, self.value - taken(x, on), part_of(top, x, on)),
+        }
+    }
+}
+
+// A reader's window as the top of a wide one.
+pub fn widen(r: Reader) -> Wide
+    ensures { λ q. ⌜ q ≡ widenOf r ⌝ }
+{
+    Wide {
+        at: r.at,
+        value: (r.window as u64) << 48,
+        top: wrapping_sub_u32(r.range, 1),
+        count: 16 - r.shifts % 8,
+    }
+}
+
+// Whether the eight bits after those lie in s.
+pub fn inside(s: &[u8], w: Wide) -> bool
+    ensures { λ b. ⌜ b ≡ insideOf (now (s .entry)) w ⌝ }
+{
+    w.at < s.len() + (w.count / 8) as usize
+}
+
+// How many bytes from the first bit that was not passed on are loaded, in part or whole.
+fn back(count: u32) -> usize
+    ensures { λ r. ⌜ (r ≡ backOf count) × (r < 4294967296) ⌝ }
+{
+    (count / 8 + (count % 8 + 7) / 8) as usize
+}
+
+// A window without its low bits.
+fn floored(window: u32, shifts: u32) -> u32
+    requires { ⌜ (window < 65536) × (shifts < 8) ⌝ }
+    ensures { λ r. ⌜ r ≡ window / 2 ^ shifts * 2 ^ shifts ⌝ }
+{
+    (window >> shifts) << shifts
+}
+
+fn sixteen(value: u64) -> u32
+    ensures { λ r. ⌜ (r ≡ value / 2 ^ 48) × (r < 65536) ⌝ }
+{
+    (value >> 48) as u32
+}
+
+// The reader that a wide one stands for.
+pub fn narrow(s: &[u8], w: Wide) -> Reader
+    ensures { λ q. ⌜ q ≡ narrowOf (now (s .entry)) w ⌝ }
+{
+    let count = w.count;
+    let shifts = (8 - count % 8) % 8;
+    let full = w.fill(s);
+    Reader {
+        at: wrapping_sub_usize(wrapping_add_usize(w.at, 2), back(count)),
+        range: w.top % 256 + 1,
+        shifts: shifts,
+        window: floored(sixteen(full.value), shifts),
+    }
+}
