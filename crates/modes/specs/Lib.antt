@@ -6,5 +6,6 @@ pub mod Answers
 pub mod AnswersLaws
 pub mod Counts
 pub mod CountsLaws
+pub mod Quick
 pub mod Contexts
 pub mod ContextsLaws

@@ -11,11 +11,15 @@ use crate::counts::count_modes;
 use crate::counts::modes_read;
 use crate::large::large_mode;
 use crate::prefix::head;
+use crate::quick::quick;
 use crate::small::contexts_fine;
 use crate::small::sixteen;
 use header::frame::Announced;
 use reader::boolean::Reader;
 use reader::boolean::valid;
+use wide::wide::inside;
+use wide::wide::narrow;
+use wide::wide::widen;
 ghost use mathlib.Core.Path.{_≡_};
 ghost use Rattle.reader.specs.Boolean.{missing};
 ghost use Rattle.reader.specs.BooleanLaws.{Valid};
@@ -88,6 +92,25 @@ fn stage(s: &[u8], a: Announced, r: Reader, top: &[u8; 4], left: &[u8; 4]) -> St
     }
 }
 
+// The same over a wide reader; read again where that passed the partition's end.
+fn quick_stage(s: &[u8], a: Announced, r: Reader, top: &[u8; 4], left: &[u8; 4]) -> Staged
+    requires { ⌜ Valid (now s) r ⌝ }
+    requires { ⌜ Modes (now top) × Modes (now left) ⌝ }
+    ensures { λ q. ⌜ q ≡ toStaged zeros (run (modesOf a (now (top .entry)) (now (left .entry))) (now (s .entry)) r) ⌝ }
+{
+    let q = quick(s, a, widen(r), top, left);
+    let w = q.next;
+    if inside(s, w) {
+        let kinds = q.kinds;
+        let modes = q.modes;
+        return Staged {
+            answer: Stage::Read(kinds, narrow(s, w)),
+            modes: modes,
+        };
+    }
+    stage(s, a, r, top, left)
+}
+
 // The modes of a macroblock, its sixteen luma modes into `modes`, which keeps what it held unless all are read; and how many symbols
 // were read.
 pub fn read_modes(
@@ -114,7 +137,7 @@ pub fn read_modes(
             reads: 0,
         };
     }
-    let q = stage(s, a, r, &top, &left);
+    let q = quick_stage(s, a, r, &top, &left);
     let answer = q.answer;
     let Stage::Read(kinds, next) = answer else {
         return ModesRead {

@@ -55,16 +55,16 @@ known c =
 asks : (c : tie.Else2) → (let a = start c .args in Valid (a .s .now) (a .r) × (Modes (a .t4) × Modes (a .t5)))
 asks c = (good c, (above-fact (start c .args .t4) (start c .args .t5) (fine c), left-fact (start c .args .t4) (start c .args .t5) (fine c)))
 
-stage-requires : tie.Need-stage-requires
-stage-requires c κs = asks (c .before .before)
+quick-stage-requires : tie.Need-quick-stage-requires
+quick-stage-requires c κs = asks (c .before .before)
 
 enum-known-answer : tie.Need-enum-known-answer
 enum-known-answer c = search needs
 
-abbrev tested : tie.After-stage → tie.Else2
+abbrev tested : tie.After-quick-stage → tie.Else2
 tested c = c .before .before .before
 
-abbrev whole : tie.After-stage → Given Macroblock
+abbrev whole : tie.After-quick-stage → Given Macroblock
 whole c = let a = start (tested c) .args in run (modesOf (a .a) (a .t4) (a .t5)) (a .s .now) (a .r)
 
 count-modes-requires : tie.Need-count-modes-requires
@@ -75,13 +75,13 @@ returns-3 c =
     let m = c .before .before .before in
     let b = m .before in
     let d = tested b in (
-      staged-missing (whole b) zeros _ (b .stage .ensures) (not-stage (b .stage .result .answer) (b .stage .result .modes) (m .match .keys2)) ∙ sym (modes-good _ _ _ _ _ _ (good d) (fine d)),
+      staged-missing (whole b) zeros _ (b .quick-stage .ensures) (not-stage (b .quick-stage .result .answer) (b .quick-stage .result .modes) (m .match .keys2)) ∙ sym (modes-good _ _ _ _ _ _ (good d) (fine d)),
       c .count-modes .ensures ∙ sym (reads-good _ _ _ _ _ (good d) (fine d)),
     )
 
 -- what was read
-gave : (c : tie.After-known-told) → whole (c .before .before .before) ≡ given (macroblockOf (c .before .answer .given .0 .0) (c .before .before .before .stage .result .modes)) (c .before .answer .given .0 .1 .0)
-gave c = let b = c .before .before .before in staged-gave (whole b) zeros zeros (b .stage .ensures) (c .before .answer .given .1)
+gave : (c : tie.After-known-told) → whole (c .before .before .before) ≡ given (macroblockOf (c .before .answer .given .0 .0) (c .before .before .before .quick-stage .result .modes)) (c .before .answer .given .0 .1 .0)
+gave c = let b = c .before .before .before in staged-gave (whole b) zeros zeros (b .quick-stage .ensures) (c .before .answer .given .1)
 
 modes-read-requires : tie.Need-modes-read-requires
 modes-read-requires c κs =
@@ -98,7 +98,7 @@ returns-4 c =
     let b = k .before .before .before in
     let d = tested b in
     let a = start d .args in (
-      staged-read (whole b) zeros (a .modes .now) (b .stage .ensures) (k .before .answer .given .1) ∙ sym (modes-good _ _ _ _ _ _ (good d) (fine d)),
+      staged-read (whole b) zeros (a .modes .now) (b .quick-stage .ensures) (k .before .answer .given .1) ∙ sym (modes-good _ _ _ _ _ _ (good d) (fine d)),
       c .modes-read .ensures ∙ sym (modes-read (a .a) (a .t4) (a .t5) (a .s .now) (a .r) (gave k)) ∙ sym (reads-good _ _ _ _ _ (good d) (fine d)),
     )
 
@@ -110,7 +110,7 @@ read-modes-spec =
     returns
     contexts-fine-requires
     returns-2
-    stage-requires
+    quick-stage-requires
     enum-known-answer
     count-modes-requires
     returns-3
