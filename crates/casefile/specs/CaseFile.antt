@@ -17,9 +17,11 @@ use Rattle.picture.specs.Checks.{Call, callOf}
 abbrev pub byteAt : List ℕ → ℕ → ℕ
 byteAt s i = getD s i 0
 
+-- two bytes, the higher first
 unfoldable pub halfAt : List ℕ → ℕ → ℕ
 halfAt s i = byteAt s i * 256 + byteAt s (i + 1)
 
+-- four bytes, the highest first
 unfoldable pub wordAt : List ℕ → ℕ → ℕ
 wordAt s i = halfAt s i * 65536 + halfAt s (i + 2)
 
@@ -31,21 +33,27 @@ caseSigned n = elim (ltb n 32768) [ true ↦ pos n | false ↦ pos n -ℤ pos 65
 abbrev pub caseVersion : List ℕ → ℕ
 caseVersion s = byteAt s 0
 
+-- how many bytes follow the length
 abbrev pub restOf : List ℕ → ℕ
 restOf s = wordAt s 1
 
+-- the width in samples
 abbrev pub caseWidth : List ℕ → ℕ
 caseWidth s = halfAt s 5
 
+-- the height in samples
 abbrev pub caseHeight : List ℕ → ℕ
 caseHeight s = halfAt s 7
 
+-- the count of token partitions
 abbrev pub caseCount : List ℕ → ℕ
 caseCount s = byteAt s 9
 
+-- header entry i
 abbrev pub entryAt : List ℕ → ℕ → ℤ
 entryAt s i = caseSigned (halfAt s (10 + 2 * i))
 
+-- all 1096 header entries
 unfoldable pub caseHeader : List ℕ → List ℤ
 caseHeader s = build 1096 (entryAt s)
 
@@ -58,6 +66,7 @@ unfoldable pub startAt : List ℕ → ℕ → ℕ
 startAt s zero = 2206 + 4 * caseCount s
 startAt s (suc i) = startAt s i + lengthAt s i
 
+-- where partition i starts, and its length
 abbrev pub partitionAt : List ℕ → ℕ → Span
 partitionAt s i = record { start = startAt s i; len = lengthAt s i }
 
@@ -65,6 +74,7 @@ partitionAt s i = record { start = startAt s i; len = lengthAt s i }
 unfoldable pub slotOf : List ℕ → ℕ → Span
 slotOf s i = elim (ltb i (caseCount s)) [ true ↦ partitionAt s (i + 1) | false ↦ noSpan ]
 
+-- the eight of them
 unfoldable pub caseSpans : List ℕ → List Span
 caseSpans s = build 8 (slotOf s)
 
@@ -72,6 +82,7 @@ caseSpans s = build 8 (slotOf s)
 unfoldable pub caseWhole : List ℕ → Bool
 caseWhole s = leb (2206 + 4 * caseCount s) (length s) && eqb (startAt s (caseCount s + 1)) (length s)
 
+-- all of that
 unfoldable pub wellFormed : List ℕ → Bool
 wellFormed s =
     leb 2206 (length s)
@@ -89,5 +100,6 @@ caseTile s = record {
   height = caseHeight s;
 }
 
+-- the bytes, the tile and the header: the picture call's arguments
 abbrev pub givenOf : List ℕ → Call
 givenOf s = callOf s (caseTile s) (caseHeader s)

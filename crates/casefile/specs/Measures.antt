@@ -9,6 +9,7 @@ unfoldable pub sumTo : List ℕ → ℕ → ℕ
 sumTo l zero = 0
 sumTo l (suc i) = sumTo l i + getD l i 0
 
+-- the sum of all bytes
 unfoldable pub sumOf : List ℕ → ℕ
 sumOf l = sumTo l (length l)
 
@@ -16,9 +17,11 @@ sumOf l = sumTo l (length l)
 unfoldable pub fnvStep : ℕ → ℕ → ℕ
 fnvStep h byte = bitXor h byte * 1099511628211 % 18446744073709551616
 
+-- after the first i bytes
 unfoldable pub fnvTo : List ℕ → ℕ → ℕ
 fnvTo l zero = 14695981039346656037
 fnvTo l (suc i) = fnvStep (fnvTo l i) (getD l i 0)
 
+-- after all of them
 unfoldable pub fnvOf : List ℕ → ℕ
 fnvOf l = fnvTo l (length l)

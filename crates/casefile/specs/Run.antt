@@ -14,6 +14,7 @@ use Rattle.casefile.specs.declared.run.Ran.{Ran}
 use Rattle.casefile.specs.CaseFile.{caseWidth, caseHeight, wellFormed, givenOf}
 use Rattle.casefile.specs.Measures.{sumOf, fnvOf}
 
+-- the memory that is lent for a picture of w by h, each byte 165
 abbrev pub lentOf : ℕ → ℕ → Memory
 lentOf w h =
     memoryOf
@@ -28,12 +29,15 @@ lentOf w h =
 unfoldable pub sumAfter : ℕ → List ℕ → ℕ
 sumAfter number l = elim (leb 1 number && leb number 5) [ true ↦ 0 | false ↦ sumOf l ]
 
+-- the hash of each lent memory after the call
 abbrev pub hashesOf : Memory → Hashes
 hashesOf m = record { y = fnvOf (m .y); u = fnvOf (m .u); v = fnvOf (m .v); columns = fnvOf (m .columns); modes = fnvOf (m .modes); strengths = fnvOf (m .strengths) }
 
+-- the sums of the three planes after a call that answered this number
 abbrev pub sumsOf : ℕ → Memory → Sums
 sumsOf number m = record { y = sumAfter number (m .y); u = sumAfter number (m .u); v = sumAfter number (m .v) }
 
+-- what is told of a call: its number, k, the sums, the hashes
 abbrev pub reportOf : Ended → Ran
 reportOf e = record {
   number = numberOf (e .answer);
@@ -42,6 +46,7 @@ reportOf e = record {
   hashes = hashesOf (e .mem);
 }
 
+-- what is told of a file that is not well-formed: 10, and zeros
 abbrev pub malformedRan : Ran
 malformedRan = record {
   number = 10;
@@ -50,5 +55,6 @@ malformedRan = record {
   hashes = record { y = 0; u = 0; v = 0; columns = 0; modes = 0; strengths = 0 };
 }
 
+-- THE RUN of a file's bytes: the picture call where it is well-formed
 unfoldable pub ranOf : List ℕ → Ran
 ranOf s = elim (wellFormed s) [ true ↦ reportOf (pictureOf (givenOf s) (lentOf (caseWidth s) (caseHeight s))) | false ↦ malformedRan ]

@@ -38,9 +38,11 @@ categories =
     ∷ (254 ∷ 254 ∷ 243 ∷ 230 ∷ 196 ∷ 177 ∷ 153 ∷ 140 ∷ 133 ∷ 130 ∷ 129 ∷ [])
     ∷ []
 
+-- the least number of each category
 unfoldable pub bases : List ℕ
 bases = 5 ∷ 7 ∷ 11 ∷ 19 ∷ 35 ∷ 67 ∷ []
 
+-- a category's number: its least, and its extra bits
 abbrev pub category : ℕ → List ℕ → Reading ℕ
 category base ps = do
   v ← extra ps
@@ -59,6 +61,7 @@ abbrev pub signOf : Bool → ℕ → ℤ
 signOf true x = negℤ (pos x)
 signOf false x = pos x
 
+-- the token's number, then its sign, at probability 128
 unfoldable pub signedValue : ℕ → ℕ → Reading ℤ
 signedValue t q = do
   v ← magnitude t
@@ -69,6 +72,7 @@ signedValue t q = do
 unfoldable pub bands : List ℕ
 bands = 0 ∷ 1 ∷ 2 ∷ 3 ∷ 6 ∷ 4 ∷ 5 ∷ 6 ∷ 6 ∷ 6 ∷ 6 ∷ 6 ∷ 6 ∷ 6 ∷ 6 ∷ 7 ∷ []
 
+-- where the number of position n stands in the block
 unfoldable pub zigzag : List ℕ
 zigzag = 0 ∷ 1 ∷ 4 ∷ 8 ∷ 5 ∷ 2 ∷ 3 ∷ 6 ∷ 9 ∷ 12 ∷ 13 ∷ 10 ∷ 7 ∷ 11 ∷ 14 ∷ 15 ∷ []
 
@@ -76,6 +80,7 @@ zigzag = 0 ∷ 1 ∷ 4 ∷ 8 ∷ 5 ∷ 2 ∷ 3 ∷ 6 ∷ 9 ∷ 12 ∷ 13 ∷ 10 
 unfoldable pub probabilityPlace : ℕ → ℕ → ℕ → ℕ
 probabilityPlace kind n ctx = ((kind * 8 + getD bands n 0) * 3 + ctx) * 11
 
+-- the eleven of position n
 abbrev pub probabilitiesAt : List ℕ → ℕ → ℕ → ℕ → List ℕ
 probabilitiesAt table kind n ctx = elevenAt table (probabilityPlace kind n ctx)
 
@@ -109,6 +114,7 @@ module _ (table : List ℕ) (kind q0 q1 : ℕ) where
       ]
     ]
 
+  -- a block from its first position on
   abbrev pub block : ℕ → ℕ → List ℤ → Reading Coefficients
   block ctx first values = blockFrom (16 - first) first ctx false values
 
@@ -121,9 +127,11 @@ abbrev pub toSigned : Given ℤ → Signed
 toSigned (given v r) = S.Value v r
 toSigned missing = S.Missing
 
+-- a token's number, read from a partition
 unfoldable pub magnitudeOf : List ℕ → ℕ → Reader → Number
 magnitudeOf s t r = toNumber (run (magnitude t) s r)
 
+-- the same with its sign, times a quantizer
 unfoldable pub signedOf : List ℕ → ℕ → ℕ → Reader → Signed
 signedOf s t q r = toSigned (run (signedValue t q) s r)
 
@@ -131,9 +139,11 @@ signedOf s t q r = toSigned (run (signedValue t q) s r)
 abbrev pub numericOf : ℕ → Bool
 numericOf t = leb 2 t && leb t 11
 
+-- what `number` answers
 unfoldable pub numberAnswer : List ℕ → ℕ → Reader → Number
 numberAnswer s t r = elim (validOf s r && numericOf t) [ true ↦ magnitudeOf s t r | false ↦ N.Refused ]
 
+-- what `dequant` answers
 unfoldable pub signedAnswer : List ℕ → ℕ → ℕ → Reader → Signed
 signedAnswer s t q r = elim (validOf s r && numericOf t) [ true ↦ signedOf s t q r | false ↦ S.Refused ]
 
@@ -147,6 +157,7 @@ abbrev pub toBlockCalled : List ℤ → Given Coefficients → BlockCalled
 toBlockCalled old (given x r) = record { answer = B.Ended (x .end) r; out = x .values }
 toBlockCalled old missing = record { answer = B.Missing; out = old }
 
+-- a refusal: the lent numbers are as they were
 abbrev pub refusedBlock : List ℤ → BlockCalled
 refusedBlock old = record { answer = B.Refused; out = old }
 
@@ -155,6 +166,7 @@ unfoldable pub sixteenBits : List ℤ → ℕ → Bool
 sixteenBits l zero = true
 sixteenBits l (suc n) = sixteenBits l n && (leZ (negsuc 32767) (getD l n (pos 0)) && leZ (getD l n (pos 0)) (pos 32767))
 
+-- 1056 probabilities, a kind below 4, a context below 3, a first position 0 or 1
 abbrev pub blockArguments : List ℕ → ℕ → ℕ → ℕ → Bool
 blockArguments table kind ctx first = eqb (length table) probabilityCount && (ltb kind 4 && (ltb ctx 3 && leb first 1))
 
@@ -188,8 +200,9 @@ module _ (s : List ℕ) (r : Reader) where
         | false ↦ 0
       ]
 
-  unfoldable pub headerReads : List ℤ → ℕ → ℕ → ℕ → ℕ → ℕ → List ℤ → ℕ
-  headerReads h kind ctx first q0 q1 old =
+  -- `decode_header`: none too where the header's length is not its own
+  unfoldable pub blockByHeaderReads : List ℤ → ℕ → ℕ → ℕ → ℕ → ℕ → List ℤ → ℕ
+  blockByHeaderReads h kind ctx first q0 q1 old =
       elim (eqb (length h) entryCount) [
         | true ↦ blockReads (headerTable h) kind ctx first q0 q1 old
         | false ↦ 0
@@ -209,16 +222,19 @@ blockNumberOf (B.Ended n r) = 0
 blockNumberOf B.Missing = 7
 blockNumberOf B.Refused = 9
 
+-- the position after the block, and the reader after it
 abbrev pub blockValuesOf : Block → ℕ × Reader
 blockValuesOf (B.Ended n r) = (n, r)
 blockValuesOf B.Missing = (0, noReader)
 blockValuesOf B.Refused = (0, noReader)
 
+-- the number of `dequant`
 abbrev pub signedNumberOf : Signed → ℕ
 signedNumberOf (S.Value v r) = 0
 signedNumberOf S.Missing = 7
 signedNumberOf S.Refused = 9
 
+-- its value, and the reader after it
 abbrev pub signedValuesOf : Signed → ℤ × Reader
 signedValuesOf (S.Value v r) = (v, r)
 signedValuesOf S.Missing = (pos 0, noReader)

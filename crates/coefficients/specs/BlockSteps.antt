@@ -23,7 +23,7 @@ use Rattle.reader.specs.Trace.{count}
 use Rattle.reader.specs.ReadingLaws.{run-done, run-then, run-stops}
 use Rattle.reader.specs.declared.boolean.Reader.{Reader}
 use Rattle.reader.specs.declared.extra.Number.the-variants as N
-use Rattle.coefficients.specs.Block.{category, magnitude, signOf, signedValue, bands, zigzag, quantizerAt, contextAfter, toSigned, magnitudeOf, signedOf, numericOf, numberAnswer, signedAnswer, headerTable, probabilitiesAt, probabilityPlace, blockFrom, refusedBlock, block, blockOf, sixteenBits, blockArguments, blockCallOf, blockByHeaderOf, tableOf, blockReads, headerReads}
+use Rattle.coefficients.specs.Block.{category, magnitude, signOf, signedValue, bands, zigzag, quantizerAt, contextAfter, toSigned, magnitudeOf, signedOf, numericOf, numberAnswer, signedAnswer, headerTable, probabilitiesAt, probabilityPlace, blockFrom, refusedBlock, block, blockOf, sixteenBits, blockArguments, blockCallOf, blockByHeaderOf, tableOf, blockReads, blockByHeaderReads}
 use Rattle.coefficients.specs.declared.block.Block.the-variants as B
 use Rattle.coefficients.specs.declared.block.BlockRead.{BlockRead}
 use Rattle.coefficients.specs.declared.block.Signed.the-variants as G
@@ -194,15 +194,15 @@ table-done h e f = rw (f, eq-eqb _ _ e, tableOf)
 
 module _ (s : List ℕ) (r : Reader) (h : List ℤ) (kind ctx first q0 q1 : ℕ) (old : List ℤ) where
   abbrev pub HeaderDecoded : BlockRead → List ℤ → Type 0
-  HeaderDecoded a out = (record { answer = a .answer; out = out } ≡ blockByHeaderOf s r h kind ctx first q0 q1 old) × (a .reads ≡ headerReads s r h kind ctx first q0 q1 old)
+  HeaderDecoded a out = (record { answer = a .answer; out = out } ≡ blockByHeaderOf s r h kind ctx first q0 q1 old) × (a .reads ≡ blockByHeaderReads s r h kind ctx first q0 q1 old)
 
   pub header-good : length h ≡ entryCount → {l : List ℕ} → l ≡ headerTable h → {a : BlockRead} {out : List ℤ} → Decoded s r l kind ctx first q0 q1 old a out → HeaderDecoded a out
-  unfolding blockByHeaderOf headerReads
+  unfolding blockByHeaderOf blockByHeaderReads
   header-good e {l} f d =
       let p : blockCallOf s r l kind ctx first q0 q1 old ≡ blockByHeaderOf s r h kind ctx first q0 q1 old = rw (f, eq-eqb _ _ e, blockByHeaderOf) in
-      let q : blockReads s r l kind ctx first q0 q1 old ≡ headerReads s r h kind ctx first q0 q1 old = rw (f, eq-eqb _ _ e, headerReads) in
+      let q : blockReads s r l kind ctx first q0 q1 old ≡ blockByHeaderReads s r h kind ctx first q0 q1 old = rw (f, eq-eqb _ _ e, blockByHeaderReads) in
       (d .0 ∙ p, d .1 ∙ q)
 
   pub header-refused : (length h ≡ entryCount → ⊥) → {a : BlockRead} → a ≡ record { answer = B.Refused; reads = 0 } → HeaderDecoded a old
-  unfolding blockByHeaderOf headerReads
-  header-refused f d = (rw d (rw (ne-eqb _ _ f, blockByHeaderOf)), rw d (rw (ne-eqb _ _ f, headerReads)))
+  unfolding blockByHeaderOf blockByHeaderReads
+  header-refused f d = (rw d (rw (ne-eqb _ _ f, blockByHeaderOf)), rw d (rw (ne-eqb _ _ f, blockByHeaderReads)))

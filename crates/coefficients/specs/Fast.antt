@@ -12,7 +12,7 @@ use Rattle.numbers.specs.Runs.{placed}
 use Rattle.reader.specs.Reading.{Reading}
 use Rattle.wide.specs.Counted.{counted}
 use Rattle.wide.specs.Wide as wide
-use Rattle.wide.specs.WideRuns.{Reads}
+use Rattle.wide.specs.WideRuns.{WideReads}
 use Rattle.wide.specs.declared.wide.Bit.{Bit}
 use Rattle.wide.specs.declared.wide.Wide.{Wide}
 use Rattle.coefficients.specs.Block.{Coefficients, blockArguments}
@@ -22,13 +22,14 @@ use Rattle.coefficients.specs.declared.fast.WideBlock.{WideBlock}
 unfoldable pub sixteenAt : List ℤ → (at : ℕ) → List ℤ
 sixteenAt l at = build 16 (λ j. getD l (at + j) (pos 0))
 
+-- sixteen others put there
 abbrev pub stored : List ℤ → (at : ℕ) → (c : List ℤ) → List ℤ
 stored l at c = placed l at (λ j. getD c j (pos 0)) 16
 
 -- ---- one token: whether the block goes on, which after a zero is not asked
 abbrev pub startedOf : List ℕ → Wide → (prob : ℕ) → (zero : Bool) → Bit
 startedOf s w prob true = record { on = true; next = wide.fillOf s w }
-startedOf s w prob false = wide.bitOf (wide.fillOf s w) prob
+startedOf s w prob false = wide.wideBitOf (wide.fillOf s w) prob
 
 -- ---- the symbols of M-103
 -- of a token: as many as its leaf is deep in coeff_tree; after a zero, whose node 0 is not asked, one fewer
@@ -44,7 +45,7 @@ extras = 0 ∷ 0 ∷ 0 ∷ 0 ∷ 0 ∷ 0 ∷ 1 ∷ 2 ∷ 3 ∷ 4 ∷ 5 ∷ 11 �
 
 -- ---- the call: at most 1216 bytes are read, and the list changes in its sixteen places alone
 pub record Coded (s : List ℕ) (w : Wide) (g : List ℤ → Reading Coefficients) (at : ℕ) (old new : List ℤ) (q : WideBlock) : Type 0 where
-  pub read : Reads s 0 1216 (counted 0 (g (sixteenAt old at))) w (record { end = q .end; values = sixteenAt new at }, q .reads) (q .next)
+  pub read : WideReads s 0 1216 (counted 0 (g (sixteenAt old at))) w (record { end = q .end; values = sixteenAt new at }, q .reads) (q .next)
   pub kept : new ≡ stored old at (sixteenAt new at)
 
 -- where an argument is out of range or the list is too short, nothing is read

@@ -36,7 +36,7 @@ use Rattle.wide.specs.CountedLaws.{costs-then, costs-extra, costs-walk, depthsO
 use Rattle.wide.specs.Padded.{runPadded}
 use Rattle.wide.specs.Wide as wide
 use Rattle.wide.specs.WideLaws.{Sim}
-use Rattle.wide.specs.WideRuns.{Reads, Gave, Going, going-start, going-fill, going-bit, going-done, going-call, going-as, going-weaken, going-cost, going-told, reads-then, walking-start, walking-fill, walking-node, walking-leaf, walking-last}
+use Rattle.wide.specs.WideRuns.{WideReads, Gave, Going, going-start, going-fill, going-bit, going-done, going-call, going-as, going-weaken, going-cost, going-told, reads-then, walking-start, walking-fill, walking-node, walking-leaf, walking-last}
 use Rattle.wide.specs.declared.wide.Bit.{Bit}
 use Rattle.wide.specs.declared.wide.Wide.{Wide}
 use Rattle.coefficients.specs.Fast.{sixteenAt, stored, startedOf, depths, tokenCost, extras, Coded, CodedWhere, roomOf}
@@ -241,23 +241,23 @@ first-of : (table : List ℕ) (at : ℕ) → getD (elevenAt table at) 0 0 ≡ ge
 first-of table at = eleven-at table at 0 (lit< tt) ∙ ap (λ (i : ℕ). getD table i 0) (add-zero at)
 
 module _ (s table : List ℕ) (at : ℕ) {w : Wide} {q : Bit} (y : Bytes s) (h : getD table at 0 < 256) where
-  pub token-goes : (z : Bool) {t : ℕ} {x : Wide} → q ≡ startedOf s w (getD table at 0) z → q .on ≡ true → ((m : ℕ) → Reads s 15 4 (walk (suc (suc (suc (suc (suc (suc m)))))) (elevenAt table at) tokenTree 1) (q .next) t x) → Reads s 0 8 (token (elevenAt table at) z) w t x
+  pub token-goes : (z : Bool) {t : ℕ} {x : Wide} → q ≡ startedOf s w (getD table at 0) z → q .on ≡ true → ((m : ℕ) → WideReads s 15 4 (walk (suc (suc (suc (suc (suc (suc m)))))) (elevenAt table at) tokenTree 1) (q .next) t x) → WideReads s 0 8 (token (elevenAt table at) z) w t x
   token-goes true o i f r v l b = walking-last (walking-fill 4 (walking-start 32 1 r v l b) (ap (λ (z : Bit). z .next) o)) (f 26) (lit≤ tt) (lit≤ tt)
   token-goes false o i f r v l b = walking-last (walking-node 24 31 y h (first-of table at) (walking-fill 4 (walking-start 32 0 r v l b) refl) o i refl) (f 25) (lit≤ tt) (lit≤ tt)
 
-  pub token-ends : (z : Bool) → q ≡ startedOf s w (getD table at 0) z → q .on ≡ false → Reads s 0 8 (token (elevenAt table at) z) w 0 (q .next)
+  pub token-ends : (z : Bool) → q ≡ startedOf s w (getD table at 0) z → q .on ≡ false → WideReads s 0 8 (token (elevenAt table at) z) w 0 (q .next)
   token-ends true o i r v l b = absurd (never (ap (λ (z : Bit). z .on) o) i)
   token-ends false o i r v l b = walking-leaf 24 31 y h (first-of table at) (walking-fill 4 (walking-start 32 0 r v l b) refl) o i refl refl
 
 -- ---- a number and its sign
-pub reads-category : (s ps : List ℕ) {v : ℕ} {w q : Wide} (base : ℕ) → Reads s 0 64 (extra ps) w v q → Reads s 0 64 (category base ps) w (base + v) q
+pub reads-category : (s ps : List ℕ) {v : ℕ} {w q : Wide} (base : ℕ) → WideReads s 0 64 (extra ps) w v q → WideReads s 0 64 (category base ps) w (base + v) q
 reads-category s ps base h = reads-then s 0 64 (extra ps) (λ v. base + v) h
 
 pub magnitude-small : (t : ℕ) → t < 6 → done (t - 1) ≡ magnitude t
 unfolding magnitude
 magnitude-small t h = rw (lt-ltb t 6 h, magnitude)
 
-pub reads-signed : {s : List ℕ} {v : ℕ} {w x f : Wide} {g : Bit} {z : ℤ} (t q : ℕ) → Bytes s → Reads s 0 64 (magnitude t) w v x → f ≡ wide.fillOf s x → g ≡ wide.bitOf f 128 → z ≡ wrapZ (signOf (g .on) (v * q)) → Reads s 0 68 (signedValue t q) w z (g .next)
+pub reads-signed : {s : List ℕ} {v : ℕ} {w x f : Wide} {g : Bit} {z : ℤ} (t q : ℕ) → Bytes s → WideReads s 0 64 (magnitude t) w v x → f ≡ wide.fillOf s x → g ≡ wide.wideBitOf f 128 → z ≡ wrapZ (signOf (g .on) (v * q)) → WideReads s 0 68 (signedValue t q) w z (g .next)
 unfolding signedValue
 reads-signed {v} {g} t q y h e o u r m l b =
     let k : ℕ → Reading ℤ = (λ v. symbol 128 >>= (λ negative. done (wrapZ (signOf negative (v * q))))) in
@@ -347,7 +347,7 @@ module _ (s table : List ℕ) (kind q0 q1 : ℕ) (g : Reading Coefficients) (sta
 
   module _ (room : at + 16 ≤ length old) where
     -- what the call promises, of a list that was stored
-    promised : {end reads : ℕ} {next : Wide} {out values : List ℤ} (f : List ℤ → Reading Coefficients) → g ≡ f (sixteenAt old at) → length values ≡ 16 → out ≡ stored old at values → Reads s 0 1216 (counted 0 g) start (record { end = end; values = values }, reads) next → Coded s start f at old out (record { end = end; reads = reads; next = next })
+    promised : {end reads : ℕ} {next : Wide} {out values : List ℤ} (f : List ℤ → Reading Coefficients) → g ≡ f (sixteenAt old at) → length values ≡ 16 → out ≡ stored old at values → WideReads s 0 1216 (counted 0 g) start (record { end = end; values = values }, reads) next → Coded s start f at old out (record { end = end; reads = reads; next = next })
     promised {end} {reads} {next} {out} {values} f e l k h =
         let v : sixteenAt out at ≡ values = ap (λ (o : List ℤ). sixteenAt o at) k ∙ sixteen-stored old at room values l in
         record { read = rw (sym e, v) h; kept = k ∙ ap (stored old at) (sym v) }
@@ -361,14 +361,14 @@ module _ (s table : List ℕ) (kind q0 q1 : ℕ) (g : Reading Coefficients) (sta
           ends r (suc m) p i = absurd (omega arith)
 
     -- the token at a position
-    pub turned : {n near : ℕ} {z : Bool} {reads : ℕ} {w : Wide} {out : List ℤ} (c : Blocking n near z reads w out) {here t : ℕ} {q : Wide} → n < 16 → here ≡ (kind * 8 + getD bands n 0) * 33 + near → Reads s 0 8 (token (elevenAt table here) z) w t q → Turned n z reads (c .values) t q
+    pub turned : {n near : ℕ} {z : Bool} {reads : ℕ} {w : Wide} {out : List ℤ} (c : Blocking n near z reads w out) {here t : ℕ} {q : Wide} → n < 16 → here ≡ (kind * 8 + getD bands n 0) * 33 + near → WideReads s 0 8 (token (elevenAt table here) z) w t q → Turned n z reads (c .values) t q
     turned {n} {near} {z} {reads} {w} c {here} {t} {q} l e f = go (c .more) (c .sum) (c .going)
       where
         go : (m : ℕ) → n + m ≡ 16 → Toward (76 * m) (reads + (n - first) + bitOf z) (blockFrom table kind q0 q1 m n (c .ctx) z (c .values)) w → Turned n z reads (c .values) t q
         go zero p i = absurd (omega arith)
         go (suc m) p i =
             let ps : List ℕ = probabilitiesAt table kind n (c .ctx) in
-            let j : Reads s 0 8 (token ps z) w t q = rw (place-is kind n (c .ctx) (c .place) e) at f in
+            let j : WideReads s 0 8 (token ps z) w t q = rw (place-is kind n (c .ctx) (c .place) e) at f in
             let rest : ℕ → Reading Coefficients = restOf table kind q0 q1 m n (c .values) in
             record {
               left = m;
@@ -402,9 +402,9 @@ module _ (s table : List ℕ) (kind q0 q1 : ℕ) (g : Reading Coefficients) (sta
           }
 
       -- the list keeps the number as the machine reads it back
-      pub turned-number : {k near u cost : ℕ} {v : ℤ} {o : Wide} → 2 ≤ t → t < 12 → cost ≡ getD tokenSymbols t 0 → k ≡ quantizerAt n q0 q1 → Reads s 0 68 (signedValue t k) q v o → SixteenBits v → near ≡ contextAfter t * 11 → u ≡ getD zigzag n 0 → Blocking (n + 1) near false (reads + cost) o (set out (at + u) (round w32 v))
+      pub turned-number : {k near u cost : ℕ} {v : ℤ} {o : Wide} → 2 ≤ t → t < 12 → cost ≡ getD tokenSymbols t 0 → k ≡ quantizerAt n q0 q1 → WideReads s 0 68 (signedValue t k) q v o → SixteenBits v → near ≡ contextAfter t * 11 → u ≡ getD zigzag n 0 → Blocking (n + 1) near false (reads + cost) o (set out (at + u) (round w32 v))
       turned-number {k} {near} {u} {cost} {v} {o} l b x e h y p i =
-          let j : Reads s 0 68 (signedValue t (quantizerAt n q0 q1)) q v o = rw e at h in
+          let j : WideReads s 0 68 (signedValue t (quantizerAt n q0 q1)) q v o = rw e at h in
           let rest : ℤ → Reading Coefficients = (λ v. blockFrom table kind q0 q1 (d .left) (n + 1) (contextAfter t) false (set (c .values) (getD zigzag n 0) v)) in
           let w : round w32 v ≡ v = there w32 y tt .eq in
           record {

@@ -27,7 +27,7 @@ ghost use Rattle.reader.specs.Reading.{run};
 ghost use Rattle.reader.specs.Extra.{toNumber};
 ghost use Rattle.coefficients.specs.Block.{category, signOf, bands, zigzag, probabilityPlace, quantizerAt, contextAfter, magnitudeOf};
 ghost use Rattle.coefficients.specs.Block.{signedOf, numericOf, numberAnswer, signedAnswer, blockOf, sixteenBits, blockArguments, blockCallOf};
-ghost use Rattle.coefficients.specs.Block.{blockByHeaderOf, tableOf, block, blockReads, headerReads};
+ghost use Rattle.coefficients.specs.Block.{blockByHeaderOf, tableOf, block, blockReads, blockByHeaderReads};
 ghost use Rattle.coefficients.specs.CountSteps.{costs, countGiven};
 
 // The band of a position, and where its number stands in the block.
@@ -390,7 +390,7 @@ pub fn decode_header(
 ) -> BlockRead
     ensures { λ a. ⌜ (record { answer = a .answer; out = now (out .exit) }
         ≡ blockByHeaderOf (now (s .entry)) r (now (h .entry)) kind ctx first q0 q1 (now (out .entry)))
-        × (a .reads ≡ headerReads (now (s .entry)) r (now (h .entry)) kind ctx first q0 q1 (now (out .entry))) ⌝ }
+        × (a .reads ≡ blockByHeaderReads (now (s .entry)) r (now (h .entry)) kind ctx first q0 q1 (now (out .entry))) ⌝ }
 {
     let t = probabilities(h);
     let answer = t.answer;

@@ -18,7 +18,7 @@ ghost use Prim.Native.Nat.{ℕ, _+_, _*_, _<_, _≤_};
 ghost use lib.ListN.{length, getD};
 ghost use Rattle.header.specs.Entries.{probabilityCount};
 ghost use Rattle.numbers.specs.Wrap.{wrapZ};
-ghost use Rattle.wide.specs.WideRuns.{Reads};
+ghost use Rattle.wide.specs.WideRuns.{WideReads};
 ghost use Rattle.coefficients.specs.BlockLaws.{SixteenBits};
 ghost use Rattle.coefficients.specs.Block.{category, magnitude, signOf, signedValue, bands, contextAfter, block};
 ghost use Rattle.coefficients.specs.Fast.{roomOf, Coded, CodedWhere};
@@ -64,7 +64,7 @@ pub struct WideBlock {
 
 fn coded_category(s: &[u8], w: Wide, probs: &[u8], base: u32) -> Numbered
     requires { ⌜ (length (now probs) ≤ 11) × (base ≤ 67) ⌝ }
-    ensures { λ q. ⌜ Reads (now (s .entry)) 0 64 (category base (now (probs .entry))) w (q .value) (q .next) × (q .value ≤ 2114) ⌝ }
+    ensures { λ q. ⌜ WideReads (now (s .entry)) 0 64 (category base (now (probs .entry))) w (q .value) (q .next) × (q .value ≤ 2114) ⌝ }
 {
     let c = extra_bits(s, w, probs);
     let x = c.next;
@@ -76,7 +76,7 @@ fn coded_category(s: &[u8], w: Wide, probs: &[u8], base: u32) -> Numbered
 
 fn coded_large(s: &[u8], w: Wide, token: u8) -> Numbered
     requires { ⌜ (6 ≤ token) × (token ≤ 11) ⌝ }
-    ensures { λ q. ⌜ Reads (now (s .entry)) 0 64 (magnitude token) w (q .value) (q .next) × (q .value ≤ 2114) ⌝ }
+    ensures { λ q. ⌜ WideReads (now (s .entry)) 0 64 (magnitude token) w (q .value) (q .next) × (q .value ≤ 2114) ⌝ }
 {
     match token {
         6 => coded_category(s, w, &CAT1, 5),
@@ -90,7 +90,7 @@ fn coded_large(s: &[u8], w: Wide, token: u8) -> Numbered
 
 fn coded_magnitude(s: &[u8], w: Wide, token: u8) -> Numbered
     requires { ⌜ (2 ≤ token) × (token ≤ 11) ⌝ }
-    ensures { λ q. ⌜ Reads (now (s .entry)) 0 64 (magnitude token) w (q .value) (q .next) × (q .value ≤ 2114) ⌝ }
+    ensures { λ q. ⌜ WideReads (now (s .entry)) 0 64 (magnitude token) w (q .value) (q .next) × (q .value ≤ 2114) ⌝ }
 {
     if token < 6 {
         return Numbered {
@@ -123,7 +123,7 @@ fn product(v: u32, q: u16, negative: bool) -> i32
 
 fn coded_signed(s: &[u8], w: Wide, token: u8, q: u16) -> Valued
     requires { ⌜ (2 ≤ token) × (token ≤ 11) ⌝ }
-    ensures { λ a. ⌜ Reads (now (s .entry)) 0 68 (signedValue token q) w (a .value) (a .next) × SixteenBits (a .value) ⌝ }
+    ensures { λ a. ⌜ WideReads (now (s .entry)) 0 68 (signedValue token q) w (a .value) (a .next) × SixteenBits (a .value) ⌝ }
 {
     let m = coded_magnitude(s, w, token);
     let x = m.next;

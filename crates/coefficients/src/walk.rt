@@ -9,7 +9,7 @@ ghost use Rattle.numbers.specs.Flags.{bitOf};
 ghost use Rattle.reader.specs.declared.trees.Branch.the-variants as B;
 ghost use Rattle.reader.specs.Trees.{walk, branchAt};
 ghost use Rattle.reader.specs.Token.{tokenTree, elevenAt, token};
-ghost use Rattle.wide.specs.WideRuns.{Reads};
+ghost use Rattle.wide.specs.WideRuns.{WideReads};
 ghost use Rattle.coefficients.specs.Fast.{startedOf};
 
 // A token, and the reader after it.
@@ -29,7 +29,7 @@ fn leaf(low: u8, on: bool) -> u8
 fn last(s: &[u8], w: Wide, table: &[u8], at: usize, i: usize, low: u8) -> Walked
     requires { ⌜ (at + 11 ≤ length (now table)) × (i < 11) × (low < 100) ⌝ }
     requires { ⌜ (branchAt tokenTree i false ≡ B.Leaf low) × (branchAt tokenTree i true ≡ B.Leaf (low + 1)) ⌝ }
-    ensures { λ q. ⌜ ((m : ℕ) → Reads (now (s .entry)) 8 0 (walk (suc m) (elevenAt (now (table .entry)) at) tokenTree i) w
+    ensures { λ q. ⌜ ((m : ℕ) → WideReads (now (s .entry)) 8 0 (walk (suc m) (elevenAt (now (table .entry)) at) tokenTree i) w
         (q .token) (q .next)) × (q .token ≤ low + 1) ⌝ }
 {
     let a = w.even(table[at + i]);
@@ -43,7 +43,7 @@ fn last(s: &[u8], w: Wide, table: &[u8], at: usize, i: usize, low: u8) -> Walked
 // From node 6, with 22 bits loaded: the categories.
 fn category(s: &[u8], w: Wide, table: &[u8], at: usize) -> Walked
     requires { ⌜ at + 11 ≤ length (now table) ⌝ }
-    ensures { λ q. ⌜ ((m : ℕ) → Reads (now (s .entry)) 22 0 (walk (suc (suc (suc m))) (elevenAt (now (table .entry)) at) tokenTree 6) w
+    ensures { λ q. ⌜ ((m : ℕ) → WideReads (now (s .entry)) 22 0 (walk (suc (suc (suc m))) (elevenAt (now (table .entry)) at) tokenTree 6) w
         (q .token) (q .next)) × (q .token < 12) ⌝ }
 {
     let a = w.bit(table[at + 6]);
@@ -62,7 +62,7 @@ fn category(s: &[u8], w: Wide, table: &[u8], at: usize) -> Walked
 // From node 3: two to four, and the categories.
 fn above(s: &[u8], w: Wide, table: &[u8], at: usize) -> Walked
     requires { ⌜ at + 11 ≤ length (now table) ⌝ }
-    ensures { λ q. ⌜ ((m : ℕ) → Reads (now (s .entry)) 0 4 (walk (suc (suc (suc (suc m)))) (elevenAt (now (table .entry)) at) tokenTree 3) w
+    ensures { λ q. ⌜ ((m : ℕ) → WideReads (now (s .entry)) 0 4 (walk (suc (suc (suc (suc m)))) (elevenAt (now (table .entry)) at) tokenTree 3) w
         (q .token) (q .next)) × (q .token < 12) ⌝ }
 {
     let v = w.fill(s);
@@ -82,7 +82,7 @@ fn above(s: &[u8], w: Wide, table: &[u8], at: usize) -> Walked
 // From node 1, with fifteen bits loaded: zero, one, and above.
 fn not_ended(s: &[u8], w: Wide, table: &[u8], at: usize) -> Walked
     requires { ⌜ at + 11 ≤ length (now table) ⌝ }
-    ensures { λ q. ⌜ ((m : ℕ) → Reads (now (s .entry)) 15 4
+    ensures { λ q. ⌜ ((m : ℕ) → WideReads (now (s .entry)) 15 4
         (walk (suc (suc (suc (suc (suc (suc m)))))) (elevenAt (now (table .entry)) at) tokenTree 1) w (q .token) (q .next))
         × (q .token < 12) ⌝ }
 {
@@ -113,7 +113,7 @@ fn started(s: &[u8], w: Wide, prob: u8, zero: bool) -> Bit
 // One token, its eleven probabilities from `at` on in the table; after a zero the block does not end.
 pub(crate) fn coded_token(s: &[u8], w: Wide, table: &[u8], at: usize, zero: bool) -> Walked
     requires { ⌜ at + 11 ≤ length (now table) ⌝ }
-    ensures { λ q. ⌜ Reads (now (s .entry)) 0 8 (token (elevenAt (now (table .entry)) at) zero) w (q .token) (q .next) × (q .token < 12) ⌝ }
+    ensures { λ q. ⌜ WideReads (now (s .entry)) 0 8 (token (elevenAt (now (table .entry)) at) zero) w (q .token) (q .next) × (q .token < 12) ⌝ }
 {
     let a = started(s, w, table[at], zero);
     let x = a.next;

@@ -32,6 +32,7 @@ unfoldable pub turns : (ℕ → Change) → (n : ℕ) → Change
 turns f zero p = p
 turns f (suc n) p = f n (turns f n p)
 
+-- the change where the test holds, else none
 unfoldable pub when : Bool → Change → Change
 when true f p = f p
 when false f p = p
@@ -62,6 +63,7 @@ sweepOf g at along step n = turns (λ i. positionOf g (at + i * along) step) n
 unfoldable pub verticalEdges : Edge → (w x y n : ℕ) → Change
 verticalEdges g w x y n = sweepOf g (y * w + x - 4) w 1 n
 
+-- n positions along row y, a column apart
 unfoldable pub horizontalEdges : Edge → (w x y n : ℕ) → Change
 horizontalEdges g w x y n = sweepOf g ((y - 4) * w + x) 1 w n
 
@@ -70,6 +72,7 @@ horizontalEdges g w x y n = sweepOf g ((y - 4) * w + x) 1 w n
 abbrev pub outerEdge : Bool → Strength → Edge
 outerEdge simple t = record { simple = simple; outer = true; limit = t .limit + 4; inner = t .inner; threshold = t .threshold }
 
+-- the edges inside a macroblock have the limit itself
 abbrev pub innerEdge : Bool → Strength → Edge
 innerEdge simple t = record { simple = simple; outer = false; limit = t .limit; inner = t .inner; threshold = t .threshold }
 
@@ -77,6 +80,7 @@ innerEdge simple t = record { simple = simple; outer = false; limit = t .limit; 
 unfoldable pub verticalsOf : Edge → (w x y n : ℕ) → Change
 verticalsOf g w x y n = turns (λ j. verticalEdges g w (x + 4 * j + 4) y n) (n / 4 - 1)
 
+-- the horizontal ones, likewise
 unfoldable pub horizontalsOf : Edge → (w x y n : ℕ) → Change
 horizontalsOf g w x y n = turns (λ j. horizontalEdges g w x (y + 4 * j + 4) n) (n / 4 - 1)
 
@@ -98,6 +102,7 @@ macroblockEdges simple strengths n wide k =
     let t = strengthAt strengths k in
     when (not (eqb (t .limit) 0)) (squareOf simple t (wide * n) n (k % wide) (k / wide))
 
+-- the first m macroblocks, one after the other
 unfoldable pub rasterOf : Bool → (strengths : List ℕ) → (n wide m : ℕ) → Change
 rasterOf simple strengths n wide m = turns (macroblockEdges simple strengths n wide) m
 

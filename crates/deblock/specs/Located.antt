@@ -8,6 +8,7 @@ use lib.ListN.{length}
 use Rattle.lent.specs.Records.{strengthWidth, strengthAt}
 use Rattle.planes.specs.Predict.{Size}
 use Rattle.planes.specs.Places.{Square, by-size}
+pub use Rattle.deblock.specs.Moves.{PlaneGrid}
 
 -- the edge left of column x in n rows from y on has four samples on either side
 pub record Upright (len w x y n : ℕ) : Type 0 where
@@ -26,14 +27,7 @@ pub record Level (len w x y n : ℕ) : Type 0 where
   pub high : y + 4 ≤ 16384
   pub some : 0 < w
 
--- a plane of wide by high squares of n by n
-pub record PlaneGrid (len n wide high : ℕ) : Type 0 where
-  pub size : Size n
-  pub across : wide * n ≤ 16384
-  pub down : high * n ≤ 16384
-  pub area : high * n * (wide * n) ≤ len
-
--- the same with strengths for each
+-- a plane of squares with strengths for each
 pub record Whole (len n wide high : ℕ) (strengths : List ℕ) : Type 0 where
   pub grid : PlaneGrid len n wide high
   pub long : length strengths ≡ strengthWidth * (wide * high)

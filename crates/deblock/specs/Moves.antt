@@ -1,8 +1,16 @@
 -- How far deblocking can move a sample once all its edges are done: the bounds that follow from the kernel's. MovesLaws.antt proves them.
-use Prim.Native.Nat.{ℕ, zero, suc, _+_, _-_, _*_, _/_}
+use Prim.Native.Nat.{ℕ, zero, suc, _+_, _-_, _*_, _/_, _≤_}
 use mathlib.Core.Bool.{Bool, true, false}
 use lib.ListN.{getD}
 use Rattle.filter.specs.Moves.{farthest}
+use Rattle.planes.specs.Predict.{Size}
+
+-- A plane of `len` samples that holds wide by high squares of n by n, at most 16384 samples across and down.
+pub record PlaneGrid (len n wide high : ℕ) : Type 0 where
+  pub size : Size n
+  pub across : wide * n ≤ 16384
+  pub down : high * n ≤ 16384
+  pub area : high * n * (wide * n) ≤ len
 
 -- d 0, d 1, .. d (n - 1) added up
 abbrev pub total : ℕ → (ℕ → ℕ) → ℕ

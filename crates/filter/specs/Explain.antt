@@ -47,3 +47,8 @@ Reason e simple edge limit inner threshold MacroblockEdge =
     (withinLimit e limit ≡ true) × (simple ≡ false) × SmoothBefore e inner 6 × (highVariance e threshold ≡ false) × (edge ≡ true)
 Reason e simple edge limit inner threshold InnerEdge =
     (withinLimit e limit ≡ true) × (simple ≡ false) × SmoothBefore e inner 6 × (highVariance e threshold ≡ false) × (edge ≡ false)
+
+-- The rule that is named for eight samples with limit 40, inner 5 and threshold 2.
+abbrev pub named : (simple edge : Bool) → (p3 p2 p1 p0 q0 q1 q2 q3 : ℕ) → Rule
+named simple edge p3 p2 p1 p0 q0 q1 q2 q3 =
+    explainOf (p3 ∷ p2 ∷ p1 ∷ p0 ∷ q0 ∷ q1 ∷ q2 ∷ q3 ∷ []) simple edge 40 5 2 .rule

@@ -15,7 +15,7 @@ use Rattle.filter.specs.declared.answers.Rule.the-variants.{EdgeFailed, 
 use Rattle.filter.specs.declared.explain.Explanation.{Explanation}
 use Rattle.filter.specs.Kernel.{Samples, samplesAcross, withinLimit, firstFalse, smooth, roughAt, highVariance, ruleOf, stepsOf, movedOf, filterOf}
 use Rattle.filter.specs.KernelLaws.{rule-edge-failed, rule-simple, rule-rough, rule-smooth, filter-at, steps-in}
-use Rattle.filter.specs.Explain.{toldOf, explainOf, smoothPairs, smoothPair, SmoothBefore, Reason}
+use Rattle.filter.specs.Explain.{toldOf, explainOf, smoothPairs, smoothPair, SmoothBefore, Reason, named}
 
 -- ---- the first test that fails
 -- every test before it holds, and where it is one of the tests it fails; no other test does both
@@ -160,11 +160,7 @@ module _ (e : List ℕ) (simple edge : Bool) (limit inner threshold : ℕ) where
   unfolding explainOf toldOf
   told-in = steps-in (ruleOf (samplesAcross e) simple edge limit inner threshold) (samplesAcross e)
 
--- ---- every reason is named somewhere: limit 40, inner 5, threshold 2
-abbrev named : (simple edge : Bool) → (p3 p2 p1 p0 q0 q1 q2 q3 : ℕ) → Rule
-named simple edge p3 p2 p1 p0 q0 q1 q2 q3 =
-    explainOf (p3 ∷ p2 ∷ p1 ∷ p0 ∷ q0 ∷ q1 ∷ q2 ∷ q3 ∷ []) simple edge 40 5 2 .rule
-
+-- ---- every reason is named somewhere
 pub every-reason : named true true 90 90 90 90 110 110 110 111 ∷ named false true 90 90 90 90 110 110 110 111
     ∷ named false true 80 90 90 90 90 90 90 80 ∷ named false true 80 80 90 90 90 90 80 80 ∷ named false true 80 80 80 90 90 80 80 80
     ∷ named false true 90 90 90 90 90 90 90 80 ∷ named false true 90 90 90 90 90 90 80 80 ∷ named false true 90 90 90 90 90 80 80 80

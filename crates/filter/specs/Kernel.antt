@@ -1,6 +1,6 @@
 -- The loop filter's kernel, RFC 6386 section 15: what eight samples across an edge become. It is in two steps: `ruleOf` says which rule
 -- acts and why, and `stepsOf` what that rule adds to each sample before the sum is clipped to a byte.
-use Prim.Native.Nat.{ℕ, suc, _+_, _*_}
+use Prim.Native.Nat.{ℕ, suc, _+_, _*_, _<_}
 use mathlib.Core.Bool.{Bool, true, false, cond, not, _||_}
 use mathlib.Core.List.{List, [], _∷_}
 use lib.Dec.{leb, ltb}
@@ -25,6 +25,7 @@ pub record Eight (A : Type 0) : Type 0 where
   pub q2 : A
   pub q3 : A
 
+-- the eight by their places, 0 for p3 to 7 for q3
 abbrev pub eightOf : {A : Type 0} → (ℕ → A) → Eight A
 eightOf f = record { p3 = f 0; p2 = f 1; p1 = f 2; p0 = f 3; q0 = f 4; q1 = f 5; q2 = f 6; q3 = f 7 }
 
@@ -32,6 +33,7 @@ eightOf f = record { p3 = f 0; p2 = f 1; p1 = f 2; p0 = f 3; q0 = f 4; q1 = f 5;
 abbrev pub Samples : Type 0
 Samples = Eight ℤ
 
+-- the samples of a list of eight bytes
 abbrev pub samplesAcross : List ℕ → Samples
 samplesAcross e = eightOf (λ i. pos (getD e i 0))
 
@@ -152,3 +154,7 @@ pixelNumberOf Refused = 9
 abbrev pub pixelValuesOf : Pixel → ℕ
 pixelValuesOf (Value x) = x
 pixelValuesOf Refused = 0
+
+-- Every sample is a byte, as a fact.
+abbrev pub Bytes : List ℕ → Type 0
+Bytes e = (i : ℕ) → getD e i 0 < 256

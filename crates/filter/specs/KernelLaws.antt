@@ -12,7 +12,6 @@ use lib.ListN.{length, getD}
 use lib.IntN.{ℤ, pos, negsuc, negℤ, _+ℤ_, _*ℤ_}
 use lib.Signed.{leZ}
 use mir.Syntax.{w32}
-pub use Rattle.numbers.specs.Lists.{Bytes}
 use Rattle.numbers.specs.Tests.{never, lt-or}
 use Rattle.numbers.specs.In.{In, Each}
 use Rattle.numbers.specs.Parts.{to-le, of-le, add-parts, up-neg, dn-neg, up-times, dn-times, shr-parts}
@@ -27,6 +26,7 @@ use Rattle.numbers.specs.Lists.{built, length-build, getD-build, getD-build-pas
 use Rattle.filter.specs.declared.answers.Rule.{Rule}
 use Rattle.filter.specs.declared.answers.Rule.the-variants.{EdgeFailed, Rough, Simple, HighVariance, MacroblockEdge, InnerEdge}
 use Rattle.filter.specs.declared.answers.Pixel.the-variants.{Value, Refused}
+pub use Rattle.filter.specs.Kernel.{Bytes}
 use Rattle.filter.specs.Kernel.{Samples, samplesAcross, withinLimit, firstFalse, roughAt, highVariance, ruleOf, across, tapped, eighth, part, half, sides, noSteps, commonSteps, macroblockSteps, innerSteps, stepsOf, movedOf, filterOf, pixelOf}
 
 -- ---- the first test that fails

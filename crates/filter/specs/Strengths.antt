@@ -1,4 +1,4 @@
--- The strengths of a macroblock's edge filter (RFC 6386, sections 9.6 and 15.2 to 15.4).
+-- The strengths of a macroblock's edge filter (RFC 6386, sections 9.4 and 15.2 to 15.4).
 use Prim.Native.Nat.{ℕ, _+_, _-_, _*_, _/_, min, max}
 use mathlib.Core.Bool.{Bool, true, false, _&&_}
 use mathlib.Core.List.{List, [], _∷_}
@@ -12,6 +12,7 @@ use Rattle.filter.specs.declared.strengths.Strengths.the-variants as T
 unfoldable pub slowed : ℕ → ℕ → ℕ
 slowed level sharp = elim (ltb 4 sharp) [ true ↦ level / 4 | false ↦ level / 2 ]
 
+-- the interior limit of a level
 unfoldable pub innerOf : ℕ → ℕ → ℕ
 innerOf level sharp = max (elim (ltb 0 sharp) [ true ↦ min (slowed level sharp) (9 - sharp) | false ↦ level ]) 1
 
@@ -19,6 +20,7 @@ innerOf level sharp = max (elim (ltb 0 sharp) [ true ↦ min (slowed level sharp
 unfoldable pub thresholdOf : ℕ → ℕ
 thresholdOf level = elim (leb 40 level) [ true ↦ 2 | false ↦ elim (leb 15 level) [ true ↦ 1 | false ↦ 0 ] ]
 
+-- no filtering: four zeros
 abbrev pub noStrength : Strength
 noStrength = record { limit = 0; inner = 0; threshold = 0; inside = 0 }
 
@@ -38,10 +40,12 @@ strengthFine t = leb (t .limit) 189 && leb (t .inner) 63 && leb (t .threshold) 2
 unfoldable pub strengthAnswer : ℕ → ℕ → Bool → Strengths
 strengthAnswer level sharp inside = elim (leb level 63) [ true ↦ T.Of (strengthOf level sharp inside) | false ↦ T.Refused ]
 
+-- the answer's number: 0, or 9 for a level that is refused
 abbrev pub strengthsNumberOf : Strengths → ℕ
 strengthsNumberOf (T.Of t) = 0
 strengthsNumberOf T.Refused = 9
 
+-- the answer's strengths: zeros where it is refused
 abbrev pub strengthsValuesOf : Strengths → Strength
 strengthsValuesOf (T.Of t) = t
 strengthsValuesOf T.Refused = noStrength

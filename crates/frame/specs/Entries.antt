@@ -21,6 +21,7 @@ abbrev pub negative : ℕ → ℕ → ℤ
 negative zero size = pos size
 negative (suc n) size = pos 0 -ℤ pos size
 
+-- a signed field as a number
 abbrev pub valueOf : Signed → ℤ
 valueOf x = negative (x .sign) (x .size)
 
@@ -42,6 +43,7 @@ fourFrom i f = (i, f .a) ∷ (i + 1, f .b) ∷ (i + 2, f .c) ∷ (i + 3, f .d) �
 abbrev pub threeFrom : ℕ → Three → List (ℕ × Signed)
 threeFrom i t = (i, plain (t .a)) ∷ (i + 1, plain (t .b)) ∷ (i + 2, plain (t .c)) ∷ []
 
+-- the segments' entries, from update_segmentation()
 unfoldable pub withSegments : Segments → List Signed → List Signed
 withSegments g l =
     storedEntries (threeFrom Name.mapProbability (g .probs))
@@ -54,6 +56,7 @@ withSegments g l =
     ∷ [])
     l)))
 
+-- the loop filter's entries
 unfoldable pub withFilter : Filter → List Signed → List Signed
 withFilter f =
     storedEntries
@@ -64,6 +67,7 @@ withFilter f =
     ∷ (Name.smallDelta, f .deltas .small)
     ∷ [])
 
+-- the quantizers' entries, from quant_indices()
 unfoldable pub withQuantizers : Quantizers → List Signed → List Signed
 withQuantizers q =
     storedEntries
@@ -75,6 +79,7 @@ withQuantizers q =
     ∷ (Name.uvacDelta, q .uvac)
     ∷ [])
 
+-- all entries before the coefficient probabilities; those with no name are 0
 unfoldable pub numbers : Header → List Signed
 numbers h = withQuantizers (h .quantizers) (withFilter (h .filter) (withSegments (h .segments) (replicate Name.coefficientProbability noValue)))
 
@@ -89,5 +94,6 @@ numberAt first probs skip chance i =
       ]
     ]
 
+-- the 1096 entries as numbers
 unfoldable pub entries : Header → List ℤ
 entries h = build Name.entryCount (λ i. valueOf (numberAt (numbers h) (h .probs) (h .skip) (h .chance) i))

@@ -31,6 +31,7 @@ when (suc n) a m = m
 abbrev pub noValue : Signed
 noValue = record { sign = 0; size = 0 }
 
+-- the flag, then the magnitude of n bits, then the sign
 unfoldable pub signed : ℕ → Reading Signed
 signed n = do
   given ← literal 1  -- .._update, .._flag, .._present
@@ -39,6 +40,7 @@ signed n = do
     sign ← literal 1  -- .._sign
     done (record { sign = sign; size = size }))
 
+-- four of them, one for each segment
 unfoldable pub four : ℕ → Reading Four
 four n = do
   a ← signed n
@@ -51,9 +53,11 @@ four n = do
 abbrev pub noFour : Four
 noFour = record { a = noValue; b = noValue; c = noValue; d = noValue }
 
+-- what stands for the features where they are not updated
 abbrev pub noFeatures : Features
 noFeatures = record { absolute = 0; quantizers = noFour; levels = noFour }
 
+-- segment_feature_mode, then the segments' quantizers and levels
 unfoldable pub features : Reading Features
 features = do
   absolute ← literal 1  -- segment_feature_mode
@@ -67,9 +71,11 @@ mapProb = do
   given ← literal 1  -- segment_prob_update
   when given 255 (literal 8)  -- segment_prob
 
+-- what stands for the map's probabilities where there is no map
 abbrev pub noProbs : Three
 noProbs = record { a = 0; b = 0; c = 0 }
 
+-- the three nodes of the map's tree
 unfoldable pub mapProbs : Reading Three
 mapProbs = do
   a ← mapProb
@@ -77,9 +83,11 @@ mapProbs = do
   c ← mapProb
   done (record { a = a; b = b; c = c })
 
+-- what stands for all of it where segmentation is off
 abbrev pub noSegments : Segments
 noSegments = record { on = 0; map = 0; features = noFeatures; probs = noProbs }
 
+-- what follows segmentation_enabled: two flags, and what they announce
 unfoldable pub update : ℕ → Reading Segments
 update on = do
   map ← literal 1  -- update_mb_segmentation_map
@@ -88,6 +96,7 @@ update on = do
   probs ← when map noProbs mapProbs
   done (record { on = on; map = map; features = features; probs = probs })
 
+-- segmentation_enabled, then the rest where it is 1
 unfoldable pub segments : Reading Segments
 segments = do
   on ← literal 1  -- segmentation_enabled
@@ -104,11 +113,13 @@ deltas = do
   modes ← four 6  -- mb_mode_delta_update_flag
   done (record { intra = frames .a; small = modes .a })
 
+-- mode_ref_lf_delta_update, then the deltas where it is 1
 unfoldable pub deltasUpdate : Reading Deltas
 deltasUpdate = do
   update ← literal 1  -- mode_ref_lf_delta_update
   when update noDeltas deltas
 
+-- the loop filter's fields in order
 unfoldable pub filter : Reading Filter
 filter = do
   kind ← literal 1  -- filter_type
@@ -135,6 +146,7 @@ abbrev pub chosen : Bool → ℕ → Reading ℕ
 chosen true old = literal 8  -- coeff_prob
 chosen false old = done old
 
+-- a flag with the probability p, then eight bits where it is 1
 unfoldable pub prob : ℕ → ℕ → Reading ℕ
 prob p old = do
   given ← symbol p  -- coeff_prob_update_flag
@@ -147,6 +159,7 @@ probsFrom (suc n) i table = do
   p ← prob (getD updateProbs i 0) (getD table i 0)
   probsFrom n (i + 1) (set table i p)
 
+-- all 1056, from those that a key frame starts with
 unfoldable pub probs : Reading (List ℕ)
 probs = probsFrom probabilityCount 0 defaultProbs
 

@@ -33,6 +33,7 @@ module _ (b : List ℕ) (table count : ℕ) where
   unfoldable pub partitionSpan : ℕ → ℕ → Span
   partitionSpan i at = elim (ltb i count) [ true ↦ record { start = at; len = lengthOf i at } | false ↦ noSpan ]
 
+  -- the eight spans, empty past the count
   unfoldable pub tokenSpans : List Span
   tokenSpans = build 8 (λ i. partitionSpan i (partitionStart i))
 

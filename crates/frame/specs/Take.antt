@@ -24,9 +24,11 @@ use Rattle.frame.specs.Entries.{entries}
 abbrev pub noTile : Tile
 noTile = record { first = noSpan; tokens = replicate 8 noSpan; reader = noReader; count = 0; width = 0; height = 0 }
 
+-- the answer of a refusal
 abbrev pub refusedAnswer : ℕ → Answer
 refusedAnswer number = record { number = number; tile = noTile; shown = record { width = 0; height = 0 }; simple = false }
 
+-- a refusal, with 1096 entries of zero
 unfoldable pub nothingTaken : ℕ → Taken
 nothingTaken number = record { answer = refusedAnswer number; header = replicate entryCount (pos 0) }
 
@@ -39,6 +41,7 @@ firstOf b = record { start = 10; len = firstSize b }
 abbrev pub sizesPlace : List ℕ → ℕ
 sizesPlace b = 10 + firstSize b
 
+-- what the picture call takes: spans, reader, count, sides
 abbrev pub tileOf : List ℕ → Header → Reader → Tile
 tileOf b h r =
     record {
@@ -60,6 +63,7 @@ answerOf b h r =
       simple = not (eqb (h .filter .kind) 0);
     }
 
+-- the answer, and the header's entries
 unfoldable pub wholeOf : List ℕ → Header → Reader → Taken
 wholeOf b h r = record { answer = answerOf b h r; header = entries h }
 

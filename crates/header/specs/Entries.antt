@@ -27,7 +27,7 @@ segmentLevel = 10
 abbrev pub mapProbability : ℕ
 mapProbability = 14
 
--- ---- the loop filter (section 9.6)
+-- ---- the loop filter (section 9.4)
 -- 18: the frame's level
 abbrev pub frameLevel : ℕ
 frameLevel = 18
@@ -57,15 +57,19 @@ baseIndex = 31
 abbrev pub ydcDelta : ℕ
 ydcDelta = 32
 
+-- 33: Y2 DC
 abbrev pub y2dcDelta : ℕ
 y2dcDelta = 33
 
+-- 34: Y2 AC
 abbrev pub y2acDelta : ℕ
 y2acDelta = 34
 
+-- 35: UV DC
 abbrev pub uvdcDelta : ℕ
 uvdcDelta = 35
 
+-- 36: UV AC
 abbrev pub uvacDelta : ℕ
 uvacDelta = 36
 

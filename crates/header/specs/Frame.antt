@@ -1,4 +1,4 @@
--- What all macroblocks of a picture share, from the header (RFC 6386, sections 9.3, 9.6, 9.11, 14.1 and 15).
+-- What all macroblocks of a picture share, from the header (RFC 6386, sections 9.3, 9.4, 9.6, 9.11, 14.1 and 15).
 use Prim.Native.Nat.{ℕ, _+_}
 use mathlib.Core.Bool.{Bool, true, false}
 use mathlib.Core.List.{List, [], _∷_}
@@ -16,6 +16,7 @@ use Rattle.header.specs.declared.frame.Framed.{Framed}
 use Rattle.numbers.specs.declared.Checked.{Checked}
 use Rattle.numbers.specs.declared.Checked.the-variants as T
 
+-- the filter levels of the four segments, for small modes or large
 abbrev pub levelsOf : List ℤ → Bool → List ℕ
 levelsOf h small = levelOf h 0 small ∷ levelOf h 1 small ∷ levelOf h 2 small ∷ levelOf h 3 small ∷ []
 
@@ -38,9 +39,11 @@ frameOf h = record {
   announced = announcedOf h;
 }
 
+-- what stands for what is announced after a refusal
 abbrev pub noAnnounced : Announced
 noAnnounced = record { map = false; «map_probabilities» = replicate 3 0; skips = false; «skip_probability» = 0 }
 
+-- what stands for the frame after a refusal: zeros
 abbrev pub noFrame : Frame
 noFrame = record {
   factors = noFactors ∷ noFactors ∷ noFactors ∷ noFactors ∷ [];
@@ -54,6 +57,7 @@ noFrame = record {
 abbrev pub factorsAt : Frame → ℕ → Factors
 factorsAt f segment = getD (f .factors) segment noFactors
 
+-- the level of a macroblock by its segment, and whether its modes are small
 abbrev pub levelAt : Frame → Bool → ℕ → ℕ
 levelAt f true segment = getD (f .small) segment 0
 levelAt f false segment = getD (f .large) segment 0

@@ -8,6 +8,7 @@ use lib.IntN.{ℤ, pos, negsuc}
 use lib.Signed.{ltZ}
 use Rattle.header.specs.Entries.{entryCount}
 
+-- entry i of the header; past the end it is 0
 abbrev pub entry : List ℤ → ℕ → ℤ
 entry h i = getD h i (pos 0)
 
@@ -26,6 +27,7 @@ probabilityOf (negsuc n) = 255 - n % 256
 abbrev pub presentAt : List ℤ → ℕ → Bool
 presentAt h i = presentOf (entry h i)
 
+-- the probability that entry i stands for
 abbrev pub probabilityAt : List ℤ → ℕ → ℕ
 probabilityAt h i = probabilityOf (entry h i)
 

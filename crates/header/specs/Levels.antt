@@ -1,4 +1,4 @@
--- The filter level of a macroblock (RFC 6386, sections 9.3, 9.6 and 15).
+-- The filter level of a macroblock (RFC 6386, sections 9.3, 9.4 and 15).
 use Prim.Native.Nat.{ℕ, _+_}
 use mathlib.Core.Bool.{Bool, true, false, _&&_}
 use mathlib.Core.List.{List}
@@ -16,6 +16,7 @@ abbrev pub deltas : List ℤ → Bool → ℤ
 deltas h true = entry h intraDelta +ℤ entry h smallDelta
 deltas h false = entry h intraDelta
 
+-- what is added to the level: nothing where deltas are off
 unfoldable pub deltaOf : List ℤ → Bool → ℤ
 deltaOf h small = elim (presentAt h deltasOn) [ true ↦ deltas h small | false ↦ pos 0 ]
 
@@ -27,10 +28,12 @@ levelOf h segment small = upTo 63 (pos (upTo 63 (segmentedOf h frameLevel (segme
 unfoldable pub levelAnswer : List ℤ → ℕ → Bool → Level
 levelAnswer h segment small = elim (headerOf h && ltb segment 4) [ true ↦ L.Of (levelOf h segment small) | false ↦ L.Refused ]
 
+-- the answer's number: 0, or 9 for an argument that is refused
 abbrev pub levelNumberOf : Level → ℕ
 levelNumberOf (L.Of n) = 0
 levelNumberOf L.Refused = 9
 
+-- the answer's value: 0 where it is refused
 abbrev pub levelValuesOf : Level → ℕ
 levelValuesOf (L.Of n) = n
 levelValuesOf L.Refused = 0

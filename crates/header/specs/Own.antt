@@ -1,4 +1,5 @@
--- A segment's own value of something that the frame has one of (RFC 6386, sections 9.3 and 9.6).
+-- A segment's own value of something that the frame has one of (RFC 6386, section 9.3): its quantizer index
+-- (section 9.6) or its filter level (section 9.4).
 use Prim.Native.Nat.{ℕ}
 use mathlib.Core.Bool.{true, false}
 use mathlib.Core.List.{List}

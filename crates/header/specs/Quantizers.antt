@@ -25,6 +25,7 @@ dcSteps =
     ∷ 91 ∷ 93 ∷ 95 ∷ 96 ∷ 98 ∷ 100 ∷ 101 ∷ 102 ∷ 104 ∷ 106 ∷ 108 ∷ 110 ∷ 112 ∷ 114 ∷ 116 ∷ 118
     ∷ 122 ∷ 124 ∷ 126 ∷ 128 ∷ 130 ∷ 132 ∷ 134 ∷ 136 ∷ 138 ∷ 140 ∷ 143 ∷ 145 ∷ 148 ∷ 151 ∷ 154 ∷ 157 ∷ []
 
+-- the same of every other coefficient
 unfoldable pub acSteps : List ℕ
 acSteps =
     4 ∷ 5 ∷ 6 ∷ 7 ∷ 8 ∷ 9 ∷ 10 ∷ 11 ∷ 12 ∷ 13 ∷ 14 ∷ 15 ∷ 16 ∷ 17 ∷ 18 ∷ 19
@@ -36,9 +37,11 @@ acSteps =
     ∷ 155 ∷ 158 ∷ 161 ∷ 164 ∷ 167 ∷ 170 ∷ 173 ∷ 177 ∷ 181 ∷ 185 ∷ 189 ∷ 193 ∷ 197 ∷ 201 ∷ 205 ∷ 209
     ∷ 213 ∷ 217 ∷ 221 ∷ 225 ∷ 229 ∷ 234 ∷ 239 ∷ 245 ∷ 249 ∷ 254 ∷ 259 ∷ 264 ∷ 269 ∷ 274 ∷ 279 ∷ 284 ∷ []
 
+-- the step of a first coefficient at an index
 abbrev pub dcAt : ℕ → ℕ
 dcAt i = getD dcSteps i 0
 
+-- that of the others
 abbrev pub acAt : ℕ → ℕ
 acAt i = getD acSteps i 0
 
@@ -47,6 +50,7 @@ acAt i = getD acSteps i 0
 abbrev pub indexOf : List ℤ → ℕ → ℕ
 indexOf h segment = upTo 127 (segmentedOf h baseIndex (segmentIndex + segment))
 
+-- the index with a delta of its own
 abbrev pub indexWith : ℕ → ℤ → ℕ
 indexWith index delta = upTo 127 (pos index +ℤ delta)
 
@@ -71,13 +75,16 @@ factorsOf h segment =
 unfoldable pub quantizersOf : List ℤ → ℕ → Quantizers
 quantizersOf h segment = elim (headerOf h && ltb segment 4) [ true ↦ Q.Ready (factorsOf h segment) | false ↦ Q.Refused ]
 
+-- the answer's number: 0, or 9 for an argument that is refused
 abbrev pub quantizersNumberOf : Quantizers → ℕ
 quantizersNumberOf (Q.Ready f) = 0
 quantizersNumberOf Q.Refused = 9
 
+-- what stands for the factors after a refusal: zeros
 abbrev pub noFactors : Factors
 noFactors = record { ydc = 0; yac = 0; y2dc = 0; y2ac = 0; uvdc = 0; uvac = 0 }
 
+-- the answer's factors: zeros where it is refused
 abbrev pub quantizersValuesOf : Quantizers → Factors
 quantizersValuesOf (Q.Ready f) = f
 quantizersValuesOf Q.Refused = noFactors

@@ -1,4 +1,5 @@
-// What all macroblocks of a picture share: made once from the header, which is tried once (RFC 6386, sections 9.3, 9.6, 9.11, 14.1 and 15).
+// What all macroblocks of a picture share: made once from the header, which is tried once (RFC 6386, sections 9.3, 9.4, 9.6, 9.11, 14.1
+// and 15).
 use crate::entries::MAP_ON;
 use crate::entries::MAP_PROBABILITY;
 use crate::entries::SHARPNESS;

@@ -1,4 +1,4 @@
-// The filter level of a macroblock (RFC 6386, sections 9.3, 9.6 and 15): by its segment, and by whether its modes are small.
+// The filter level of a macroblock (RFC 6386, sections 9.3, 9.4 and 15): by its segment, and by whether its modes are small.
 use crate::entries::DELTAS_ON;
 use crate::entries::FRAME_LEVEL;
 use crate::entries::INTRA_DELTA;

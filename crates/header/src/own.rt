@@ -1,4 +1,4 @@
-// A segment's own value of something that the frame has one of (RFC 6386, sections 9.3 and 9.6).
+// A segment's own value of something that the frame has one of (RFC 6386, sections 9.3, 9.4 and 9.6).
 use crate::entries::SEGMENTS_ABSOLUTE;
 use crate::entries::SEGMENTS_ON;
 use crate::entries::present;

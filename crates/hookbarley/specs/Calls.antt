@@ -5,7 +5,7 @@ use mathlib.Core.List.{List}
 use lib.Dec.{eqb}
 use lib.ListN.{length, getD}
 use Rattle.filter.specs.Kernel.{filterOf}
-use Rattle.macroblock.specs.declared.arguments.Reads.{Reads}
+use Rattle.macroblock.specs.declared.arguments.SymbolCounts.{SymbolCounts}
 use Rattle.macroblock.specs.Macroblock.{Planes}
 use Rattle.deblock.specs.Deblock as Deblock
 use Rattle.deblock.specs.Deblock.{Outcome, deblockOf}
@@ -16,15 +16,18 @@ use Rattle.picture.specs.Checks.{Call}
 use Rattle.picture.specs.Picture.{Ended, numberOf, valuesOf, pictureOf}
 use Rattle.picture.specs.Counts.{costOf}
 
+-- what `hookbarley_decode` leaves: its number, k, the symbols read (M-103), the lent memory
 pub record PictureCalled : Type 0 where
   pub number : ℕ
   pub finished : ℕ
-  pub reads : Reads
+  pub reads : SymbolCounts
   pub mem : Memory
 
-abbrev pub toPictureCalled : Ended → Reads → PictureCalled
+-- the picture call's answer and its counts, as C sees them
+abbrev pub toPictureCalled : Ended → SymbolCounts → PictureCalled
 toPictureCalled e reads = record { number = numberOf (e .answer); finished = valuesOf (e .answer); reads = reads; mem = e .mem }
 
+-- the five put together
 abbrev pub calledNumbers : (number finished first tokens : ℕ) → Memory → PictureCalled
 calledNumbers number finished first tokens mem = record { number = number; finished = finished; reads = record { first = first; tokens = tokens }; mem = mem }
 
@@ -32,6 +35,7 @@ calledNumbers number finished first tokens mem = record { number = number; finis
 abbrev pub spanFrom : (starts lengths : List ℕ) → ℕ → Span
 spanFrom starts lengths i = record { start = getD starts i 0; len = getD lengths i 0 }
 
+-- the eight of them
 abbrev pub spansFrom : (starts lengths : List ℕ) → List Span
 spansFrom starts lengths = listed 8 (spanFrom starts lengths)
 
@@ -52,9 +56,11 @@ pub record DeblockCalled : Type 0 where
   pub number : ℕ
   pub planes : Planes
 
+-- the deblocking call's answer, as C sees it
 abbrev pub toDeblockCalled : Outcome → DeblockCalled
 toDeblockCalled o = record { number = Deblock.deblockNumberOf (o .answer); planes = o .planes }
 
+-- `hookbarley_deblock`: the deblocking call, its flag a number
 unfoldable pub deblockCalledOf : Planes → (strengths : List ℕ) → (w h simple : ℕ) → DeblockCalled
 deblockCalledOf d strengths w h simple = toDeblockCalled (deblockOf d strengths w h (flagOf simple))
 
@@ -63,6 +69,7 @@ pub record Filtered : Type 0 where
   pub number : ℕ
   pub samples : List ℕ
 
+-- `hookbarley_filter`: the kernel where there are eight samples
 unfoldable pub filteredOf : List ℕ → (simple edge limit inner threshold : ℕ) → Filtered
 filteredOf e simple edge limit inner threshold =
     elim (eqb (length e) 8) [

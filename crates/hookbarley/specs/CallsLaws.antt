@@ -15,7 +15,7 @@ use Rattle.picture.specs.Checks.{Call, callOf}
 use Rattle.picture.specs.declared.rows.Decoded.{Decoded}
 use Rattle.picture.specs.Picture.{endedOf, numberOf, valuesOf, pictureOf}
 use Rattle.picture.specs.Counts.{costOf}
-use Rattle.macroblock.specs.declared.arguments.Reads.{Reads}
+use Rattle.macroblock.specs.declared.arguments.SymbolCounts.{SymbolCounts}
 use Rattle.macroblock.specs.Macroblock.{Planes}
 use Rattle.deblock.specs.declared.Deblocked.{Deblocked}
 use Rattle.deblock.specs.Deblock as Deblock
@@ -31,7 +31,7 @@ module _ (starts lengths : List ℕ) (c : Call) (m : Memory) where
   unfolding calledOf
   called-lengths d e = rw (eq-eqb _ _ d, ne-eqb _ _ e, calledOf)
 
-  pub called-picture : length starts ≡ 8 → length lengths ≡ 8 → {n k : ℕ} {d : Decoded} {r : Reads} {q : Memory} → n ≡ numberOf d → k ≡ valuesOf d → endedOf d q ≡ pictureOf c m → r ≡ costOf c m
+  pub called-picture : length starts ≡ 8 → length lengths ≡ 8 → {n k : ℕ} {d : Decoded} {r : SymbolCounts} {q : Memory} → n ≡ numberOf d → k ≡ valuesOf d → endedOf d q ≡ pictureOf c m → r ≡ costOf c m
       → calledNumbers n k (r .first) (r .tokens) q ≡ calledOf starts lengths c m
   unfolding calledOf
   called-picture d e {n} {k} {d = x} {r} {q} f g h j =
@@ -42,7 +42,7 @@ module _ (starts lengths : List ℕ) (c : Call) (m : Memory) where
 abbrev pub withTokens : Call → List Span → Call
 withTokens c s = let t = c .tile in callOf (c .bytes) (record { first = t .first; tokens = s; reader = t .reader; count = t .count; width = t .width; height = t .height }) (c .header)
 
-pub called-found : (starts lengths : List ℕ) (c : Call) (m : Memory) → length starts ≡ 8 → length lengths ≡ 8 → {n k : ℕ} {d : Decoded} {r : Reads} {q : Memory} → n ≡ numberOf d → k ≡ valuesOf d
+pub called-found : (starts lengths : List ℕ) (c : Call) (m : Memory) → length starts ≡ 8 → length lengths ≡ 8 → {n k : ℕ} {d : Decoded} {r : SymbolCounts} {q : Memory} → n ≡ numberOf d → k ≡ valuesOf d
     → {s : List Span} → s ≡ c .tile .tokens → (endedOf d q ≡ pictureOf (withTokens c s) m) × (r ≡ costOf (withTokens c s) m) → calledNumbers n k (r .first) (r .tokens) q ≡ calledOf starts lengths c m
 called-found starts lengths c m d e f g p h = called-picture starts lengths c m d e f g (h .0 ∙ (λ i. pictureOf (withTokens c (p i)) m)) (h .1 ∙ (λ i. costOf (withTokens c (p i)) m))
 

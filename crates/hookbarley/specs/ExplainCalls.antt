@@ -29,6 +29,7 @@ pairNumberOf HighVariance = 0
 pairNumberOf MacroblockEdge = 0
 pairNumberOf InnerEdge = 0
 
+-- what `hookbarley_explain` leaves: its number, rule and pair by number, the samples after, the steps
 pub record ExplainCalled : Type 0 where
   pub number : ℕ
   pub rule : ℕ
@@ -36,6 +37,7 @@ pub record ExplainCalled : Type 0 where
   pub after : List ℕ
   pub steps : List ℤ
 
+-- an explanation, as C sees it
 abbrev pub toExplainCalled : Explanation → ExplainCalled
 toExplainCalled x = record { number = 0; rule = ruleNumberOf (x .rule); pair = pairNumberOf (x .rule); after = x .after; steps = x .steps }
 

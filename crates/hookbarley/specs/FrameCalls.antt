@@ -22,11 +22,13 @@ numbersOf a =
     ++ listed 8 (λ i. getD (a .tile .tokens) i noSpan .len)
     ++ (a .tile .reader .at ∷ a .tile .reader .range ∷ a .tile .reader .shifts ∷ a .tile .reader .window ∷ [])
 
+-- what `hookbarley_frame` leaves: its number, the entries, the 28 numbers
 pub record FrameCalled : Type 0 where
   pub number : ℕ
   pub header : List ℤ
   pub tile : List ℕ
 
+-- what is taken of a frame, as C sees it
 abbrev pub toFrameCalled : Taken → FrameCalled
 toFrameCalled t = record { number = t .answer .number; header = t .header; tile = numbersOf (t .answer) }
 

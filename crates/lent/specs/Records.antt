@@ -25,6 +25,7 @@ use Rattle.lent.specs.declared.macroblocks.StrengthRecord.{StrengthRecor
 unfoldable pub recordAt : (width : ℕ) → List ℕ → ℕ → List ℕ
 recordAt width mem i = build width (λ j. getD mem (i * width + j) 0)
 
+-- the memory with record i written
 unfoldable pub recordSet : (width : ℕ) → List ℕ → ℕ → List ℕ → List ℕ
 recordSet width mem i bytes = copied mem (i * width) bytes 0 width
 
@@ -42,6 +43,7 @@ pub record Written : Type 0 where
   pub answer : Checked
   pub mem : List ℕ
 
+-- a record written, where there is one and what is written is in range
 unfoldable pub recordWritten : (width : ℕ) → List ℕ → ℕ → (fine : Bool) → List ℕ → Written
 recordWritten width mem i fine bytes =
     elim (ltb i (recordsIn width mem) && fine) [
@@ -54,6 +56,7 @@ pub record Taken : Type 0 where
   pub answer : Checked
   pub bytes : List ℕ
 
+-- a record read, where there is one
 unfoldable pub recordFound : (width : ℕ) → List ℕ → ℕ → Taken
 recordFound width mem i =
     elim (ltb i (recordsIn width mem)) [
@@ -65,9 +68,11 @@ recordFound width mem i =
 abbrev pub columnWidth : ℕ
 columnWidth = 13
 
+-- the thirteen bytes of a context
 abbrev pub columnRecord : Context → List ℕ
 columnRecord c = c .modes ++ c .flags
 
+-- the context that thirteen bytes hold
 abbrev pub contextIn : List ℕ → Context
 contextIn b = record { modes = bytesOf 0 4 b; flags = bytesOf 4 9 b }
 
@@ -75,12 +80,15 @@ contextIn b = record { modes = bytesOf 0 4 b; flags = bytesOf 4 9 b }
 abbrev pub columnAt : List ℕ → ℕ → Context
 columnAt mem x = contextIn (recordAt columnWidth mem x)
 
+-- the memory with the context of column x written
 abbrev pub columnSet : List ℕ → ℕ → Context → List ℕ
 columnSet mem x c = recordSet columnWidth mem x (columnRecord c)
 
+-- `write_column`
 abbrev pub columnWritten : List ℕ → ℕ → Context → Written
 columnWritten mem x c = recordWritten columnWidth mem x (contextFine c) (columnRecord c)
 
+-- `read_column`
 abbrev pub columnFound : List ℕ → ℕ → ColumnRecord
 columnFound mem x = record { answer = recordFound columnWidth mem x .answer; context = contextIn (recordFound columnWidth mem x .bytes) }
 
@@ -92,6 +100,7 @@ Columns mem = (x : ℕ) → x < recordsIn columnWidth mem → contextFine (colum
 abbrev pub modeWidth : ℕ
 modeWidth = 20
 
+-- the twenty bytes of a macroblock's modes
 abbrev pub modeRecord : Kinds → List ℕ → List ℕ
 modeRecord k modes = k .segment ∷ bitOf (k .skip) ∷ bitOf (k .small) ∷ (modes ++ (k .chroma ∷ []))
 
@@ -99,27 +108,35 @@ modeRecord k modes = k .segment ∷ bitOf (k .skip) ∷ bitOf (k .small) ∷ (mo
 abbrev pub isOn : ℕ → Bool
 isOn n = not (eqb n 0)
 
+-- all but the luma modes that twenty bytes hold
 abbrev pub kindsIn : List ℕ → Kinds
 kindsIn b = record { segment = getD b 0 0; skip = isOn (getD b 1 0); small = isOn (getD b 2 0); chroma = getD b 19 0 }
 
+-- the sixteen luma modes that they hold
 abbrev pub modesIn : List ℕ → List ℕ
 modesIn b = bytesOf 3 16 b
 
+-- those of macroblock i
 abbrev pub kindsAt : List ℕ → ℕ → Kinds
 kindsAt mem i = kindsIn (recordAt modeWidth mem i)
 
+-- its luma modes
 abbrev pub modesAt : List ℕ → ℕ → List ℕ
 modesAt mem i = modesIn (recordAt modeWidth mem i)
 
+-- the memory with the record of macroblock i written
 abbrev pub modeSet : List ℕ → ℕ → Kinds → List ℕ → List ℕ
 modeSet mem i k modes = recordSet modeWidth mem i (modeRecord k modes)
 
+-- a segment and a chroma mode below 4
 abbrev pub kindsFine : Kinds → Bool
 kindsFine k = ltb (k .segment) 4 && ltb (k .chroma) 4
 
+-- `write_mode_record`
 abbrev pub modeWritten : List ℕ → ℕ → Kinds → List ℕ → Written
 modeWritten mem i k modes = recordWritten modeWidth mem i (kindsFine k && eachBelow 10 modes) (modeRecord k modes)
 
+-- `read_mode_record`
 abbrev pub modeFound : List ℕ → ℕ → ModeRecord
 modeFound mem i = record { answer = recordFound modeWidth mem i .answer; kinds = kindsIn (recordFound modeWidth mem i .bytes); modes = modesIn (recordFound modeWidth mem i .bytes) }
 
@@ -127,20 +144,26 @@ modeFound mem i = record { answer = recordFound modeWidth mem i .answer; kinds =
 abbrev pub strengthWidth : ℕ
 strengthWidth = 4
 
+-- the four bytes of a macroblock's strengths
 abbrev pub strengthRecord : Strength → List ℕ
 strengthRecord t = t .limit ∷ t .inner ∷ t .threshold ∷ t .inside ∷ []
 
+-- the strengths that four bytes hold
 abbrev pub strengthIn : List ℕ → Strength
 strengthIn b = record { limit = getD b 0 0; inner = getD b 1 0; threshold = getD b 2 0; inside = getD b 3 0 }
 
+-- those of macroblock i
 abbrev pub strengthAt : List ℕ → ℕ → Strength
 strengthAt mem i = strengthIn (recordAt strengthWidth mem i)
 
+-- the memory with the strengths of macroblock i written
 abbrev pub strengthSet : List ℕ → ℕ → Strength → List ℕ
 strengthSet mem i t = recordSet strengthWidth mem i (strengthRecord t)
 
+-- `write_strength`
 abbrev pub strengthWritten : List ℕ → ℕ → Strength → Written
 strengthWritten mem i t = recordWritten strengthWidth mem i (strengthFine t) (strengthRecord t)
 
+-- `read_strength`
 abbrev pub strengthFound : List ℕ → ℕ → StrengthRecord
 strengthFound mem i = record { answer = recordFound strengthWidth mem i .answer; strength = strengthIn (recordFound strengthWidth mem i .bytes) }

@@ -15,6 +15,7 @@ longOf w h n must = sidesOf w h && eqb n must
 abbrev pub lumaFine : (w h n : ℕ) → Bool
 lumaFine w h n = longOf w h n (w * h)
 
+-- U, and V
 abbrev pub chromaFine : (w h n : ℕ) → Bool
 chromaFine w h n = longOf w h n (w / 2 * (h / 2))
 
@@ -22,9 +23,11 @@ chromaFine w h n = longOf w h n (w / 2 * (h / 2))
 abbrev pub columnsFine : (w h n : ℕ) → Bool
 columnsFine w h n = longOf w h n (columnWidth * (w / 16))
 
+-- the modes
 abbrev pub modesFine : (w h n : ℕ) → Bool
 modesFine w h n = longOf w h n (modeWidth * blocksOf w h)
 
+-- the strengths
 abbrev pub strengthsFine : (w h n : ℕ) → Bool
 strengthsFine w h n = longOf w h n (strengthWidth * blocksOf w h)
 
@@ -38,6 +41,7 @@ sizesFine w h z =
     && modesFine w h (z .modes)
     && strengthsFine w h (z .strengths)
 
+-- all six, as a fact
 pub record Sized (w h : ℕ) (z : Sizes) : Type 0 where
   pub y : z .y ≡ w * h
   pub u : z .u ≡ w / 2 * (h / 2)

@@ -14,32 +14,34 @@ use Rattle.modes.specs.Modes.{Macroblock, modesOf}
 use Rattle.residual.specs.Residual.{residualOf}
 use Rattle.macroblock.specs.declared.arguments.Place.{Place}
 use Rattle.macroblock.specs.declared.arguments.Readers.{Readers}
-use Rattle.macroblock.specs.declared.arguments.Reads.{Reads}
+use Rattle.macroblock.specs.declared.arguments.SymbolCounts.{SymbolCounts}
 use Rattle.macroblock.specs.declared.arguments.Around.{Around}
 use Rattle.macroblock.specs.Macroblock.{Planes, readyOf, placeFine}
 
-abbrev pub readsMade : (first tokens : ℕ) → Reads
+-- both counts
+abbrev pub readsMade : (first tokens : ℕ) → SymbolCounts
 readsMade first tokens = record { first = first; tokens = tokens }
 
-abbrev pub noReads : Reads
+-- nothing was read
+abbrev pub noReads : SymbolCounts
 noReads = readsMade 0 0
 
 -- the symbols of its coefficients (RFC 6386, section 13), its modes being m; none where these ran out
-abbrev pub tokenReads : (tokens : List ℕ) → Reader → Frame → (table : List ℕ) → Around → Given Macroblock → ℕ
-tokenReads tokens t f table around (given m next) = count (residualOf table (factorsAt f (m .segment)) (m .small) (m .skip) (around .top .flags) (around .left .flags)) tokens t
-tokenReads tokens t f table around missing = 0
+abbrev pub macroblockTokenReads : (tokens : List ℕ) → Reader → Frame → (table : List ℕ) → Around → Given Macroblock → ℕ
+macroblockTokenReads tokens t f table around (given m next) = count (residualOf table (factorsAt f (m .segment)) (m .small) (m .skip) (around .top .flags) (around .left .flags)) tokens t
+macroblockTokenReads tokens t f table around missing = 0
 
 -- with those of its modes (section 19.3)
-unfoldable pub readsOf : (first tokens : List ℕ) → Readers → Frame → (table : List ℕ) → Around → Reads
+unfoldable pub readsOf : (first tokens : List ℕ) → Readers → Frame → (table : List ℕ) → Around → SymbolCounts
 readsOf first tokens readers f table around =
     let modes = modesOf (f .announced) (around .top .modes) (around .left .modes) in
     record {
       first = count modes first (readers .first);
-      tokens = tokenReads tokens (readers .token) f table around (run modes first (readers .first));
+      tokens = macroblockTokenReads tokens (readers .token) f table around (run modes first (readers .first));
     }
 
 -- `decode`: none where an argument is out of range
-unfoldable pub decodeReads : (first tokens : List ℕ) → Readers → Frame → (table : List ℕ) → Around → Place → Planes → Reads
+unfoldable pub decodeReads : (first tokens : List ℕ) → Readers → Frame → (table : List ℕ) → Around → Place → Planes → SymbolCounts
 decodeReads first tokens readers f table around place p =
     elim (readyOf first tokens readers f (length table) around && placeFine (length (p .y)) (length (p .u)) (length (p .v)) place) [
       | true ↦ readsOf first tokens readers f table around
@@ -47,6 +49,6 @@ decodeReads first tokens readers f table around place p =
     ]
 
 -- the most that n macroblocks read: 119 symbols each from the first partition, 7296 each from token partitions
-pub record AtMost (n : ℕ) (reads : Reads) : Type 0 where
+pub record AtMost (n : ℕ) (reads : SymbolCounts) : Type 0 where
   pub first : reads .first ≤ 119 * n
   pub tokens : reads .tokens ≤ 7296 * n

@@ -20,12 +20,12 @@ use Rattle.residual.specs.Residual.{residualOf}
 use Rattle.residual.specs.ResidualLaws.{residual-within}
 use Rattle.macroblock.specs.declared.arguments.Place.{Place}
 use Rattle.macroblock.specs.declared.arguments.Readers.{Readers}
-use Rattle.macroblock.specs.declared.arguments.Reads.{Reads}
+use Rattle.macroblock.specs.declared.arguments.SymbolCounts.{SymbolCounts}
 use Rattle.macroblock.specs.declared.arguments.Around.{Around}
 use Rattle.macroblock.specs.Macroblock.{Planes, readyOf, placeFine}
 use Rattle.macroblock.specs.MacroblockLaws.{Ready, Laid}
 use Rattle.macroblock.specs.DecodeLaws.{ready-test, laid-test}
-use Rattle.macroblock.specs.Counts.{noReads, tokenReads, readsOf, decodeReads, AtMost}
+use Rattle.macroblock.specs.Counts.{noReads, macroblockTokenReads, readsOf, decodeReads, AtMost}
 
 module _ (first tokens : List ℕ) (readers : Readers) (f : Frame) (table : List ℕ) (around : Around) where
   abbrev modesRun : Given Macroblock
@@ -38,9 +38,9 @@ module _ (first tokens : List ℕ) (readers : Readers) (f : Frame) (table : List
   tokensCount m = count (residualOf table (factorsAt f (m .segment)) (m .small) (m .skip) (around .top .flags) (around .left .flags)) tokens (readers .token)
 
   -- ---- as the code finds them
-  found : {g : Given Macroblock} → modesRun ≡ g → {n : ℕ} → n ≡ modesCount → record { first = n; tokens = tokenReads tokens (readers .token) f table around g } ≡ readsOf first tokens readers f table around
+  found : {g : Given Macroblock} → modesRun ≡ g → {n : ℕ} → n ≡ modesCount → record { first = n; tokens = macroblockTokenReads tokens (readers .token) f table around g } ≡ readsOf first tokens readers f table around
   unfolding readsOf
-  found e h = λ i. record { first = h i; tokens = tokenReads tokens (readers .token) f table around (sym e i) }
+  found e h = λ i. record { first = h i; tokens = macroblockTokenReads tokens (readers .token) f table around (sym e i) }
 
   pub reads-no-modes : modesRun ≡ missing → {n : ℕ} → n ≡ modesCount → record { first = n; tokens = 0 } ≡ readsOf first tokens readers f table around
   reads-no-modes e h = found e h
@@ -57,7 +57,7 @@ module _ (first tokens : List ℕ) (readers : Readers) (f : Frame) (table : List
         tokens = go modesRun;
       }
     where
-      go : (g : Given Macroblock) → tokenReads tokens (readers .token) f table around g ≤ 7296
+      go : (g : Given Macroblock) → macroblockTokenReads tokens (readers .token) f table around g ≤ 7296
       go (given m q) = count-within tokens (readers .token) (residual-within table (factorsAt f (m .segment)) b (m .small) (m .skip) (a .top) (a .left))
       go missing = omega arith
 
@@ -73,14 +73,14 @@ module _ (first tokens : List ℕ) (readers : Readers) (f : Frame) (table : List
     unfolding decodeReads
     reads-passed a b = rw (both-true a b, decodeReads)
 
-    refused : able && fine ≡ false → {x : Reads} → x ≡ noReads → x ≡ decodeReads first tokens readers f table around place p
+    refused : able && fine ≡ false → {x : SymbolCounts} → x ≡ noReads → x ≡ decodeReads first tokens readers f table around place p
     unfolding decodeReads
     refused e g = rw (g, e, decodeReads)
 
-    pub reads-unready : able ≡ false → {x : Reads} → x ≡ noReads → x ≡ decodeReads first tokens readers f table around place p
+    pub reads-unready : able ≡ false → {x : SymbolCounts} → x ≡ noReads → x ≡ decodeReads first tokens readers f table around place p
     reads-unready e = refused (rw e)
 
-    pub reads-unlaid : fine ≡ false → {x : Reads} → x ≡ noReads → x ≡ decodeReads first tokens readers f table around place p
+    pub reads-unlaid : fine ≡ false → {x : SymbolCounts} → x ≡ noReads → x ≡ decodeReads first tokens readers f table around place p
     reads-unlaid e = refused (both-false able e)
 
     -- THE LAW for callers: with good arguments it is what the macroblock reads

@@ -33,6 +33,7 @@ pub record Planes : Type 0 where
   pub u : List ℕ
   pub v : List ℕ
 
+-- the three put together
 abbrev pub planesOf : (y u v : List ℕ) → Planes
 planesOf y u v = record { y = y; u = u; v = v }
 
@@ -72,9 +73,11 @@ strengthMade f m empty = strengthOf (levelAt f (m .small) (m .segment)) (f .shar
 abbrev pub below : Macroblock → (flags : List ℕ) → Context
 below m flags = record { modes = bottomOf (m .modes); flags = flags }
 
+-- its last column of modes, and its flags
 abbrev pub beside : Macroblock → (flags : List ℕ) → Context
 beside m flags = record { modes = rightOf (m .modes); flags = flags }
 
+-- all that a finished macroblock is, from its modes and its residual
 unfoldable pub endOf : Frame → Place → Planes → Macroblock → (next : Reader) → Model → (after : Reader) → Finished
 endOf f place p m next d after = record {
   modes = m;
@@ -85,10 +88,12 @@ endOf f place p m next d after = record {
   planes = paintedPlanes place m (d .coefficients) p;
 }
 
+-- the end where the tokens were there
 abbrev pub afterTokens : (Model → Reader → Finished) → Given Model → Step
 afterTokens end (given d after) = finished (end d after)
 afterTokens end missing = no-tokens
 
+-- the rest where the modes were there
 abbrev pub afterModes : (Macroblock → Reader → Step) → Given Macroblock → Step
 afterModes rest (given m next) = rest m next
 afterModes rest missing = no-modes
@@ -99,6 +104,7 @@ tokenStep tokens t f table around place p m next =
     afterTokens (endOf f place p m next)
     (run (residualOf table (factorsAt f (m .segment)) (m .small) (m .skip) (around .top .flags) (around .left .flags)) tokens t)
 
+-- one macroblock: its modes from `first`, then its tokens from `tokens`
 unfoldable pub stepOf : (first tokens : List ℕ) → Readers → Frame → (table : List ℕ) → Around → Place → Planes → Step
 stepOf first tokens readers f table around place p =
     afterModes (tokenStep tokens (readers .token) f table around place p)
@@ -115,6 +121,7 @@ noOutcome a = record {
   left = emptyContext;
 }
 
+-- what is told of a finished macroblock
 abbrev pub shown : Finished → Outcome
 shown x = record {
   answer = F.Done (x .readers);
@@ -133,6 +140,7 @@ pub record MacroblockCalled : Type 0 where
 abbrev pub macroblockCalled : Outcome → (y u v : List ℕ) → MacroblockCalled
 macroblockCalled x y u v = record { answer = x; planes = planesOf y u v }
 
+-- a step as the call's answer and the planes after it
 abbrev pub toMacroblockCalled : Planes → Step → MacroblockCalled
 toMacroblockCalled old (finished x) = record { answer = shown x; planes = x .planes }
 toMacroblockCalled old no-modes = record { answer = noOutcome F.NoModes; planes = old }
@@ -143,6 +151,7 @@ toMacroblockCalled old no-tokens = record { answer = noOutcome F.NoTokens; plane
 abbrev pub levelsFine : List ℕ → Bool
 levelsFine l = (leb (getD l 0 0) 63 && leb (getD l 1 0) 63) && (leb (getD l 2 0) 63 && leb (getD l 3 0) 63)
 
+-- all that is read is in range
 unfoldable pub readyOf : (first tokens : List ℕ) → Readers → Frame → (size : ℕ) → Around → Bool
 readyOf first tokens readers f size around =
     (validOf first (readers .first) && validOf tokens (readers .token))

@@ -22,7 +22,7 @@ pub struct Around {
 }
 
 // How many symbols were read: from the first partition, and from token partitions.
-pub struct Reads {
+pub struct SymbolCounts {
     pub first: u64,
     pub tokens: u64,
 }

@@ -3,7 +3,7 @@
 use crate::arguments::Around;
 use crate::arguments::Place;
 use crate::arguments::Readers;
-use crate::arguments::Reads;
+use crate::arguments::SymbolCounts;
 use crate::checks::laid;
 use crate::checks::ready;
 use crate::squares::squares;
@@ -30,7 +30,7 @@ ghost use Rattle.modes.specs.Answers.{macroblockOf};
 ghost use Rattle.reader.specs.Boolean.{given};
 ghost use Rattle.filter.specs.Strengths.{strengthOf};
 ghost use Rattle.macroblock.specs.Macroblock.{planesOf, macroblockCalled, toMacroblockCalled, stepOf, macroblockCallOf, noOutcome};
-ghost use Rattle.macroblock.specs.Counts.{readsMade, tokenReads, readsOf, decodeReads};
+ghost use Rattle.macroblock.specs.Counts.{readsMade, macroblockTokenReads, readsOf, decodeReads};
 ghost use Rattle.macroblock.specs.MacroblockLaws.{Ready, Tokens, Laid, endOutcome, tokensCalled};
 
 // Finished, with the readers after it; or where it stopped: its modes (6) or its tokens (7) ran out; or an argument (9).
@@ -55,7 +55,7 @@ pub struct Outcome {
 // An outcome, and how many symbols were read for it.
 pub struct MacroblockRead {
     pub outcome: Outcome,
-    pub reads: Reads,
+    pub reads: SymbolCounts,
 }
 
 // The modes of a macroblock, the reader after them, and how many symbols they took.
@@ -95,7 +95,7 @@ fn stopped(answer: Finish, first: u64, tokens: u64) -> MacroblockRead
 {
     MacroblockRead {
         outcome: nothing(answer),
-        reads: Reads {
+        reads: SymbolCounts {
             first: first,
             tokens: tokens,
         },
@@ -211,7 +211,7 @@ fn with_tokens(
         (macroblockOf (m .kinds) (m .modes)) (m .next)
         (planesOf (now (y .entry)) (now (u .entry)) (now (v .entry))))
         × (q .reads ≡ readsMade (m .reads)
-        (tokenReads (now (tokens .entry)) t frame (now (table .entry)) around (given (macroblockOf (m .kinds) (m .modes)) (m .next)))) ⌝ }
+        (macroblockTokenReads (now (tokens .entry)) t frame (now (table .entry)) around (given (macroblockOf (m .kinds) (m .modes)) (m .next)))) ⌝ }
 {
     let kinds = m.kinds;
     let modes = m.modes;
@@ -242,7 +242,7 @@ fn with_tokens(
     let left_after = d.left;
     MacroblockRead {
         outcome: ending(frame, m, after, empty, top_after, left_after),
-        reads: Reads {
+        reads: SymbolCounts {
             first: m.reads,
             tokens: read.reads,
         },

@@ -31,20 +31,24 @@ abbrev pub toMode : Given ℕ → Mode
 toMode (given v r) = M.Read v r
 toMode missing = M.Missing
 
+-- what is read before the modes
 abbrev pub toHeaded : Given Prefix → Headed
 toHeaded (given p r) = H.Read p r
 toHeaded missing = H.Missing
 
+-- the sixteen small modes
 abbrev pub toSixteen : List ℕ → Given (List ℕ) → Sixteen
 toSixteen old (given l r) = record { answer = N.At r; modes = l }
 toSixteen old missing = record { answer = N.Missing; modes = old }
 
+-- all of a macroblock's modes but the sixteen
 abbrev pub kindsOf : Macroblock → Kinds
 kindsOf m = record { segment = m .segment; skip = m .skip; small = m .small; chroma = m .chroma }
 
 abbrev pub macroblockOf : Kinds → List ℕ → Macroblock
 macroblockOf k modes = record { segment = k .segment; skip = k .skip; small = k .small; modes = modes; chroma = k .chroma }
 
+-- all of a macroblock's modes
 abbrev pub toStaged : List ℕ → Given Macroblock → Staged
 toStaged old (given m r) = record { answer = S.Read (kindsOf m) r; modes = m .modes }
 toStaged old missing = record { answer = S.Missing; modes = old }
@@ -53,19 +57,24 @@ toStaged old missing = record { answer = S.Missing; modes = old }
 abbrev pub eachBelow : ℕ → List ℕ → Bool
 eachBelow m l = allOf (λ x. ltb x m) l
 
+-- every mode above and to the left is one of the ten
 abbrev pub contextsOf : List ℕ → List ℕ → Bool
 contextsOf above left = eachBelow 10 above && eachBelow 10 left
 
+-- `prefix`
 unfoldable pub prefixAnswer : List ℕ → Reader → List ℤ → Headed
 prefixAnswer s r h = elim (eqb (length h) entryCount && validOf s r) [ true ↦ toHeaded (run (prefix (announcedOf h)) s r) | false ↦ H.Refused ]
 
+-- `main_mode`
 unfoldable pub mainAnswer : List ℕ → Reader → Bool → Mode
 mainAnswer s r chroma = elim (validOf s r) [ true ↦ toMode (run (largeMode chroma) s r) | false ↦ M.Refused ]
 
+-- `block_mode`
 unfoldable pub blockAnswer : List ℕ → Reader → ℕ → ℕ → Mode
 blockAnswer s r above left =
     elim (validOf s r && (ltb above 10 && ltb left 10)) [ true ↦ toMode (run (blockMode above left) s r) | false ↦ M.Refused ]
 
+-- `small_modes`
 unfoldable pub smallAnswer : List ℕ → Reader → List ℕ → List ℕ → List ℕ → Sixteen
 smallAnswer s r above left old =
     elim (validOf s r && contextsOf above left) [
@@ -73,6 +82,7 @@ smallAnswer s r above left old =
       | false ↦ record { answer = N.Refused; modes = old }
     ]
 
+-- `read_modes`
 unfoldable pub modesAnswer : List ℕ → Announced → Reader → List ℕ → List ℕ → List ℕ → Staged
 modesAnswer s a r above left old =
     elim (validOf s r && contextsOf above left) [
@@ -86,42 +96,51 @@ modeNumberOf (M.Read v r) = 0
 modeNumberOf M.Missing = 6
 modeNumberOf M.Refused = 9
 
+-- the mode, and the reader after it
 abbrev pub modeValuesOf : Mode → ℕ × Reader
 modeValuesOf (M.Read v r) = (v, r)
 modeValuesOf M.Missing = (0, noReader)
 modeValuesOf M.Refused = (0, noReader)
 
+-- what stands for what is read before the modes after a refusal
 abbrev pub noPrefix : Prefix
 noPrefix = record { segment = 0; skip = false; small = false }
 
+-- the number of `prefix`
 abbrev pub headedNumberOf : Headed → ℕ
 headedNumberOf (H.Read p r) = 0
 headedNumberOf H.Missing = 6
 headedNumberOf H.Refused = 9
 
+-- what it read, and the reader after it
 abbrev pub headedValuesOf : Headed → Prefix × Reader
 headedValuesOf (H.Read p r) = (p, r)
 headedValuesOf H.Missing = (noPrefix, noReader)
 headedValuesOf H.Refused = (noPrefix, noReader)
 
+-- the number of `small_modes`
 abbrev pub nextNumberOf : Next → ℕ
 nextNumberOf (N.At r) = 0
 nextNumberOf N.Missing = 6
 nextNumberOf N.Refused = 9
 
+-- the reader after it
 abbrev pub nextValuesOf : Next → Reader
 nextValuesOf (N.At r) = r
 nextValuesOf N.Missing = noReader
 nextValuesOf N.Refused = noReader
 
+-- what stands for a macroblock's modes after a refusal
 abbrev pub noKinds : Kinds
 noKinds = record { segment = 0; skip = false; small = false; chroma = 0 }
 
+-- the number of `read_modes`
 abbrev pub stageNumberOf : Stage → ℕ
 stageNumberOf (S.Read k r) = 0
 stageNumberOf S.Missing = 6
 stageNumberOf S.Refused = 9
 
+-- what it read, and the reader after it
 abbrev pub stageValuesOf : Stage → Kinds × Reader
 stageValuesOf (S.Read k r) = (k, r)
 stageValuesOf S.Missing = (noKinds, noReader)

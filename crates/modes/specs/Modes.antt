@@ -71,6 +71,7 @@ blockMode above left = tree (probabilities above left) bTree
 unfoldable pub modeAbove : List ℕ → List ℕ → ℕ → ℕ
 modeAbove above modes i = elim (ltb i 4) [ true ↦ getD above i 0 | false ↦ getD modes (i - 4) 0 ]
 
+-- left of block i: the macroblock's neighbour at the left edge, else the mode before it
 unfoldable pub modeLeft : List ℕ → List ℕ → ℕ → ℕ
 modeLeft left modes i = elim (eqb (i % 4) 0) [ true ↦ getD left (i / 4) 0 | false ↦ getD modes (i - 1) 0 ]
 
@@ -81,9 +82,11 @@ smallFrom (suc n) i above left modes = do
   m ← blockMode (modeAbove above modes i) (modeLeft left modes i)
   smallFrom n (i + 1) above left (set modes i m)
 
+-- before the first is read
 abbrev pub zeros : List ℕ
 zeros = replicate 16 0
 
+-- all sixteen, in raster order
 unfoldable pub smallModes : List ℕ → List ℕ → Reading (List ℕ)
 smallModes above left = smallFrom 16 0 above left zeros
 
@@ -102,6 +105,7 @@ pub record Macroblock : Type 0 where
   pub modes : List ℕ
   pub chroma : ℕ
 
+-- the order of section 19.3: what stands before the modes, luma, chroma
 unfoldable pub modesOf : Announced → List ℕ → List ℕ → Reading Macroblock
 modesOf a above left = do
   p ← prefix a
@@ -113,5 +117,6 @@ modesOf a above left = do
 abbrev pub bottomOf : List ℕ → List ℕ
 bottomOf modes = getD modes 12 0 ∷ getD modes 13 0 ∷ getD modes 14 0 ∷ getD modes 15 0 ∷ []
 
+-- its last column
 abbrev pub rightOf : List ℕ → List ℕ
 rightOf modes = getD modes 3 0 ∷ getD modes 7 0 ∷ getD modes 11 0 ∷ getD modes 15 0 ∷ []

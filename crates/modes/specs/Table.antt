@@ -10,6 +10,7 @@ use lib.ListN.{getD, take, drop}
 abbrev pub rfcNumbers : List ℕ
 rfcNumbers = 0 ∷ 1 ∷ 2 ∷ 3 ∷ 5 ∷ 6 ∷ 4 ∷ 7 ∷ 8 ∷ 9 ∷ []
 
+-- the RFC's number of a mode
 abbrev pub rfcOf : ℕ → ℕ
 rfcOf mode = getD rfcNumbers mode 0
 
@@ -17,6 +18,7 @@ rfcOf mode = getD rfcNumbers mode 0
 abbrev pub rfcPlace : ℕ → ℕ
 rfcPlace i = (rfcOf (i / 90) * 10 + rfcOf (i / 9 % 10)) * 9 + i % 9
 
+-- kf_bmode_probs, the RFC's table
 unfoldable pub rfcTable : List ℕ
 rfcTable =
     -- above DC

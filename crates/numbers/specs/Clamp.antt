@@ -1,5 +1,5 @@
--- A number taken into a range: samples 0..255 (RFC 6386 section 14.5), signed bytes (section 15.2), quantizer indices 0..127 and
--- filter levels 0..63 (sections 9.6 and 15).
+-- A number taken into a range: samples 0..255 (RFC 6386 section 14.5), signed bytes (section 15.2), quantizer indices 0..127 (section 9.6)
+-- and filter levels 0..63 (sections 9.4 and 15).
 use mathlib.Core.Bool.{cond}
 use Prim.Native.Nat.{ℕ}
 use lib.IntN.{ℤ, pos, negsuc, natAbs}

@@ -3,6 +3,7 @@ use Prim.Native.Nat.{ℕ, _<_}
 use mathlib.Core.Bool.{Bool, true, false}
 use native.Mathlib.Omega.{arith}
 
+-- 1 or 0
 abbrev pub bitOf : Bool → ℕ
 bitOf true = 1
 bitOf false = 0

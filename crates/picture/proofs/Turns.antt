@@ -19,7 +19,7 @@ use Rattle.lent.specs.Memory.{Memory}
 use Rattle.picture.specs.Picture.{Picture, State, Ended, columnOf, rowOf, partitionOf, planesIn, stepAt, nextOf, stoppedOf, runOf}
 use Rattle.picture.specs.Turn.{Turned, turned}
 use Rattle.picture.specs.TurnLaws.{Ends}
-use Rattle.macroblock.specs.declared.arguments.Reads.{Reads}
+use Rattle.macroblock.specs.declared.arguments.SymbolCounts.{SymbolCounts}
 use Rattle.macroblock.specs.Counts.{noReads, AtMost}
 use Rattle.picture.specs.Counts.{plus, readsAt, readsFrom}
 use Rattle.picture.specs.CountsLaws.{reads-none, reads-finished, reads-no-modes, reads-no-tokens, reads-over}
@@ -28,7 +28,7 @@ use Rattle.picture.specs.PictureLaws.{Shared, Live, live-next, run-none,
 -- ---- how a picture ends, and all that it reads
 pub record Total : Type 0 where
   pub ended : Ended
-  pub reads : Reads
+  pub reads : SymbolCounts
 
 abbrev pub totalOf : Picture → State → Total
 totalOf P S = record { ended = runOf (P .wide * P .high) P 0 S; reads = readsFrom (P .wide * P .high) P 0 S }
@@ -39,11 +39,11 @@ total-most {P} {S} s a b l {n} h =
     let o = reads-over P s a b (P .wide * P .high) 0 S l (omega arith) in
     record { first = omega (arith, o .upto, o .most .first); tokens = omega (arith, o .upto, o .most .tokens) }
 
-pub both-are : {e : Ended} {r : Reads} {E F : Total} → (e ≡ E .ended) × (r ≡ E .reads) → E ≡ F → (e ≡ F .ended) × (r ≡ F .reads)
+pub both-are : {e : Ended} {r : SymbolCounts} {E F : Total} → (e ≡ E .ended) × (r ≡ E .reads) → E ≡ F → (e ≡ F .ended) × (r ≡ F .reads)
 both-are h g = (h .0 ∙ ap (λ (x : Total). x .ended) g, h .1 ∙ ap (λ (x : Total). x .reads) g)
 
 -- ---- from macroblock k, with the state S and so much read, the rest of the picture gives E
-pub record Going (P : Picture) (E : Total) (k : ℕ) (S : State) (reads : Reads) : Type 0 where
+pub record Going (P : Picture) (E : Total) (k : ℕ) (S : State) (reads : SymbolCounts) : Type 0 where
   pub rest : ℕ
   pub sum : k + rest ≡ P .wide * P .high
   pub same : runOf rest P k S ≡ E .ended
@@ -55,18 +55,18 @@ going-start P S l =
     record { rest = P .wide * P .high; sum = omega arith; same = refl; paid = (let r = readsFrom (P .wide * P .high) P 0 S in λ i. record { first = zero-add (r .first) i; tokens = zero-add (r .tokens) i }); live = l }
 
 -- one macroblock more
-pub plus-plus : (a b c : Reads) → plus (plus a b) c ≡ plus a (plus b c)
+pub plus-plus : (a b c : SymbolCounts) → plus (plus a b) c ≡ plus a (plus b c)
 plus-plus a b c = λ i. record { first = add-assoc (a .first) (b .first) (c .first) i; tokens = add-assoc (a .tokens) (b .tokens) (c .tokens) i }
 
-module _ {P : Picture} {E : Total} {k : ℕ} {S : State} {reads : Reads} (s : Shared P) (g : Going P E k S reads) (h : k < P .wide * P .high) {w : Reads} (v : w ≡ readsAt P k S) where
+module _ {P : Picture} {E : Total} {k : ℕ} {S : State} {reads : SymbolCounts} (s : Shared P) (g : Going P E k S reads) (h : k < P .wide * P .high) {w : SymbolCounts} (v : w ≡ readsAt P k S) where
   -- what it reads is no more than the whole picture does
   pub going-able : {n : ℕ} → AtMost n (E .reads) → AtMost n (plus reads w)
   going-able {n} a = go (g .rest) (g .sum) (g .paid) (stepAt P k S) refl
     where
-      least : (r : Reads) → readsAt P k S .first ≤ r .first → readsAt P k S .tokens ≤ r .tokens → plus reads r ≡ E .reads → AtMost n (plus reads w)
+      least : (r : SymbolCounts) → readsAt P k S .first ≤ r .first → readsAt P k S .tokens ≤ r .tokens → plus reads r ≡ E .reads → AtMost n (plus reads w)
       least r l i e =
-          let x : reads .first + r .first ≡ E .reads .first = ap (λ (q : Reads). q .first) e in
-          let y : reads .tokens + r .tokens ≡ E .reads .tokens = ap (λ (q : Reads). q .tokens) e in
+          let x : reads .first + r .first ≡ E .reads .first = ap (λ (q : SymbolCounts). q .first) e in
+          let y : reads .tokens + r .tokens ≡ E .reads .tokens = ap (λ (q : SymbolCounts). q .tokens) e in
           rw v (record { first = omega (arith, a .first); tokens = omega (arith, a .tokens) })
 
       go : (m : ℕ) → k + m ≡ P .wide * P .high → plus reads (readsFrom m P k S) ≡ E .reads → (t : Step) → stepAt P k S ≡ t → AtMost n (plus reads w)
@@ -75,7 +75,7 @@ module _ {P : Picture} {E : Total} {k : ℕ} {S : State} {reads : Reads} (s : Sh
       go (suc m) a b no-modes e = least (readsAt P k S) (omega arith) (omega arith) (ap (plus reads) (sym (reads-no-modes m P k S e)) ∙ b)
       go (suc m) a b no-tokens e = least (readsAt P k S) (omega arith) (omega arith) (ap (plus reads) (sym (reads-no-tokens m P k S e)) ∙ b)
 
-  module _ {n : Reads} (j : n ≡ plus reads w) where
+  module _ {n : SymbolCounts} (j : n ≡ plus reads w) where
     -- a turn that ends the picture
     pub going-refused : (T : Turned) → T ≡ turned (S .left) k (columnOf P k) (S .mem) (stepAt P k S) → (finishNumberOf (T .answer) ≡ 0 → ⊥) → {d : Decoded} → d ≡ stoppedOf (T .answer) k
         → (record { answer = d; mem = T .mem } ≡ E .ended) × (n ≡ E .reads)
@@ -118,13 +118,13 @@ module _ {P : Picture} {E : Total} {k : ℕ} {S : State} {reads : Reads} (s : Sh
               rest = m;
               sum = omega arith;
               same = sym (run-finished m P k S x t) ∙ b;
-              paid = ap (λ (q : Reads). plus q y) j ∙ plus-plus reads w y ∙ ap (λ (q : Reads). plus reads (plus q y)) v ∙ ap (plus reads) (sym (reads-finished m P k S x t)) ∙ d;
+              paid = ap (λ (q : SymbolCounts). plus q y) j ∙ plus-plus reads w y ∙ ap (λ (q : SymbolCounts). plus reads (plus q y)) v ∙ ap (plus reads) (sym (reads-finished m P k S x t)) ∙ d;
               live = live-next P S k s (g .live) h x (z x t);
             })
         go (suc m) a b d no-modes t e = absurd (let n = number no-modes e in omega arith)
         go (suc m) a b d no-tokens t e = absurd (let n = number no-tokens e in omega arith)
 
-pub going-end : {P : Picture} {E : Total} {k : ℕ} {S : State} {reads : Reads} → Going P E k S reads → P .wide * P .high ≤ k → {d : Decoded} → d ≡ D.Whole (P .wide * P .high)
+pub going-end : {P : Picture} {E : Total} {k : ℕ} {S : State} {reads : SymbolCounts} → Going P E k S reads → P .wide * P .high ≤ k → {d : Decoded} → d ≡ D.Whole (P .wide * P .high)
     → (record { answer = d; mem = S .mem } ≡ E .ended) × (reads ≡ E .reads)
 going-end {P} {E} {k} {S} {reads} g h {d} q = go (g .rest) (g .sum) (g .same) (g .paid)
   where
@@ -141,14 +141,14 @@ abbrev pub stateOf : Reader → List Reader → Context → Memory → State
 stateOf r l c m = record { reader = r; readers = l; left = c; mem = m }
 
 -- what holds where a row begins
-pub record AtRow (P : Picture) (E : Total) (k : ℕ) (answer : Decoded) (row : ℕ) (S : State) (reads : Reads) : Type 0 where
+pub record AtRow (P : Picture) (E : Total) (k : ℕ) (answer : Decoded) (row : ℕ) (S : State) (reads : SymbolCounts) : Type 0 where
   pub going : Going P E k S reads
   pub place : k ≡ row * P .wide
   pub upto : row ≤ P .high
   pub fine : answer ≡ D.Whole (P .wide * P .high)
 
 -- what holds in a row, of what held where it began
-pub record InRow (P : Picture) (k₀ : ℕ) (S₀ : State) (answer₀ : Decoded) (reads₀ : Reads) (k : ℕ) (answer : Decoded) (column : ℕ) (S : State) (reads : Reads) : Type 0 where
+pub record InRow (P : Picture) (k₀ : ℕ) (S₀ : State) (answer₀ : Decoded) (reads₀ : SymbolCounts) (k : ℕ) (answer : Decoded) (column : ℕ) (S : State) (reads : SymbolCounts) : Type 0 where
   pub going : (E : Total) → Going P E k₀ S₀ reads₀ → Going P E k S reads
   pub place : k ≡ k₀ + column
   pub upto : column ≤ P .wide

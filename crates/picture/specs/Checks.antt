@@ -21,6 +21,7 @@ pub record Call : Type 0 where
   pub tile : Tile
   pub header : List ℤ
 
+-- the three put together
 abbrev pub callOf : List ℕ → Tile → List ℤ → Call
 callOf bytes tile header = record { bytes = bytes; tile = tile; header = header }
 
@@ -32,6 +33,7 @@ lengthsOf c z = sizesFine (c .tile .width) (c .tile .height) z && eqb (length (c
 abbrev pub Bounded : List ℤ → Type 0
 Bounded = Each (negsuc 254) (pos 255)
 
+-- 4: the lent memories and the header have their lengths
 pub record Lengths (t : Call) (z : Sizes) : Type 0 where
   pub sizes : Sized (t .tile .width) (t .tile .height) z
   pub header : length (t .header) ≡ entryCount
@@ -52,5 +54,6 @@ checksOf c z =
     ∷ partitionsOf (c .bytes) (c .tile)
     ∷ []
 
+-- the number of the first of the five that fails, 0 where none does
 unfoldable pub refusalOf : Call → Sizes → ℕ
 refusalOf c z = failed 1 (checksOf c z)

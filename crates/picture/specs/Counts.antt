@@ -3,7 +3,7 @@
 use Prim.Native.Nat.{ℕ, zero, suc, _+_}
 use Rattle.lent.specs.Memory.{Memory, sizesOf}
 use Rattle.tile.specs.Checks.{blocksOf}
-use Rattle.macroblock.specs.declared.arguments.Reads.{Reads}
+use Rattle.macroblock.specs.declared.arguments.SymbolCounts.{SymbolCounts}
 use Rattle.macroblock.specs.Macroblock.{finished, no-modes, no-tokens}
 use Rattle.macroblock.specs.Counts.{noReads, readsOf}
 use Rattle.picture.specs.declared.rows.Decoded.{Decoded}
@@ -11,17 +11,18 @@ use Rattle.picture.specs.declared.rows.Decoded.the-variants as D
 use Rattle.picture.specs.Checks.{Call, refusalOf}
 use Rattle.picture.specs.Picture.{Picture, State, columnOf, partitionOf, readersAt, aroundAt, stepAt, nextOf, picturedOf, begunOf}
 
-abbrev pub plus : Reads → Reads → Reads
+-- both added up
+abbrev pub plus : SymbolCounts → SymbolCounts → SymbolCounts
 plus a b = record { first = a .first + b .first; tokens = a .tokens + b .tokens }
 
 -- macroblock k
-unfoldable pub readsAt : Picture → ℕ → State → Reads
+unfoldable pub readsAt : Picture → ℕ → State → SymbolCounts
 readsAt P k S =
     let q = partitionOf P k in
     readsOf (P .first) (P .token q) (readersAt S q) (P .frame) (P .table) (aroundAt S (columnOf P k))
 
 -- n macroblocks from number k on, until one is refused, and that one too
-unfoldable pub readsFrom : ℕ → Picture → ℕ → State → Reads
+unfoldable pub readsFrom : ℕ → Picture → ℕ → State → SymbolCounts
 readsFrom zero P k S = noReads
 readsFrom (suc n) P k S =
     elim (stepAt P k S) [
@@ -31,7 +32,7 @@ readsFrom (suc n) P k S =
     ]
 
 -- THE CALL: nothing is read where an argument is refused (1 to 5)
-unfoldable pub costOf : Call → Memory → Reads
+unfoldable pub costOf : Call → Memory → SymbolCounts
 costOf c m =
     elim (refusalOf c (sizesOf m)) [
       | zero ↦ readsFrom (blocksOf (c .tile .width) (c .tile .height)) (picturedOf c) 0 (begunOf c m)

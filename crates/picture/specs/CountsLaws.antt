@@ -12,7 +12,7 @@ use Rattle.lent.specs.Memory.{Memory, sizesOf, blankOf}
 use Rattle.tile.specs.Partitions.{spanAt}
 use Rattle.tile.specs.PartitionsLaws.{part-bytes}
 use Rattle.tile.specs.Checks.{blocksOf}
-use Rattle.macroblock.specs.declared.arguments.Reads.{Reads}
+use Rattle.macroblock.specs.declared.arguments.SymbolCounts.{SymbolCounts}
 use Rattle.macroblock.specs.Macroblock.{Finished, Step, finished, no-modes, no-tokens}
 use Rattle.macroblock.specs.Counts.{noReads, readsOf, AtMost}
 use Rattle.macroblock.specs.CountsLaws.{reads-most}
@@ -48,7 +48,7 @@ unfolding readsAt
 reads-at P k S = refl
 
 -- the same for a column and a partition that the code works out
-pub reads-in : (P : Picture) (k : ℕ) (S : State) {w : Reads} (column q : ℕ) (first tokens : List ℕ) → w ≡ readsOf first tokens (readersAt S q) (P .frame) (P .table) (aroundAt S column)
+pub reads-in : (P : Picture) (k : ℕ) (S : State) {w : SymbolCounts} (column q : ℕ) (first tokens : List ℕ) → w ≡ readsOf first tokens (readersAt S q) (P .frame) (P .table) (aroundAt S column)
     → first ≡ P .first → column ≡ columnOf P k → q ≡ partitionOf P k → tokens ≡ P .token q → w ≡ readsAt P k S
 reads-in P k S column q first tokens e f a c d =
     let d′ : tokens ≡ P .token (partitionOf P k) = d ∙ ap (P .token) c in
@@ -70,7 +70,7 @@ module _ (t : Call) (m : Memory) {n : ℕ} (e : n ≡ refusalOf t (sizesOf m)) w
 
 -- as the code finds it: the frame and the table made of the header, the memory filled
 module _ (t : Call) (m : Memory) (e : refusalOf t (sizesOf m) ≡ 0) {f : Framed} {x : Table} {b : Memory} (g : f ≡ framedOf (t .header)) (y : x ≡ tableOf (t .header)) (h : b ≡ blankOf m) where
-  pub cost-found : {w : Reads} → w ≡ readsFrom (blocksOf (t .tile .width) (t .tile .height)) (cutOut (t .bytes) (t .tile) (f .frame) (x .bytes)) 0 (startOf (t .bytes) (t .tile) b) → w ≡ costOf t m
+  pub cost-found : {w : SymbolCounts} → w ≡ readsFrom (blocksOf (t .tile .width) (t .tile .height)) (cutOut (t .bytes) (t .tile) (f .frame) (x .bytes)) 0 (startOf (t .bytes) (t .tile) b) → w ≡ costOf t m
   cost-found q =
       q
       ∙ (λ i. readsFrom (blocksOf (t .tile .width) (t .tile .height)) (picture-found t m e g y h i) 0 (startOf (t .bytes) (t .tile) (h i)))
@@ -78,7 +78,7 @@ module _ (t : Call) (m : Memory) (e : refusalOf t (sizesOf m) ≡ 0) {f : Framed
 
 -- ---- how many they can be
 -- so many macroblocks were read from number k on, and these are the symbols
-pub record Over (n k : ℕ) (answer : Decoded) (reads : Reads) : Type 0 where
+pub record Over (n k : ℕ) (answer : Decoded) (reads : SymbolCounts) : Type 0 where
   pub macroblocks : ℕ
   pub upto : macroblocks ≤ n
   pub asked : askedOf answer ≡ k + macroblocks
@@ -112,7 +112,7 @@ module _ (P : Picture) (s : Shared P) (a : Bytes (P .first)) (b : (q : ℕ) → 
       go ih no-modes e = rw (run-no-modes n P k S e, reads-no-modes n P k S e) (record { macroblocks = 1; upto = omega arith; asked = omega arith; most = here })
       go ih no-tokens e = rw (run-no-tokens n P k S e, reads-no-tokens n P k S e) (record { macroblocks = 1; upto = omega arith; asked = omega arith; most = here })
 
-all-over : {n : ℕ} {answer : Decoded} {reads : Reads} → Over n 0 answer reads → AtMost (askedOf answer) reads
+all-over : {n : ℕ} {answer : Decoded} {reads : SymbolCounts} → Over n 0 answer reads → AtMost (askedOf answer) reads
 all-over {reads} o = subst (λ (j : ℕ). AtMost j reads) (omega (arith, o .asked)) (o .most)
 
 -- of the call, whatever it answers

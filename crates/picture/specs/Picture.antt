@@ -38,6 +38,7 @@ pub record Picture : Type 0 where
   pub wide : ℕ
   pub high : ℕ
 
+-- the partitions cut out of the bytes, with what the header gives
 abbrev pub cutOut : List ℕ → Tile → Frame → List ℕ → Picture
 cutOut bytes t frame table = record {
   first = contentsOf bytes (t .first);
@@ -49,6 +50,7 @@ cutOut bytes t frame table = record {
   high = t .height / 16;
 }
 
+-- the picture of a call
 abbrev pub picturedOf : Call → Picture
 picturedOf c = cutOut (c .bytes) (c .tile) (frameOf (c .header)) (headerTable (c .header))
 
@@ -60,9 +62,11 @@ pub record State : Type 0 where
   pub left : Context
   pub mem : Memory
 
+-- the state before the first macroblock, over memory m
 abbrev pub startOf : List ℕ → Tile → Memory → State
 startOf bytes t m = record { reader = t .reader; readers = readersOf bytes t; left = emptyContext; mem = m }
 
+-- the same of a call: its memory is blank
 abbrev pub begunOf : Call → Memory → State
 begunOf c m = startOf (c .bytes) (c .tile) (blankOf m)
 
@@ -70,9 +74,11 @@ begunOf c m = startOf (c .bytes) (c .tile) (blankOf m)
 abbrev pub columnOf : Picture → ℕ → ℕ
 columnOf P k = k % P .wide
 
+-- its row
 abbrev pub rowOf : Picture → ℕ → ℕ
 rowOf P k = k / P .wide
 
+-- the number of its row's token partition
 abbrev pub partitionOf : Picture → ℕ → ℕ
 partitionOf P k = pickOf (rowOf P k) (P .count)
 
@@ -80,18 +86,23 @@ partitionOf P k = pickOf (rowOf P k) (P .count)
 unfoldable pub besideOf : ℕ → Context → Context
 besideOf column left = elim (eqb column 0) [ true ↦ emptyContext | false ↦ left ]
 
+-- the planes of the lent memory
 abbrev pub planesIn : Memory → Planes
 planesIn m = planesOf (m .y) (m .u) (m .v)
 
+-- where it is painted
 abbrev pub placeOf : Picture → ℕ → Place
 placeOf P k = record { column = columnOf P k; row = rowOf P k; width = P .wide * 16 }
 
+-- the two readers that it finds: the first partition's, and its token partition's
 abbrev pub readersAt : State → (q : ℕ) → Readers
 readersAt S q = record { first = S .reader; token = getD (S .readers) q noReader }
 
+-- the contexts that it finds: its column's record, and what lies to the left
 abbrev pub aroundAt : State → (column : ℕ) → Around
 aroundAt S column = record { top = columnAt (S .mem .columns) column; left = besideOf column (S .left) }
 
+-- macroblock k made of the state that it finds
 unfoldable pub stepAt : Picture → ℕ → State → Step
 stepAt P k S =
     let q = partitionOf P k in
@@ -108,6 +119,7 @@ written k column m x = record {
   strengths = strengthSet (m .strengths) k (x .strength);
 }
 
+-- the state that a finished macroblock leaves to the next
 abbrev pub nextOf : Picture → ℕ → State → Finished → State
 nextOf P k S x = record {
   reader = x .readers .first;
@@ -157,6 +169,7 @@ numberOf (D.Refused n) = n
 numberOf (D.NoModes k) = 6
 numberOf (D.NoTokens k) = 7
 
+-- k: the macroblocks finished, 0 where an argument is refused
 abbrev pub valuesOf : Decoded → ℕ
 valuesOf (D.Whole k) = k
 valuesOf (D.Refused n) = 0

@@ -25,7 +25,7 @@ use Rattle.macroblock.specs.declared.whole.Finish.the-variants as F
 use Rattle.macroblock.specs.declared.whole.Outcome.{Outcome}
 use Rattle.macroblock.specs.declared.arguments.Place.{Place}
 use Rattle.macroblock.specs.declared.arguments.Readers.{Readers}
-use Rattle.macroblock.specs.declared.arguments.Reads.{Reads}
+use Rattle.macroblock.specs.declared.arguments.SymbolCounts.{SymbolCounts}
 use Rattle.macroblock.specs.declared.arguments.Around.{Around}
 use Rattle.header.specs.declared.frame.Frame.{Frame}
 use Rattle.macroblock.specs.Counts.{readsOf, decodeReads}
@@ -59,7 +59,7 @@ call-is first tokens readers f table top left place p e c d g l =
     ∙ decode-good first tokens readers f table (record { top = top; left = left }) place p g l
 
 -- and what it reads
-pub call-reads : (first tokens : List ℕ) (readers : Readers) (f : Frame) (table : List ℕ) {a b : Context} (top left : Context) (place : Place) (p : Planes) {x : Reads}
+pub call-reads : (first tokens : List ℕ) (readers : Readers) (f : Frame) (table : List ℕ) {a b : Context} (top left : Context) (place : Place) (p : Planes) {x : SymbolCounts}
     → x ≡ decodeReads first tokens readers f table (record { top = a; left = b }) place p → a ≡ top → b ≡ left
     → Ready first tokens readers f table (record { top = top; left = left }) → Laid place p
     → x ≡ readsOf first tokens readers f table (record { top = top; left = left })

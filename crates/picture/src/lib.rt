@@ -11,7 +11,7 @@ use coefficients::block::probabilities;
 use header::frame::take;
 use lent::memory::blank;
 use lent::sizes::Sizes;
-use macroblock::arguments::Reads;
+use macroblock::arguments::SymbolCounts;
 use tile::Tile;
 ghost use mathlib.Core.Path.{_≡_};
 ghost use Rattle.lent.specs.Memory.{memoryOf};
@@ -57,7 +57,7 @@ pub fn decode(
     if bad != 0 {
         return PictureRead {
             answer: Decoded::Refused(bad),
-            reads: Reads {
+            reads: SymbolCounts {
                 first: 0,
                 tokens: 0,
             },

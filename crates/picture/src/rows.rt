@@ -4,7 +4,7 @@ use crate::turn::turn;
 use header::frame::Frame;
 use macroblock::arguments::Place;
 use macroblock::arguments::Readers;
-use macroblock::arguments::Reads;
+use macroblock::arguments::SymbolCounts;
 use macroblock::whole::Finish;
 use modes::contexts::Context;
 use tile::Tile;
@@ -57,15 +57,15 @@ impl Decoded {
 // How it ended, and how many symbols were read.
 pub struct PictureRead {
     pub answer: Decoded,
-    pub reads: Reads,
+    pub reads: SymbolCounts,
 }
 
 // Two counts of a picture of at most 1024 by 1024 macroblocks.
-fn plus(a: Reads, b: Reads) -> Reads
+fn plus(a: SymbolCounts, b: SymbolCounts) -> SymbolCounts
     requires { ⌜ AtMost 1048576 (plus a b) ⌝ }
     ensures { λ r. ⌜ r ≡ plus a b ⌝ }
 {
-    Reads {
+    SymbolCounts {
         first: a.first + b.first,
         tokens: a.tokens + b.tokens,
     }
@@ -121,7 +121,7 @@ pub(crate) fn rows(
     let mut left = Context::empty();
     let mut k: usize = 0;
     let mut answer = Decoded::Whole(blocks);
-    let mut reads = Reads {
+    let mut reads = SymbolCounts {
         first: 0,
         tokens: 0,
     };

@@ -8,7 +8,7 @@ use lent::macroblocks::write_strength;
 use macroblock::arguments::Around;
 use macroblock::arguments::Place;
 use macroblock::arguments::Readers;
-use macroblock::arguments::Reads;
+use macroblock::arguments::SymbolCounts;
 use macroblock::whole::Finish;
 use macroblock::whole::decode;
 use modes::contexts::Context;
@@ -25,7 +25,7 @@ ghost use Rattle.picture.specs.Turn.{Room, turnedOf, turned};
 pub(crate) struct Ending {
     pub answer: Finish,
     pub left: Context,
-    pub reads: Reads,
+    pub reads: SymbolCounts,
 }
 
 // What macroblock k is decoded with: its two readers, what it shares with all, what lies to its left, its place.

@@ -39,12 +39,15 @@ fourLeft p w x y = nearOf p w x (y + 1) ∷ nearOf p w x (y + 2) ∷ nearOf p w 
 unfoldable pub firstPlaces : (n : ℕ) → (ℕ → ℕ) → List ℕ
 firstPlaces n f = placed (replicate 16 0) 0 f n
 
+-- the n samples above it
 abbrev pub firstAbove : List ℕ → (w x y n : ℕ) → List ℕ
 firstAbove p w x y n = firstPlaces n (λ k. nearOf p w (x + 1 + k) y)
 
+-- the n samples left of it
 abbrev pub firstLeft : List ℕ → (w x y n : ℕ) → List ℕ
 firstLeft p w x y n = firstPlaces n (λ k. nearOf p w x (y + 1 + k))
 
+-- all around the square: above, left, the corner, and which of them lie inside the plane
 unfoldable pub edgeOf : List ℕ → (w x y n : ℕ) → Edge
 edgeOf p w x y n = record {
   above = firstAbove p w x y n;
@@ -78,6 +81,7 @@ unfoldable pub rowsPainted : List ℕ → (w x y : ℕ) → List ℕ → (m : �
 rowsPainted p w x y b zero = p
 rowsPainted p w x y b (suc j) = copied (rowsPainted p w x y b j) ((y + j) * w + x) b (4 * j) 4
 
+-- all four rows
 abbrev pub painted : List ℕ → (w x y : ℕ) → List ℕ → List ℕ
 painted p w x y b = rowsPainted p w x y b 4
 
@@ -85,6 +89,7 @@ painted p w x y b = rowsPainted p w x y b 4
 unfoldable pub blockCoefficients : List ℤ → ℕ → List ℤ
 blockCoefficients c i = take 16 (drop (16 * i) c)
 
+-- its inverse transform
 unfoldable pub blockResidual : List ℤ → ℕ → List ℤ
 blockResidual c i = samplesOf false (blockCoefficients c i)
 
@@ -92,6 +97,7 @@ blockResidual c i = samplesOf false (blockCoefficients c i)
 unfoldable pub summedOf : List ℕ → List ℤ → List ℕ
 summedOf pred res = build 16 (λ k. clipZ (pos (getD pred k 0) +ℤ getD res k (pos 0)))
 
+-- sub-block i painted: predicted, its residual added
 unfoldable pub blockPainted : List ℕ → (w x y : ℕ) (pred : List ℕ) → List ℤ → ℕ → List ℕ
 blockPainted p w x y pred c i = painted p w x y (summedOf pred (blockResidual c i))
 
@@ -100,6 +106,7 @@ blockPainted p w x y pred c i = painted p w x y (summedOf pred (blockResidual c 
 abbrev pub cellColumn : (m i : ℕ) → ℕ
 cellColumn m i = 4 * (i % m)
 
+-- its row
 abbrev pub cellRow : (m i : ℕ) → ℕ
 cellRow m i = 4 * (i / m)
 
@@ -115,12 +122,15 @@ blocksPainted rule p w x y m c (suc i) =
 abbrev pub largeRule : (m mode dc : ℕ) → Edge → List ℕ → ℕ → List ℕ
 largeRule m mode dc e q i = largeOf mode dc e (cellRow m i) (cellColumn m i)
 
+-- a small mode's prediction from the samples around the sub-block
 unfoldable pub smallAt : List ℕ → (w x y : ℕ) (last : Bool) (right : List ℕ) (mode : ℕ) → List ℕ
 smallAt p w x y last right mode = smallBlock mode (aroundOf p w x y (blockAboveRight p w x y last right))
 
+-- of sub-block i of the macroblock
 abbrev pub smallRule : (w x y : ℕ) (right modes : List ℕ) → List ℕ → ℕ → List ℕ
 smallRule w x y right modes q i = smallAt q w (x + cellColumn 4 i) (y + cellRow 4 i) (eqb (i % 4) 3) right (getD modes i 0)
 
+-- the rule of a square, by whether its modes are small
 unfoldable pub predictionRule : List ℕ → (w x y n : ℕ) (small : Bool) (mode : ℕ) (modes : List ℕ) → List ℕ → ℕ → List ℕ
 predictionRule p w x y n true mode modes = smallRule w x y (aboveRight p w x y) modes
 predictionRule p w x y n false mode modes = let e = edgeOf p w x y n in largeRule (n / 4) mode (dcOf n e) e
@@ -133,6 +143,7 @@ squarePainted p w x y n small mode modes c = let m = n / 4 in blocksPainted (pre
 abbrev pub modesBelow : ℕ → List ℕ → Bool
 modesBelow limit modes = allBelow 16 (λ k. ltb (getD modes k 0) limit)
 
+-- every coefficient fits 16 bits
 abbrev pub eachFits : List ℤ → Bool
 eachFits c = allBelow (length c) (λ k. fits16 (getD c k (pos 0)))
 
@@ -146,9 +157,11 @@ squareFine len w column row n =
     let rows = len / w in
     ltb 0 w && (leb w 16384 && leb rows 16384 && eqb (w % n) 0 && eqb (rows % n) 0 && eqb (len % w) 0 && ltb column (w / n) && ltb row (rows / n))
 
+-- as many coefficients as samples, each of 16 bits
 unfoldable pub coefficientsFine : (n : ℕ) → List ℤ → Bool
 coefficientsFine n c = eqb (length c) (n * n) && eachFits c
 
+-- all of that
 unfoldable pub paintFine : (len w column row n : ℕ) (small : Bool) (mode : ℕ) (modes : List ℕ) → List ℤ → Bool
 paintFine len w column row n small mode modes c = paintModesFine n small mode modes && (squareFine len w column row n && coefficientsFine n c)
 
@@ -157,6 +170,7 @@ pub record PaintedPlane : Type 0 where
   pub answer : Checked
   pub plane : List ℕ
 
+-- `paint`: refused, and nothing changed, where an argument is out of range
 unfoldable pub paintOf : List ℕ → (w column row n : ℕ) (small : Bool) (mode : ℕ) (modes : List ℕ) → List ℤ → PaintedPlane
 paintOf p w column row n small mode modes c =
     cond (paintFine (length p) w column row n small mode modes c)

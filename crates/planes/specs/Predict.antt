@@ -23,12 +23,15 @@ at e i = getD e i 0
 abbrev pub mean2 : ℕ → ℕ → ℕ
 mean2 x y = (x + y + 1) / 2
 
+-- the RFC's weighted mean of three: a + 2b + c, rounded
 abbrev pub mean3 : ℕ → ℕ → ℕ → ℕ
 mean3 x y z = (x + y + y + z + 2) / 4
 
+-- the mean of two neighbours around, from place i on
 abbrev pub two : List ℕ → ℕ → ℕ
 two e i = mean2 (at e i) (at e (i + 1))
 
+-- the mean of the three around place i
 abbrev pub three : List ℕ → ℕ → ℕ
 three e i = mean3 (at e (i - 1)) (at e i) (at e (i + 1))
 
@@ -37,19 +40,23 @@ unfoldable pub dcBlock : List ℕ → List ℕ
 dcBlock e =
     replicate 16 ((at e 0 + at e 1 + at e 2 + at e 3 + at e 5 + at e 6 + at e 7 + at e 8 + 4) / 8)
 
+-- B_TM_PRED: left and above less the corner, clipped
 unfoldable pub tmBlock : List ℕ → List ℕ
 tmBlock e = build 16 (λ k. clipZ (pos (at e (3 - k / 4)) +ℤ pos (at e (5 + k % 4)) -ℤ pos (at e 4)))
 
+-- B_VE_PRED: the smoothed row above, four times
 unfoldable pub veBlock : List ℕ → List ℕ
 veBlock e =
     let a = three e 5 in let b = three e 6 in let c = three e 7 in let d = three e 8 in
     a ∷ b ∷ c ∷ d ∷ a ∷ b ∷ c ∷ d ∷ a ∷ b ∷ c ∷ d ∷ a ∷ b ∷ c ∷ d ∷ []
 
+-- B_HE_PRED: the smoothed column at the left, across
 unfoldable pub heBlock : List ℕ → List ℕ
 heBlock e =
     let a = three e 3 in let b = three e 2 in let c = three e 1 in let d = mean3 (at e 1) (at e 0) (at e 0) in
     a ∷ a ∷ a ∷ a ∷ b ∷ b ∷ b ∷ b ∷ c ∷ c ∷ c ∷ c ∷ d ∷ d ∷ d ∷ d ∷ []
 
+-- B_RD_PRED: down and to the right
 unfoldable pub rdBlock : List ℕ → List ℕ
 rdBlock e =
     three e 4 ∷ three e 5 ∷ three e 6 ∷ three e 7
@@ -57,6 +64,7 @@ rdBlock e =
     ∷ three e 2 ∷ three e 3 ∷ three e 4 ∷ three e 5
     ∷ three e 1 ∷ three e 2 ∷ three e 3 ∷ three e 4 ∷ []
 
+-- B_VR_PRED: down, and half as far to the right
 unfoldable pub vrBlock : List ℕ → List ℕ
 vrBlock e =
     two e 4 ∷ two e 5 ∷ two e 6 ∷ two e 7
@@ -64,6 +72,7 @@ vrBlock e =
     ∷ three e 3 ∷ two e 4 ∷ two e 5 ∷ two e 6
     ∷ three e 2 ∷ three e 4 ∷ three e 5 ∷ three e 6 ∷ []
 
+-- B_LD_PRED: down and to the left
 unfoldable pub ldBlock : List ℕ → List ℕ
 ldBlock e =
     three e 6 ∷ three e 7 ∷ three e 8 ∷ three e 9
@@ -71,6 +80,7 @@ ldBlock e =
     ∷ three e 8 ∷ three e 9 ∷ three e 10 ∷ three e 11
     ∷ three e 9 ∷ three e 10 ∷ three e 11 ∷ mean3 (at e 11) (at e 12) (at e 12) ∷ []
 
+-- B_VL_PRED: down, and half as far to the left
 unfoldable pub vlBlock : List ℕ → List ℕ
 vlBlock e =
     two e 5 ∷ two e 6 ∷ two e 7 ∷ two e 8
@@ -78,6 +88,7 @@ vlBlock e =
     ∷ two e 6 ∷ two e 7 ∷ two e 8 ∷ three e 10
     ∷ three e 7 ∷ three e 8 ∷ three e 9 ∷ three e 11 ∷ []
 
+-- B_HD_PRED: to the right, and half as far down
 unfoldable pub hdBlock : List ℕ → List ℕ
 hdBlock e =
     two e 3 ∷ three e 4 ∷ three e 5 ∷ three e 6
@@ -85,6 +96,7 @@ hdBlock e =
     ∷ two e 1 ∷ three e 2 ∷ two e 2 ∷ three e 3
     ∷ two e 0 ∷ three e 1 ∷ two e 1 ∷ three e 2 ∷ []
 
+-- B_HU_PRED: to the right, and half as far up
 unfoldable pub huBlock : List ℕ → List ℕ
 huBlock e =
     two e 2 ∷ three e 2 ∷ two e 1 ∷ three e 1
@@ -96,6 +108,7 @@ huBlock e =
 abbrev pub smallBlocks : List ℕ → List (List ℕ)
 smallBlocks e = dcBlock e ∷ tmBlock e ∷ veBlock e ∷ heBlock e ∷ rdBlock e ∷ vrBlock e ∷ ldBlock e ∷ vlBlock e ∷ hdBlock e ∷ huBlock e ∷ []
 
+-- the sixteen samples of a small mode
 abbrev pub smallBlock : ℕ → List ℕ → List ℕ
 smallBlock mode e = getD (smallBlocks e) mode []
 
@@ -112,6 +125,7 @@ meanOf true false n a l = (a + n / 2) / n
 meanOf false true n a l = (l + n / 2) / n
 meanOf false false n a l = 128
 
+-- DC of a square with this edge
 unfoldable pub dcOf : ℕ → Edge → ℕ
 dcOf n e = meanOf (e .«above_inside») (e .«left_inside») n (sumOfFirst (e .above) n) (sumOfFirst (e .left) n)
 

@@ -37,6 +37,7 @@ pub record CostAtMost (t : Call) (m : Memory) : Type 0 where
 abbrev pub modeSymbols : Picture → ℕ → State → List Coded
 modeSymbols P k S = let a = aroundAt S (columnOf P k) in trace (modesOf (P .frame .announced) (a .top .modes) (a .left .modes)) (P .first) (S .reader)
 
+-- those of its coefficients, its modes being given or not
 abbrev pub symbolsAfter : Picture → ℕ → State → Given Macroblock → List Coded
 symbolsAfter P k S missing = []
 symbolsAfter P k S (given m next) =
@@ -44,6 +45,7 @@ symbolsAfter P k S (given m next) =
     trace (residualOf (P .table) (factorsAt (P .frame) (m .segment)) (m .small) (m .skip) (a .top .flags) (a .left .flags))
     (P .token (partitionOf P k)) (getD (S .readers) (partitionOf P k) noReader)
 
+-- and by what its modes are
 abbrev pub tokenSymbols : Picture → ℕ → State → List Coded
 tokenSymbols P k S = symbolsAfter P k S (modesAsked P k S)
 

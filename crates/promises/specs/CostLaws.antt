@@ -13,9 +13,9 @@ use Rattle.reader.specs.Trace.{Coded, trace, count}
 use Rattle.modes.specs.Modes.{Macroblock}
 use Rattle.lent.specs.Memory.{Memory, sizesOf}
 use Rattle.tile.specs.Partitions.{pickOf}
-use Rattle.macroblock.specs.declared.arguments.Reads.{Reads}
+use Rattle.macroblock.specs.declared.arguments.SymbolCounts.{SymbolCounts}
 use Rattle.macroblock.specs.Macroblock.{Finished, Step, finished, no-modes, no-tokens}
-use Rattle.macroblock.specs.Counts.{noReads, tokenReads, readsOf, AtMost}
+use Rattle.macroblock.specs.Counts.{noReads, macroblockTokenReads, readsOf, AtMost}
 use Rattle.picture.specs.declared.rows.Decoded.{Decoded}
 use Rattle.picture.specs.declared.rows.Decoded.the-variants as D
 use Rattle.picture.specs.Checks.{Call, refusalOf}
@@ -43,7 +43,7 @@ asked-next (D.Refused n) k f = omega arith
 asked-next (D.NoModes n) k f = omega arith
 asked-next (D.NoTokens n) k f = omega arith
 
-more : {j : ℕ} {reads : Reads} (k : ℕ) → j ≤ k → AtMost j reads → (reads .first ≤ 119 * k) × (reads .tokens ≤ 7296 * k)
+more : {j : ℕ} {reads : SymbolCounts} (k : ℕ) → j ≤ k → AtMost j reads → (reads .first ≤ 119 * k) × (reads .tokens ≤ 7296 * k)
 more k h a = (omega (arith, a .first), omega (arith, a .tokens))
 
 -- THE BOUND, for every call. That the bytes are bytes is what the call's type says
@@ -60,7 +60,7 @@ cost-at-most t m y =
 
 -- ---- what is counted
 module _ (P : Picture) (k : ℕ) (S : State) where
-  after-count : (g : Given Macroblock) → tokenReads (P .token (partitionOf P k)) (readersAt S (partitionOf P k) .token) (P .frame) (P .table) (aroundAt S (columnOf P k)) g ≡ length (symbolsAfter P k S g)
+  after-count : (g : Given Macroblock) → macroblockTokenReads (P .token (partitionOf P k)) (readersAt S (partitionOf P k) .token) (P .frame) (P .table) (aroundAt S (columnOf P k)) g ≡ length (symbolsAfter P k S g)
   unfolding count
   after-count (given m next) = refl
   after-count missing = refl
@@ -76,7 +76,7 @@ finished-length f n P k S x e =
     let g : symbolsFrom f (suc n) P k S ≡ f P k S ++ symbolsFrom f n P (k + 1) (nextOf P k S x) = rw (e, symbolsFrom) in
     sym (ap length g ∙ length-append (f P k S) (symbolsFrom f n P (k + 1) (nextOf P k S x)))
 
-lists : ℕ → Picture → ℕ → State → Reads
+lists : ℕ → Picture → ℕ → State → SymbolCounts
 lists n P k S = record { first = length (symbolsFrom modeSymbols n P k S); tokens = length (symbolsFrom tokenSymbols n P k S) }
 
 lists-from : (n : ℕ) (P : Picture) (k : ℕ) (S : State) → readsFrom n P k S ≡ lists n P k S
@@ -95,7 +95,7 @@ pub cost-is : (t : Call) (m : Memory) → Fine t m → CostIs t m
 unfolding lists
 cost-is t m e =
     let g = cost-good t m (sym e) refl ∙ lists-from (macroblocks t) (picturedOf t) 0 (begunOf t m) in
-    record { first = ap (λ (r : Reads). r .first) g; tokens = ap (λ (r : Reads). r .tokens) g }
+    record { first = ap (λ (r : SymbolCounts). r .first) g; tokens = ap (λ (r : SymbolCounts). r .tokens) g }
 
 -- ---- two pictures that agree in every partition that is read
 module _ {U : ℕ → Type 0} {P Q : Picture} (t : Twins U P Q) (b : ℕ) (used : (k : ℕ) → k < b → U (partitionOf P k)) (inside : (k : ℕ) → k < b → partitionOf P k < P .count) where

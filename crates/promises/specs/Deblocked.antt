@@ -24,6 +24,7 @@ use Rattle.promises.specs.Isolation.{SameTokens}
 abbrev pub sampleAcross : (at along step j k : ℕ) → ℕ
 sampleAcross at along step j k = at + j * along + k * step
 
+-- how far one edge reaches
 pub record EdgeReaches (g : Edge) (at along step n : ℕ) : Type 0 where
   -- at most three samples on either side change: nothing but p2, p1, p0, q0, q1, q2 of its positions
   pub changes : (p : List ℕ) (i : ℕ) → ((j k : ℕ) → j < n → 0 < k → k < 7 → i ≡ sampleAcross at along step j k → ⊥) → getD (sweepOf g at along step n p) i 0 ≡ getD p i 0
@@ -36,9 +37,11 @@ pub record EdgeReaches (g : Edge) (at along step n : ℕ) : Type 0 where
 abbrev pub Sized : Planes → (strengths : List ℕ) → (w h : ℕ) → Type 0
 Sized d s w h = Lengths w h (length (d .y)) (length (d .u)) (length (d .v)) (length s)
 
+-- the number that the deblocking call answers
 abbrev pub numbered : Planes → (strengths : List ℕ) → (w h : ℕ) (simple : Bool) → ℕ
 numbered d s w h simple = deblockNumberOf (deblockOf d s w h simple .answer)
 
+-- which argument is refused by which number
 pub record DeblockRefused (d : Planes) (s : List ℕ) (w h : ℕ) (simple : Bool) : Type 0 where
   pub unchanged : (numbered d s w h simple ≡ 0 → ⊥) → deblockOf d s w h simple .planes ≡ d
   pub side : (Sides w h → ⊥) → numbered d s w h simple ≡ 1
@@ -50,6 +53,7 @@ pub record DeblockRefused (d : Planes) (s : List ℕ) (w h : ℕ) (simple : Bool
 abbrev pub deblockedOf : Call → Memory → Bool → Outcome
 deblockedOf t m simple = let d = pictureOf t m .mem in deblockOf (planesIn d) (d .strengths) (t .tile .width) (t .tile .height) simple
 
+-- one of the three
 abbrev pub plane : Plane → Planes → List ℕ
 plane luma d = d .y
 plane blue d = d .u

@@ -1,5 +1,6 @@
 -- Each public function promises one answer: for every input, whatever meets its contract, lent memory included, is the same, and something
--- meets it. Every contract is an equation with a definition: a line for each function.
+-- meets it. Every contract is an equation with a definition: a line for each function, under its path, with the right side of its `ensures`
+-- and its arguments' own names. tools/determined.py, in the gate, compares the two word by word.
 use mathlib.Core.Path.{_≡_, refl, sym, _∙_}
 use Prim.Native.Nat.{ℕ}
 use mathlib.Core.Bool.{Bool}
@@ -14,6 +15,8 @@ use Rattle.header.specs.Header.{presentOf, probabilityOf, presentAt, probabilit
 use Rattle.reader.specs.Token.{tokenAnswer}
 use Rattle.reader.specs.Trees.{walkAnswer}
 use Rattle.reader.specs.declared.boolean.Reader.{Reader}
+use Rattle.wide.specs.Wide.{fillOf, wideBitOf, widenOf, insideOf, narrowOf}
+use Rattle.wide.specs.declared.wide.Wide.{Wide}
 use Rattle.header.specs.Levels.{levelAnswer}
 use Rattle.header.specs.Quantizers.{quantizersOf}
 use Rattle.header.specs.declared.quantizers.Factors.{Factors}
@@ -36,7 +39,6 @@ use Rattle.tile.specs.declared.Tile.{Tile}
 use Rattle.tile.specs.Checks.{sideOf, sidesOf, countOf, partitionsOf}
 use Rattle.tile.specs.Partitions.{pickOf, contentsOf, tokenContents, readersOf}
 use Rattle.modes.specs.declared.answers.Kinds.{Kinds}
-use Rattle.modes.specs.declared.answers.Staged.{Staged}
 use Rattle.modes.specs.declared.contexts.Context.{Context}
 use Rattle.residual.specs.Residual as Residual
 use Rattle.planes.specs.Paint.{paintOf}
@@ -44,22 +46,21 @@ use Rattle.header.specs.Frame.{announcedOf, framedOf}
 use Rattle.header.specs.declared.frame.Announced.{Announced}
 use Rattle.macroblock.specs.declared.arguments.Place.{Place}
 use Rattle.macroblock.specs.declared.arguments.Readers.{Readers}
-use Rattle.macroblock.specs.declared.arguments.Reads.{Reads}
 use Rattle.macroblock.specs.declared.arguments.Around.{Around}
 use Rattle.macroblock.specs.Counts.{decodeReads}
 use Rattle.macroblock.specs.Macroblock as Macroblock
-use Rattle.macroblock.specs.Macroblock.{Planes}
+use Rattle.macroblock.specs.Macroblock.{planesOf}
 use Rattle.filter.specs.Strengths.{strengthAnswer, strengthFine}
 use Rattle.header.specs.declared.frame.Frame.{Frame}
 use Rattle.filter.specs.declared.strengths.Strength.{Strength}
-use Rattle.picture.specs.Checks.{Call}
-use Rattle.lent.specs.Memory.{Memory, filled, blankOf}
+use Rattle.picture.specs.Checks.{callOf}
+use Rattle.lent.specs.Memory.{memoryOf, filled, blankOf}
 use Rattle.casefile.specs.Run.{ranOf}
 use Rattle.deblock.specs.Deblock.{deblockOf}
-use Rattle.hookbarley.specs.Calls.{calledOf, deblockCalledOf, filteredOf}
+use Rattle.hookbarley.specs.Calls.{spansFrom, calledOf, deblockCalledOf, filteredOf}
 use Rattle.hookbarley.specs.ExplainCalls.{explainCalledOf}
 use Rattle.picture.specs.declared.rows.Decoded.{Decoded}
-use Rattle.picture.specs.Picture.{Ended, numberOf, pictureOf, valuesOf}
+use Rattle.picture.specs.Picture.{numberOf, pictureOf, valuesOf}
 use Rattle.picture.specs.Counts.{costOf}
 use Rattle.hookbarley.specs.FrameCalls.{frameCalledOf}
 use Rattle.hookbarley.specs.WebpCalls.{webpFoundOf, webpWrappedOf}
@@ -72,300 +73,451 @@ pub record One {A : Type 0} (Promise : A → Type 0) : Type 0 where
   pub meets : Promise answer
   pub only : (x y : A) → Promise x → Promise y → x ≡ y
 
-determined : {A : Type 0} (d : A) → One (λ x. x ≡ d)
+determined : {A : Type 0} (d : A) → One (λ o. o ≡ d)
 determined d = record { answer = d; meets = refl; only = λ x y e f. e ∙ sym f }
 
--- an answer, and beside it how many symbols were read
-counted : {A B : Type 0} (d : A) (n : B) → One (λ (x : A × B). (x .0 ≡ d) × (x .1 ≡ n))
-counted d n = record { answer = (d, n); meets = (refl, refl); only = λ x y e f. λ i. ((e .0 ∙ sym (f .0)) i, (e .1 ∙ sym (f .1)) i) }
-
 -- ---- numbers
-pub numbers-wrap16 : (v : ℤ) → One (λ x. x ≡ wrap16Of v)
+-- numbers::wrap16
+pub numbers-wrap16 : (v : ℤ) → One (λ o. o ≡ wrap16Of v)
 numbers-wrap16 v = determined (wrap16Of v)
 
-pub numbers-clamp-to : (v : ℤ) (top : ℕ) → One (λ x. x ≡ upTo top v)
+-- numbers::clamp_to
+pub numbers-clamp-to : (v : ℤ) (top : ℕ) → One (λ o. o ≡ upTo top v)
 numbers-clamp-to v top = determined (upTo top v)
 
-pub numbers-clip : (v : ℤ) → One (λ x. x ≡ clipZ v)
+-- numbers::clip
+pub numbers-clip : (v : ℤ) → One (λ o. o ≡ clipZ v)
 numbers-clip v = determined (clipZ v)
 
-pub numbers-signed-to : (v : ℤ) (top : ℕ) → One (λ x. x ≡ signedTo top v)
+-- numbers::signed_to
+pub numbers-signed-to : (v : ℤ) (top : ℕ) → One (λ o. o ≡ signedTo top v)
 numbers-signed-to v top = determined (signedTo top v)
 
-pub numbers-signed-byte : (v : ℤ) → One (λ x. x ≡ signedByteZ v)
+-- numbers::signed_byte
+pub numbers-signed-byte : (v : ℤ) → One (λ o. o ≡ signedByteZ v)
 numbers-signed-byte v = determined (signedByteZ v)
 
 -- ---- reader
-pub reader-valid : (s : List ℕ) (r : Reader) → One (λ x. x ≡ validOf s r)
+-- reader::boolean::valid
+pub reader-valid : (s : List ℕ) (r : Reader) → One (λ o. o ≡ validOf s r)
 reader-valid s r = determined (validOf s r)
 
-pub reader-open : (s : List ℕ) → One (λ x. x ≡ firstReader s)
+-- reader::boolean::open
+pub reader-open : (s : List ℕ) → One (λ o. o ≡ firstReader s)
 reader-open s = determined (firstReader s)
 
-pub reader-symbol : (s : List ℕ) (r : Reader) (prob : ℕ) → One (λ x. x ≡ symbolAnswer s r prob)
-reader-symbol s r prob = determined (symbolAnswer s r prob)
+-- reader::boolean::Reader::symbol
+pub reader-symbol : (s : List ℕ) (self : Reader) (prob : ℕ) → One (λ o. o ≡ symbolAnswer s self prob)
+reader-symbol s self prob = determined (symbolAnswer s self prob)
 
-pub reader-walk-tree : (s probs : List ℕ) (tree : List ℤ) (start : ℕ) (r : Reader) → One (λ x. x ≡ walkAnswer s probs tree start r)
+-- reader::trees::walk_tree
+pub reader-walk-tree : (s probs : List ℕ) (tree : List ℤ) (start : ℕ) (r : Reader) → One (λ o. o ≡ walkAnswer s probs tree start r)
 reader-walk-tree s probs tree start r = determined (walkAnswer s probs tree start r)
 
-pub reader-extra-bits : (s probs : List ℕ) (r : Reader) → One (λ x. x ≡ extraAnswer s probs r)
+-- reader::extra::extra_bits
+pub reader-extra-bits : (s probs : List ℕ) (r : Reader) → One (λ o. o ≡ extraAnswer s probs r)
 reader-extra-bits s probs r = determined (extraAnswer s probs r)
 
-pub reader-walk-token : (s table : List ℕ) (at : ℕ) (zero : Bool) (r : Reader) → One (λ x. x ≡ tokenAnswer s table at zero r)
+-- reader::token::walk_token
+pub reader-walk-token : (s table : List ℕ) (at : ℕ) (zero : Bool) (r : Reader) → One (λ o. o ≡ tokenAnswer s table at zero r)
 reader-walk-token s table at zero r = determined (tokenAnswer s table at zero r)
 
-pub reader-count-tree : (s probs : List ℕ) (tree : List ℤ) (start : ℕ) (r : Reader) → One (λ x. x ≡ treeCount s probs tree start r)
+-- reader::counts::count_tree
+pub reader-count-tree : (s probs : List ℕ) (tree : List ℤ) (start : ℕ) (r : Reader) → One (λ o. o ≡ treeCount s probs tree start r)
 reader-count-tree s probs tree start r = determined (treeCount s probs tree start r)
 
-pub reader-count-token : (s table : List ℕ) (at : ℕ) (zero : Bool) (r : Reader) → One (λ x. x ≡ tokenCount s table at zero r)
+-- reader::counts::count_token
+pub reader-count-token : (s table : List ℕ) (at : ℕ) (zero : Bool) (r : Reader) → One (λ o. o ≡ tokenCount s table at zero r)
 reader-count-token s table at zero r = determined (tokenCount s table at zero r)
 
-pub reader-count-extra : (s probs : List ℕ) (r : Reader) → One (λ x. x ≡ extraCount s probs r)
+-- reader::counts::count_extra
+pub reader-count-extra : (s probs : List ℕ) (r : Reader) → One (λ o. o ≡ extraCount s probs r)
 reader-count-extra s probs r = determined (extraCount s probs r)
 
+-- ---- wide
+-- wide::wide::Wide::fill
+pub wide-fill : (s : List ℕ) (self : Wide) → One (λ o. o ≡ fillOf s self)
+wide-fill s self = determined (fillOf s self)
+
+-- wide::wide::Wide::bit
+pub wide-bit : (self : Wide) (prob : ℕ) → One (λ o. o ≡ wideBitOf self prob)
+wide-bit self prob = determined (wideBitOf self prob)
+
+-- wide::wide::Wide::even
+pub wide-even : (self : Wide) (prob : ℕ) → One (λ o. o ≡ wideBitOf self prob)
+wide-even self prob = determined (wideBitOf self prob)
+
+-- wide::wide::widen
+pub wide-widen : (r : Reader) → One (λ o. o ≡ widenOf r)
+wide-widen r = determined (widenOf r)
+
+-- wide::wide::inside
+pub wide-inside : (s : List ℕ) (w : Wide) → One (λ o. o ≡ insideOf s w)
+wide-inside s w = determined (insideOf s w)
+
+-- wide::wide::narrow
+pub wide-narrow : (s : List ℕ) (w : Wide) → One (λ o. o ≡ narrowOf s w)
+wide-narrow s w = determined (narrowOf s w)
+
 -- ---- header
-pub header-present : (entry : ℤ) → One (λ x. x ≡ presentOf entry)
+-- header::entries::present
+pub header-present : (entry : ℤ) → One (λ o. o ≡ presentOf entry)
 header-present entry = determined (presentOf entry)
 
-pub header-probability : (entry : ℤ) → One (λ x. x ≡ probabilityOf entry)
+-- header::entries::probability
+pub header-probability : (entry : ℤ) → One (λ o. o ≡ probabilityOf entry)
 header-probability entry = determined (probabilityOf entry)
 
-pub header-present-at : (h : List ℤ) (i : ℕ) → One (λ x. x ≡ presentAt h i)
+-- header::entries::present_at
+pub header-present-at : (h : List ℤ) (i : ℕ) → One (λ o. o ≡ presentAt h i)
 header-present-at h i = determined (presentAt h i)
 
-pub header-probability-at : (h : List ℤ) (i : ℕ) → One (λ x. x ≡ probabilityAt h i)
+-- header::entries::probability_at
+pub header-probability-at : (h : List ℤ) (i : ℕ) → One (λ o. o ≡ probabilityAt h i)
 header-probability-at h i = determined (probabilityAt h i)
 
-pub header-entries-fine : (h : List ℤ) → One (λ x. x ≡ entriesOf h)
+-- header::entries::entries_fine
+pub header-entries-fine : (h : List ℤ) → One (λ o. o ≡ entriesOf h)
 header-entries-fine h = determined (entriesOf h)
 
-pub header-header-fine : (h : List ℤ) → One (λ x. x ≡ headerOf h)
+-- header::entries::header_fine
+pub header-header-fine : (h : List ℤ) → One (λ o. o ≡ headerOf h)
 header-header-fine h = determined (headerOf h)
 
-pub header-announced-by : (h : List ℤ) → One (λ x. x ≡ announcedOf h)
+-- header::frame::announced_by
+pub header-announced-by : (h : List ℤ) → One (λ o. o ≡ announcedOf h)
 header-announced-by h = determined (announcedOf h)
 
-pub header-for-segment : (h : List ℤ) (segment : ℕ) → One (λ x. x ≡ quantizersOf h segment)
+-- header::quantizers::for_segment
+pub header-for-segment : (h : List ℤ) (segment : ℕ) → One (λ o. o ≡ quantizersOf h segment)
 header-for-segment h segment = determined (quantizersOf h segment)
 
-pub header-for-macroblock : (h : List ℤ) (segment : ℕ) (small : Bool) → One (λ x. x ≡ levelAnswer h segment small)
+-- header::levels::for_macroblock
+pub header-for-macroblock : (h : List ℤ) (segment : ℕ) (small : Bool) → One (λ o. o ≡ levelAnswer h segment small)
 header-for-macroblock h segment small = determined (levelAnswer h segment small)
 
-pub header-take : (h : List ℤ) → One (λ x. x ≡ framedOf h)
+-- header::frame::take
+pub header-take : (h : List ℤ) → One (λ o. o ≡ framedOf h)
 header-take h = determined (framedOf h)
 
 -- ---- coefficients
-pub coefficients-number : (s : List ℕ) (token : ℕ) (r : Reader) → One (λ x. x ≡ numberAnswer s token r)
+-- coefficients::block::number
+pub coefficients-number : (s : List ℕ) (token : ℕ) (r : Reader) → One (λ o. o ≡ numberAnswer s token r)
 coefficients-number s token r = determined (numberAnswer s token r)
 
-pub coefficients-dequant : (s : List ℕ) (token q : ℕ) (r : Reader) → One (λ x. x ≡ signedAnswer s token q r)
+-- coefficients::block::dequant
+pub coefficients-dequant : (s : List ℕ) (token q : ℕ) (r : Reader) → One (λ o. o ≡ signedAnswer s token q r)
 coefficients-dequant s token q r = determined (signedAnswer s token q r)
 
-pub coefficients-probabilities : (h : List ℤ) → One (λ x. x ≡ tableOf h)
+-- coefficients::block::probabilities
+pub coefficients-probabilities : (h : List ℤ) → One (λ o. o ≡ tableOf h)
 coefficients-probabilities h = determined (tableOf h)
 
-pub coefficients-decode : (s : List ℕ) (r : Reader) (table : List ℕ) (kind ctx first q0 q1 : ℕ) (out : List ℤ) → One (λ (x : Tokens.BlockCalled × ℕ). (x .0 ≡ Tokens.blockCallOf s r table kind ctx first q0 q1 out) × (x .1 ≡ Tokens.blockReads s r table kind ctx first q0 q1 out))
-coefficients-decode s r table kind ctx first q0 q1 out = counted (Tokens.blockCallOf s r table kind ctx first q0 q1 out) (Tokens.blockReads s r table kind ctx first q0 q1 out)
+-- coefficients::block::decode
+pub coefficients-decode : (s : List ℕ) (r : Reader) (table : List ℕ) (kind ctx first q0 q1 : ℕ) (out : List ℤ) → One (λ o. o ≡ Tokens.blockCallOf s r table kind ctx first q0 q1 out)
+coefficients-decode s r table kind ctx first q0 q1 out = determined (Tokens.blockCallOf s r table kind ctx first q0 q1 out)
 
-pub coefficients-decode-header : (s : List ℕ) (r : Reader) (h : List ℤ) (kind ctx first q0 q1 : ℕ) (out : List ℤ) → One (λ (x : Tokens.BlockCalled × ℕ). (x .0 ≡ Tokens.blockByHeaderOf s r h kind ctx first q0 q1 out) × (x .1 ≡ Tokens.headerReads s r h kind ctx first q0 q1 out))
-coefficients-decode-header s r h kind ctx first q0 q1 out = counted (Tokens.blockByHeaderOf s r h kind ctx first q0 q1 out) (Tokens.headerReads s r h kind ctx first q0 q1 out)
+-- coefficients::block::decode
+pub coefficients-decode-reads : (s : List ℕ) (r : Reader) (table : List ℕ) (kind ctx first q0 q1 : ℕ) (out : List ℤ) → One (λ o. o ≡ Tokens.blockReads s r table kind ctx first q0 q1 out)
+coefficients-decode-reads s r table kind ctx first q0 q1 out = determined (Tokens.blockReads s r table kind ctx first q0 q1 out)
+
+-- coefficients::block::decode_header
+pub coefficients-decode-header : (s : List ℕ) (r : Reader) (h : List ℤ) (kind ctx first q0 q1 : ℕ) (out : List ℤ) → One (λ o. o ≡ Tokens.blockByHeaderOf s r h kind ctx first q0 q1 out)
+coefficients-decode-header s r h kind ctx first q0 q1 out = determined (Tokens.blockByHeaderOf s r h kind ctx first q0 q1 out)
+
+-- coefficients::block::decode_header
+pub coefficients-decode-header-reads : (s : List ℕ) (r : Reader) (h : List ℤ) (kind ctx first q0 q1 : ℕ) (out : List ℤ) → One (λ o. o ≡ Tokens.blockByHeaderReads s r h kind ctx first q0 q1 out)
+coefficients-decode-header-reads s r h kind ctx first q0 q1 out = determined (Tokens.blockByHeaderReads s r h kind ctx first q0 q1 out)
 
 -- ---- transform
-pub transform-transform : (c : List ℤ) (walsh : Bool) → One (λ x. x ≡ transformOf c walsh)
+-- transform::transform
+pub transform-transform : (c : List ℤ) (walsh : Bool) → One (λ o. o ≡ transformOf c walsh)
 transform-transform c walsh = determined (transformOf c walsh)
 
 -- ---- filter
-pub filter-filter : (e : List ℕ) (simple edge : Bool) (limit inner threshold : ℕ) → One (λ x. x ≡ filterOf e simple edge limit inner threshold)
+-- filter::filter
+pub filter-filter : (e : List ℕ) (simple edge : Bool) (limit inner threshold : ℕ) → One (λ o. o ≡ filterOf e simple edge limit inner threshold)
 filter-filter e simple edge limit inner threshold = determined (filterOf e simple edge limit inner threshold)
 
-pub filter-pixel : (e : List ℕ) (simple edge : Bool) (limit inner threshold k : ℕ) → One (λ x. x ≡ pixelOf e simple edge limit inner threshold k)
+-- filter::pixel
+pub filter-pixel : (e : List ℕ) (simple edge : Bool) (limit inner threshold k : ℕ) → One (λ o. o ≡ pixelOf e simple edge limit inner threshold k)
 filter-pixel e simple edge limit inner threshold k = determined (pixelOf e simple edge limit inner threshold k)
 
-pub filter-rule : (e : List ℕ) (simple edge : Bool) (limit inner threshold : ℕ) → One (λ x. x ≡ ruleOf (samplesAcross e) simple edge limit inner threshold)
+-- filter::rules::rule
+pub filter-rule : (e : List ℕ) (simple edge : Bool) (limit inner threshold : ℕ) → One (λ o. o ≡ ruleOf (samplesAcross e) simple edge limit inner threshold)
 filter-rule e simple edge limit inner threshold = determined (ruleOf (samplesAcross e) simple edge limit inner threshold)
 
-pub filter-acted : (e : List ℕ) (rule : Rule) → One (λ x. x ≡ movedOf e (stepsOf rule (samplesAcross e)))
+-- filter::steps::acted
+pub filter-acted : (e : List ℕ) (rule : Rule) → One (λ o. o ≡ movedOf e (stepsOf rule (samplesAcross e)))
 filter-acted e rule = determined (movedOf e (stepsOf rule (samplesAcross e)))
 
-pub filter-at-level : (level sharp : ℕ) (inside : Bool) → One (λ x. x ≡ strengthAnswer level sharp inside)
+-- filter::strengths::at_level
+pub filter-at-level : (level sharp : ℕ) (inside : Bool) → One (λ o. o ≡ strengthAnswer level sharp inside)
 filter-at-level level sharp inside = determined (strengthAnswer level sharp inside)
 
-pub filter-strength-fine : (t : Strength) → One (λ x. x ≡ strengthFine t)
+-- filter::strengths::strength_fine
+pub filter-strength-fine : (t : Strength) → One (λ o. o ≡ strengthFine t)
 filter-strength-fine t = determined (strengthFine t)
 
-pub filter-added : (e : List ℕ) (rule : Rule) → One (λ x. x ≡ stepsOf rule (samplesAcross e))
+-- filter::steps::added
+pub filter-added : (e : List ℕ) (rule : Rule) → One (λ o. o ≡ stepsOf rule (samplesAcross e))
 filter-added e rule = determined (stepsOf rule (samplesAcross e))
 
-pub filter-explain : (e : List ℕ) (simple edge : Bool) (limit inner threshold : ℕ) → One (λ x. x ≡ explainOf e simple edge limit inner threshold)
+-- filter::explain::explain
+pub filter-explain : (e : List ℕ) (simple edge : Bool) (limit inner threshold : ℕ) → One (λ o. o ≡ explainOf e simple edge limit inner threshold)
 filter-explain e simple edge limit inner threshold = determined (explainOf e simple edge limit inner threshold)
 
 -- ---- modes
-pub modes-prefix : (s : List ℕ) (r : Reader) (h : List ℤ) → One (λ x. x ≡ prefixAnswer s r h)
+-- modes::prefix::prefix
+pub modes-prefix : (s : List ℕ) (r : Reader) (h : List ℤ) → One (λ o. o ≡ prefixAnswer s r h)
 modes-prefix s r h = determined (prefixAnswer s r h)
 
-pub modes-main-mode : (s : List ℕ) (r : Reader) (chroma : Bool) → One (λ x. x ≡ mainAnswer s r chroma)
+-- modes::large::main_mode
+pub modes-main-mode : (s : List ℕ) (r : Reader) (chroma : Bool) → One (λ o. o ≡ mainAnswer s r chroma)
 modes-main-mode s r chroma = determined (mainAnswer s r chroma)
 
-pub modes-block-mode : (s : List ℕ) (r : Reader) (top left : ℕ) → One (λ x. x ≡ blockAnswer s r top left)
+-- modes::small::block_mode
+pub modes-block-mode : (s : List ℕ) (r : Reader) (top left : ℕ) → One (λ o. o ≡ blockAnswer s r top left)
 modes-block-mode s r top left = determined (blockAnswer s r top left)
 
-pub modes-small-modes : (s : List ℕ) (r : Reader) (top left modes : List ℕ) → One (λ x. x ≡ smallAnswer s r top left modes)
+-- modes::small::small_modes
+pub modes-small-modes : (s : List ℕ) (r : Reader) (top left modes : List ℕ) → One (λ o. o ≡ smallAnswer s r top left modes)
 modes-small-modes s r top left modes = determined (smallAnswer s r top left modes)
 
-pub modes-read-modes : (s : List ℕ) (announced : Announced) (r : Reader) (top left modes : List ℕ) → One (λ (x : Staged × ℕ). (x .0 ≡ modesAnswer s announced r top left modes) × (x .1 ≡ modesReads s announced r top left))
-modes-read-modes s announced r top left modes = counted (modesAnswer s announced r top left modes) (modesReads s announced r top left)
+-- modes::whole::read_modes
+pub modes-read-modes : (s : List ℕ) (a : Announced) (r : Reader) (top left modes : List ℕ) → One (λ o. o ≡ modesAnswer s a r top left modes)
+modes-read-modes s a r top left modes = determined (modesAnswer s a r top left modes)
 
-pub modes-empty : One (λ x. x ≡ emptyContext)
+-- modes::whole::read_modes
+pub modes-read-modes-reads : (s : List ℕ) (a : Announced) (r : Reader) (top left : List ℕ) → One (λ o. o ≡ modesReads s a r top left)
+modes-read-modes-reads s a r top left = determined (modesReads s a r top left)
+
+-- modes::contexts::Context::empty
+pub modes-empty : One (λ o. o ≡ emptyContext)
 modes-empty = determined emptyContext
 
-pub modes-bottom : (modes : List ℕ) → One (λ x. x ≡ bottomOf modes)
+-- modes::contexts::bottom
+pub modes-bottom : (modes : List ℕ) → One (λ o. o ≡ bottomOf modes)
 modes-bottom modes = determined (bottomOf modes)
 
-pub modes-right : (modes : List ℕ) → One (λ x. x ≡ Modes.rightOf modes)
+-- modes::contexts::right
+pub modes-right : (modes : List ℕ) → One (λ o. o ≡ Modes.rightOf modes)
 modes-right modes = determined (Modes.rightOf modes)
 
-pub modes-each-below : (l : List ℕ) (limit : ℕ) → One (λ x. x ≡ eachBelow limit l)
+-- modes::contexts::each_below
+pub modes-each-below : (l : List ℕ) (limit : ℕ) → One (λ o. o ≡ eachBelow limit l)
 modes-each-below l limit = determined (eachBelow limit l)
 
-pub modes-context-fine : (c : Context) → One (λ x. x ≡ contextFine c)
+-- modes::contexts::context_fine
+pub modes-context-fine : (c : Context) → One (λ o. o ≡ contextFine c)
 modes-context-fine c = determined (contextFine c)
 
 -- ---- residual
-pub residual-decode : (s : List ℕ) (r : Reader) (table : List ℕ) (f : Factors) (small skip : Bool) (top left : List ℕ) (out : List ℤ) → One (λ (x : Residual.ResidualCalled × ℕ). (x .0 ≡ Residual.residualCallOf s r table f small skip top left out) × (x .1 ≡ Residual.residualReads s r table f small skip top left out))
-residual-decode s r table f small skip top left out = counted (Residual.residualCallOf s r table f small skip top left out) (Residual.residualReads s r table f small skip top left out)
+-- residual::decode
+pub residual-decode : (s : List ℕ) (r : Reader) (table : List ℕ) (f : Factors) (small skip : Bool) (top left : List ℕ) (out : List ℤ) → One (λ o. o ≡ Residual.residualCallOf s r table f small skip top left out)
+residual-decode s r table f small skip top left out = determined (Residual.residualCallOf s r table f small skip top left out)
 
-pub residual-decode-header : (s : List ℕ) (r : Reader) (h : List ℤ) (segment : ℕ) (small skip : Bool) (top left : List ℕ) (out : List ℤ) → One (λ (x : Residual.ResidualCalled × ℕ). (x .0 ≡ Residual.residualByHeaderOf s r h segment small skip top left out) × (x .1 ≡ Residual.headerReads s r h segment small skip top left out))
-residual-decode-header s r h segment small skip top left out = counted (Residual.residualByHeaderOf s r h segment small skip top left out) (Residual.headerReads s r h segment small skip top left out)
+-- residual::decode
+pub residual-decode-reads : (s : List ℕ) (r : Reader) (table : List ℕ) (f : Factors) (small skip : Bool) (top left : List ℕ) (out : List ℤ) → One (λ o. o ≡ Residual.residualReads s r table f small skip top left out)
+residual-decode-reads s r table f small skip top left out = determined (Residual.residualReads s r table f small skip top left out)
+
+-- residual::decode_header
+pub residual-decode-header : (s : List ℕ) (r : Reader) (h : List ℤ) (segment : ℕ) (small skip : Bool) (top left : List ℕ) (out : List ℤ) → One (λ o. o ≡ Residual.residualByHeaderOf s r h segment small skip top left out)
+residual-decode-header s r h segment small skip top left out = determined (Residual.residualByHeaderOf s r h segment small skip top left out)
+
+-- residual::decode_header
+pub residual-decode-header-reads : (s : List ℕ) (r : Reader) (h : List ℤ) (segment : ℕ) (small skip : Bool) (top left : List ℕ) (out : List ℤ) → One (λ o. o ≡ Residual.residualByHeaderReads s r h segment small skip top left out)
+residual-decode-header-reads s r h segment small skip top left out = determined (Residual.residualByHeaderReads s r h segment small skip top left out)
 
 -- ---- planes
-pub planes-paint : (plane : List ℕ) (stride column row size : ℕ) (small : Bool) (mode : ℕ) (modes : List ℕ) (coefficients : List ℤ) → One (λ x. x ≡ paintOf plane stride column row size small mode modes coefficients)
+-- planes::paint
+pub planes-paint : (plane : List ℕ) (stride column row size : ℕ) (small : Bool) (mode : ℕ) (modes : List ℕ) (coefficients : List ℤ) → One (λ o. o ≡ paintOf plane stride column row size small mode modes coefficients)
 planes-paint plane stride column row size small mode modes coefficients = determined (paintOf plane stride column row size small mode modes coefficients)
 
 -- ---- tile
-pub tile-side-fine : (n : ℕ) → One (λ x. x ≡ sideOf n)
+-- tile::checks::side_fine
+pub tile-side-fine : (n : ℕ) → One (λ o. o ≡ sideOf n)
 tile-side-fine n = determined (sideOf n)
 
-pub tile-sides-fine : (w h : ℕ) → One (λ x. x ≡ sidesOf w h)
+-- tile::checks::sides_fine
+pub tile-sides-fine : (w h : ℕ) → One (λ o. o ≡ sidesOf w h)
 tile-sides-fine w h = determined (sidesOf w h)
 
-pub tile-count-fine : (count : ℕ) → One (λ x. x ≡ countOf count)
+-- tile::checks::count_fine
+pub tile-count-fine : (count : ℕ) → One (λ o. o ≡ countOf count)
 tile-count-fine count = determined (countOf count)
 
-pub tile-partitions-fine : (bytes : List ℕ) (t : Tile) → One (λ x. x ≡ partitionsOf bytes t)
-tile-partitions-fine bytes t = determined (partitionsOf bytes t)
+-- tile::checks::partitions_fine
+pub tile-partitions-fine : (bytes : List ℕ) (tile : Tile) → One (λ o. o ≡ partitionsOf bytes tile)
+tile-partitions-fine bytes tile = determined (partitionsOf bytes tile)
 
-pub tile-pick : (row count : ℕ) → One (λ x. x ≡ pickOf row count)
+-- tile::partitions::pick
+pub tile-pick : (row count : ℕ) → One (λ o. o ≡ pickOf row count)
 tile-pick row count = determined (pickOf row count)
 
-pub tile-part : (bytes : List ℕ) (s : Span) → One (λ x. x ≡ contentsOf bytes s)
-tile-part bytes s = determined (contentsOf bytes s)
+-- tile::partitions::part
+pub tile-part : (bytes : List ℕ) (span : Span) → One (λ o. o ≡ contentsOf bytes span)
+tile-part bytes span = determined (contentsOf bytes span)
 
-pub tile-token : (bytes : List ℕ) (t : Tile) (i : ℕ) → One (λ x. x ≡ tokenContents bytes t i)
-tile-token bytes t i = determined (tokenContents bytes t i)
+-- tile::partitions::token
+pub tile-token : (bytes : List ℕ) (tile : Tile) (i : ℕ) → One (λ o. o ≡ tokenContents bytes tile i)
+tile-token bytes tile i = determined (tokenContents bytes tile i)
 
-pub tile-openers : (bytes : List ℕ) (t : Tile) → One (λ x. x ≡ readersOf bytes t)
-tile-openers bytes t = determined (readersOf bytes t)
+-- tile::partitions::openers
+pub tile-openers : (bytes : List ℕ) (tile : Tile) → One (λ o. o ≡ readersOf bytes tile)
+tile-openers bytes tile = determined (readersOf bytes tile)
 
 -- ---- lent
-pub lent-fill : (mem : List ℕ) (value : ℕ) → One (λ x. x ≡ filled mem value)
+-- lent::memory::fill
+pub lent-fill : (mem : List ℕ) (value : ℕ) → One (λ o. o ≡ filled mem value)
 lent-fill mem value = determined (filled mem value)
 
-pub lent-blank : (m : Memory) → One (λ x. x ≡ blankOf m)
-lent-blank m = determined (blankOf m)
+-- lent::memory::blank
+pub lent-blank : (y u v columns modes strengths : List ℕ) → One (λ o. o ≡ blankOf (memoryOf y u v columns modes strengths))
+lent-blank y u v columns modes strengths = determined (blankOf (memoryOf y u v columns modes strengths))
 
-pub lent-luma-fine : (w h n : ℕ) → One (λ x. x ≡ lumaFine w h n)
+-- lent::sizes::luma_fine
+pub lent-luma-fine : (w h n : ℕ) → One (λ o. o ≡ lumaFine w h n)
 lent-luma-fine w h n = determined (lumaFine w h n)
 
-pub lent-chroma-fine : (w h n : ℕ) → One (λ x. x ≡ chromaFine w h n)
+-- lent::sizes::chroma_fine
+pub lent-chroma-fine : (w h n : ℕ) → One (λ o. o ≡ chromaFine w h n)
 lent-chroma-fine w h n = determined (chromaFine w h n)
 
-pub lent-columns-fine : (w h n : ℕ) → One (λ x. x ≡ columnsFine w h n)
+-- lent::sizes::columns_fine
+pub lent-columns-fine : (w h n : ℕ) → One (λ o. o ≡ columnsFine w h n)
 lent-columns-fine w h n = determined (columnsFine w h n)
 
-pub lent-modes-fine : (w h n : ℕ) → One (λ x. x ≡ modesFine w h n)
+-- lent::sizes::modes_fine
+pub lent-modes-fine : (w h n : ℕ) → One (λ o. o ≡ modesFine w h n)
 lent-modes-fine w h n = determined (modesFine w h n)
 
-pub lent-strengths-fine : (w h n : ℕ) → One (λ x. x ≡ strengthsFine w h n)
+-- lent::sizes::strengths_fine
+pub lent-strengths-fine : (w h n : ℕ) → One (λ o. o ≡ strengthsFine w h n)
 lent-strengths-fine w h n = determined (strengthsFine w h n)
 
-pub lent-sizes-fine : (w h : ℕ) (z : Sizes) → One (λ x. x ≡ sizesFine w h z)
+-- lent::sizes::sizes_fine
+pub lent-sizes-fine : (w h : ℕ) (z : Sizes) → One (λ o. o ≡ sizesFine w h z)
 lent-sizes-fine w h z = determined (sizesFine w h z)
 
-pub lent-write-column : (mem : List ℕ) (column : ℕ) (c : Context) → One (λ x. x ≡ columnWritten mem column c)
-lent-write-column mem column c = determined (columnWritten mem column c)
+-- lent::columns::write_column
+pub lent-write-column : (mem : List ℕ) (x : ℕ) (c : Context) → One (λ o. o ≡ columnWritten mem x c)
+lent-write-column mem x c = determined (columnWritten mem x c)
 
-pub lent-read-column : (mem : List ℕ) (column : ℕ) → One (λ x. x ≡ columnFound mem column)
-lent-read-column mem column = determined (columnFound mem column)
+-- lent::columns::read_column
+pub lent-read-column : (mem : List ℕ) (x : ℕ) → One (λ o. o ≡ columnFound mem x)
+lent-read-column mem x = determined (columnFound mem x)
 
-pub lent-write-mode-record : (mem : List ℕ) (i : ℕ) (kinds : Kinds) (modes : List ℕ) → One (λ x. x ≡ modeWritten mem i kinds modes)
+-- lent::macroblocks::write_mode_record
+pub lent-write-mode-record : (mem : List ℕ) (i : ℕ) (kinds : Kinds) (modes : List ℕ) → One (λ o. o ≡ modeWritten mem i kinds modes)
 lent-write-mode-record mem i kinds modes = determined (modeWritten mem i kinds modes)
 
-pub lent-read-mode-record : (mem : List ℕ) (i : ℕ) → One (λ x. x ≡ modeFound mem i)
+-- lent::macroblocks::read_mode_record
+pub lent-read-mode-record : (mem : List ℕ) (i : ℕ) → One (λ o. o ≡ modeFound mem i)
 lent-read-mode-record mem i = determined (modeFound mem i)
 
-pub lent-write-strength : (mem : List ℕ) (i : ℕ) (t : Strength) → One (λ x. x ≡ strengthWritten mem i t)
+-- lent::macroblocks::write_strength
+pub lent-write-strength : (mem : List ℕ) (i : ℕ) (t : Strength) → One (λ o. o ≡ strengthWritten mem i t)
 lent-write-strength mem i t = determined (strengthWritten mem i t)
 
-pub lent-read-strength : (mem : List ℕ) (i : ℕ) → One (λ x. x ≡ strengthFound mem i)
+-- lent::macroblocks::read_strength
+pub lent-read-strength : (mem : List ℕ) (i : ℕ) → One (λ o. o ≡ strengthFound mem i)
 lent-read-strength mem i = determined (strengthFound mem i)
 
 -- ---- macroblock
-pub macroblock-decode : (first tokens : List ℕ) (readers : Readers) (frame : Frame) (table : List ℕ) (around : Around) (place : Place) (p : Planes)
-    → One (λ (x : Macroblock.MacroblockCalled × Reads). (x .0 ≡ Macroblock.macroblockCallOf first tokens readers frame table around place p) × (x .1 ≡ decodeReads first tokens readers frame table around place p))
-macroblock-decode first tokens readers frame table around place p = counted (Macroblock.macroblockCallOf first tokens readers frame table around place p) (decodeReads first tokens readers frame table around place p)
+-- macroblock::whole::decode
+pub macroblock-decode : (first tokens : List ℕ) (readers : Readers) (frame : Frame) (table : List ℕ) (around : Around) (place : Place) (y u v : List ℕ)
+    → One (λ o. o ≡ Macroblock.macroblockCallOf first tokens readers frame table around place (planesOf y u v))
+macroblock-decode first tokens readers frame table around place y u v = determined (Macroblock.macroblockCallOf first tokens readers frame table around place (planesOf y u v))
+
+-- macroblock::whole::decode
+pub macroblock-decode-reads : (first tokens : List ℕ) (readers : Readers) (frame : Frame) (table : List ℕ) (around : Around) (place : Place) (y u v : List ℕ) → One (λ o. o ≡ decodeReads first tokens readers frame table around place (planesOf y u v))
+macroblock-decode-reads first tokens readers frame table around place y u v = determined (decodeReads first tokens readers frame table around place (planesOf y u v))
 
 -- ---- picture
-pub picture-number : (d : Decoded) → One (λ x. x ≡ numberOf d)
-picture-number d = determined (numberOf d)
+-- picture::rows::Decoded::number
+pub picture-number : (self : Decoded) → One (λ o. o ≡ numberOf self)
+picture-number self = determined (numberOf self)
 
-pub picture-finished : (d : Decoded) → One (λ x. x ≡ valuesOf d)
-picture-finished d = determined (valuesOf d)
+-- picture::rows::Decoded::finished
+pub picture-finished : (self : Decoded) → One (λ o. o ≡ valuesOf self)
+picture-finished self = determined (valuesOf self)
 
-pub picture-decode : (t : Call) (m : Memory) → One (λ (x : Ended × Reads). (x .0 ≡ pictureOf t m) × (x .1 ≡ costOf t m))
-picture-decode t m = counted (pictureOf t m) (costOf t m)
+-- picture::decode
+pub picture-decode : (bytes : List ℕ) (tile : Tile) (header : List ℤ) (y u v columns modes strengths : List ℕ)
+    → One (λ o. o ≡ pictureOf (callOf bytes tile header) (memoryOf y u v columns modes strengths))
+picture-decode bytes tile header y u v columns modes strengths = determined (pictureOf (callOf bytes tile header) (memoryOf y u v columns modes strengths))
+
+-- picture::decode
+pub picture-decode-reads : (bytes : List ℕ) (tile : Tile) (header : List ℤ) (y u v columns modes strengths : List ℕ) → One (λ o. o ≡ costOf (callOf bytes tile header) (memoryOf y u v columns modes strengths))
+picture-decode-reads bytes tile header y u v columns modes strengths = determined (costOf (callOf bytes tile header) (memoryOf y u v columns modes strengths))
 
 -- ---- deblock
-pub deblock-deblock : (d : Planes) (strengths : List ℕ) (w h : ℕ) (simple : Bool) → One (λ x. x ≡ deblockOf d strengths w h simple)
-deblock-deblock d strengths w h simple = determined (deblockOf d strengths w h simple)
+-- deblock::deblock
+pub deblock-deblock : (y u v strengths : List ℕ) (width height : ℕ) (simple : Bool) → One (λ o. o ≡ deblockOf (record { y = y; u = u; v = v }) strengths width height simple)
+deblock-deblock y u v strengths width height simple = determined (deblockOf (record { y = y; u = u; v = v }) strengths width height simple)
 
 -- ---- casefile
-pub casefile-run : (file : List ℕ) → One (λ x. x ≡ ranOf file)
+-- casefile::run::run
+pub casefile-run : (file : List ℕ) → One (λ o. o ≡ ranOf file)
 casefile-run file = determined (ranOf file)
 
 -- ---- frame
-pub frame-take : (bytes : List ℕ) → One (λ x. x ≡ takenOf bytes)
+-- frame::take::take
+pub frame-take : (bytes : List ℕ) → One (λ o. o ≡ takenOf bytes)
 frame-take bytes = determined (takenOf bytes)
 
-pub frame-take-into : (bytes : List ℕ) (header : List ℤ) → One (λ x. x ≡ intoOf bytes header)
+-- frame::into::take_into
+pub frame-take-into : (bytes : List ℕ) (header : List ℤ) → One (λ o. o ≡ intoOf bytes header)
 frame-take-into bytes header = determined (intoOf bytes header)
 
 -- ---- webp
-pub webp-find : (bytes : List ℕ) → One (λ x. x ≡ findOf bytes)
+-- webp::read::find
+pub webp-find : (bytes : List ℕ) → One (λ o. o ≡ findOf bytes)
 webp-find bytes = determined (findOf bytes)
 
-pub webp-wrap : (frame out : List ℕ) → One (λ x. x ≡ wrapOf frame out)
+-- webp::write::wrap
+pub webp-wrap : (frame out : List ℕ) → One (λ o. o ≡ wrapOf frame out)
 webp-wrap frame out = determined (wrapOf frame out)
 
 -- ---- hookbarley
-pub hookbarley-decode : (starts lengths : List ℕ) (c : Call) (m : Memory) → One (λ x. x ≡ calledOf starts lengths c m)
-hookbarley-decode starts lengths c m = determined (calledOf starts lengths c m)
+-- hookbarley::hookbarley_decode
+pub hookbarley-decode : (bytes : List ℕ) (start len : ℕ) (starts lengths : List ℕ) (at range shifts window count : ℕ) (header : List ℤ) (width height : ℕ)
+    (y u v columns modes strengths : List ℕ)
+    → One (λ o. o ≡ calledOf starts lengths
+    (callOf bytes (record {
+      first = record { start = start; len = len };
+      tokens = spansFrom starts lengths;
+      reader = record { at = at; range = range; shifts = shifts; window = window };
+      count = count;
+      width = width;
+      height = height;
+    }) header)
+    (memoryOf y u v columns modes strengths))
+hookbarley-decode bytes start len starts lengths at range shifts window count header width height y u v columns modes strengths = determined (calledOf _ _ _ _)
 
-pub hookbarley-deblock : (d : Planes) (strengths : List ℕ) (w h simple : ℕ) → One (λ x. x ≡ deblockCalledOf d strengths w h simple)
-hookbarley-deblock d strengths w h simple = determined (deblockCalledOf d strengths w h simple)
+-- hookbarley::deblocking::hookbarley_deblock
+pub hookbarley-deblock : (y u v strengths : List ℕ) (width height simple : ℕ) → One (λ o. o ≡ deblockCalledOf (planesOf y u v) strengths width height simple)
+hookbarley-deblock y u v strengths width height simple = determined (deblockCalledOf (planesOf y u v) strengths width height simple)
 
-pub hookbarley-filter : (samples : List ℕ) (simple edge limit inner threshold : ℕ) → One (λ x. x ≡ filteredOf samples simple edge limit inner threshold)
+-- hookbarley::hookbarley_filter
+pub hookbarley-filter : (samples : List ℕ) (simple edge limit inner threshold : ℕ) → One (λ o. o ≡ filteredOf samples simple edge limit inner threshold)
 hookbarley-filter samples simple edge limit inner threshold = determined (filteredOf samples simple edge limit inner threshold)
 
+-- hookbarley::explaining::hookbarley_explain
 pub hookbarley-explain : (samples : List ℕ) (simple edge limit inner threshold : ℕ) (after : List ℕ) (steps : List ℤ)
-    → One (λ x. x ≡ explainCalledOf samples simple edge limit inner threshold after steps)
+    → One (λ o. o ≡ explainCalledOf samples simple edge limit inner threshold after steps)
 hookbarley-explain samples simple edge limit inner threshold after steps =
     determined (explainCalledOf samples simple edge limit inner threshold after steps)
 
-pub hookbarley-frame : (bytes : List ℕ) (header : List ℤ) (tile : List ℕ) → One (λ x. x ≡ frameCalledOf bytes header tile)
+-- hookbarley::key_frame::hookbarley_frame
+pub hookbarley-frame : (bytes : List ℕ) (header : List ℤ) (tile : List ℕ) → One (λ o. o ≡ frameCalledOf bytes header tile)
 hookbarley-frame bytes header tile = determined (frameCalledOf bytes header tile)
 
-pub hookbarley-webp-find : (bytes : List ℕ) → One (λ x. x ≡ webpFoundOf bytes)
+-- hookbarley::webp_find::hookbarley_webp_find
+pub hookbarley-webp-find : (bytes : List ℕ) → One (λ o. o ≡ webpFoundOf bytes)
 hookbarley-webp-find bytes = determined (webpFoundOf bytes)
 
-pub hookbarley-webp-wrap : (frame out : List ℕ) → One (λ x. x ≡ webpWrappedOf frame out)
+-- hookbarley::webp_wrap::hookbarley_webp_wrap
+pub hookbarley-webp-wrap : (frame out : List ℕ) → One (λ o. o ≡ webpWrappedOf frame out)
 hookbarley-webp-wrap frame out = determined (webpWrappedOf frame out)

@@ -4,7 +4,7 @@ use Prim.Native.Nat.{ℕ}
 use mathlib.Core.Path.{_≡_, refl, sym}
 use mathlib.Core.Logic.{_⊎_, inl, inr}
 use mathlib.Core.List.{List}
-use Rattle.reader.specs.BooleanLaws.{Bytes}
+use Rattle.reader.specs.Boolean.{Bytes}
 use Rattle.lent.specs.Memory.{Memory, sizesOf}
 use Rattle.lent.specs.Sizes.{Sized}
 use Rattle.picture.specs.Checks.{Call, callOf}

@@ -20,3 +20,7 @@ pub mod Frame
 pub mod Webp
 pub mod Deblocked
 pub mod DeblockedLaws
+pub mod Numbers
+pub mod NumbersLaws
+pub mod Called
+pub mod CalledLaws

@@ -11,6 +11,7 @@ pub data Plane : Type 0 where
   blue : Plane
   red : Plane
 
+-- that plane of the lent memory
 abbrev pub planeOf : Plane → Memory → List ℕ
 planeOf luma m = m .y
 planeOf blue m = m .u
@@ -30,6 +31,7 @@ sampleOf wide a c r m = sampleAt (planeOf a m) (wide * planeSide a) c r
 abbrev pub modeByte : ℕ → Memory → ℕ
 modeByte i m = getD (m .modes) i 0
 
+-- byte i of the strength records
 abbrev pub strengthByte : ℕ → Memory → ℕ
 strengthByte i m = getD (m .strengths) i 0
 

@@ -1,14 +1,15 @@
 -- Demand 1, arguments: a bad one is refused by number and nothing lent changes; with good ones it does not matter what memory held.
-use Prim.Native.Nat.{ℕ, _≤_}
+use Prim.Native.Nat.{ℕ, zero, suc, _≤_}
 use mathlib.Core.Path.{_≡_, refl, sym, _∙_, ap}
 use native.Mathlib.Omega.{arith}
 use lib.ListN.{length, replicate}
 use Rattle.picture.specs.declared.rows.Decoded.the-variants as D
+use Rattle.lent.specs.declared.sizes.Sizes.{Sizes}
 use Rattle.lent.specs.Memory.{Memory, sizesOf, blankOf}
 use Rattle.tile.specs.Checks.{blocksOf}
 use Rattle.picture.specs.Checks.{Call, Bounded, Lengths, refusalOf}
 use Rattle.tile.specs.Checks.{Sides, Counted, Cut}
-use Rattle.picture.specs.ChecksLaws.{refusal-most, refusal-none, refused-side, refused-count, refused-entries, refused-lengths, refused-partitions, fine-lengths}
+use Rattle.picture.specs.ChecksLaws.{refusal-most, refusal-none, refused-side, refused-count, refused-entries, refused-lengths, refused-partitions, fine-side, fine-count, fine-entries, fine-lengths, fine-partitions}
 use Rattle.picture.specs.CallLaws.{picture-bad, picture-good}
 use Rattle.picture.specs.Picture.{Ended, picturedOf, startOf, begunOf, runOf, pictureOf, numberOf, valuesOf}
 
@@ -16,6 +17,7 @@ use Rattle.picture.specs.Picture.{Ended, picturedOf, startOf, begunOf, runOf, p
 abbrev pub Bad : Call → Memory → Type 0
 Bad t m = refusalOf t (sizesOf m) ≡ 0 → ⊥
 
+-- all five checks pass
 abbrev pub Fine : Call → Memory → Type 0
 Fine t m = refusalOf t (sizesOf m) ≡ 0
 
@@ -59,6 +61,52 @@ refused-changes-nothing t m b =
       four = λ e. refused-lengths t z (a ∙ e);
       five = λ e. refused-partitions t z (a ∙ e);
     }
+
+-- ---- the other way round: where a check fails and those before it pass, the call answers its number
+pub record Decided (t : Call) (m : Memory) : Type 0 where
+  pub one : (Sides (t .tile .width) (t .tile .height) → ⊥) → number t m ≡ 1
+  pub two : Sides (t .tile .width) (t .tile .height) → (Counted (t .tile .count) → ⊥) → number t m ≡ 2
+  pub three : Sides (t .tile .width) (t .tile .height) → Counted (t .tile .count) → (Bounded (t .header) → ⊥) → number t m ≡ 3
+  pub four : Sides (t .tile .width) (t .tile .height) → Counted (t .tile .count) → Bounded (t .header) → (Lengths t (sizesOf m) → ⊥) → number t m ≡ 4
+  pub five : Sides (t .tile .width) (t .tile .height) → Counted (t .tile .count) → Bounded (t .header) → Lengths t (sizesOf m) → (Cut (t .bytes) (t .tile) → ⊥) → number t m ≡ 5
+
+-- a number up to 5 is one of six
+by-six : {P : Type 0} (n : ℕ) → n ≤ 5 → (n ≡ 0 → P) → (n ≡ 1 → P) → (n ≡ 2 → P) → (n ≡ 3 → P) → (n ≡ 4 → P) → (n ≡ 5 → P) → P
+by-six zero h a b c d e f = a refl
+by-six (suc zero) h a b c d e f = b refl
+by-six (suc (suc zero)) h a b c d e f = c refl
+by-six (suc (suc (suc zero))) h a b c d e f = d refl
+by-six (suc (suc (suc (suc zero)))) h a b c d e f = e refl
+by-six (suc (suc (suc (suc (suc zero))))) h a b c d e f = f refl
+by-six (suc (suc (suc (suc (suc (suc n)))))) h a b c d e f = absurd (omega arith)
+
+-- THE PROMISE: the first check that fails decides the number
+pub first-check-decides : (t : Call) (m : Memory) → Decided t m
+first-check-decides t m = record {
+  one = λ n. by-six r most (λ e. absurd (n (fine-side t z e))) answered
+      (λ e. absurd (n (refused-count t z e .0))) (λ e. absurd (n (refused-entries t z e .0))) (λ e. absurd (n (refused-lengths t z e .0))) (λ e. absurd (n (refused-partitions t z e .0)));
+  two = λ a n. by-six r most (λ e. absurd (n (fine-count t z e))) (λ e. absurd (refused-side t z e a)) answered
+      (λ e. absurd (n (refused-entries t z e .1))) (λ e. absurd (n (refused-lengths t z e .1))) (λ e. absurd (n (refused-partitions t z e .1)));
+  three = λ a b n. by-six r most (λ e. absurd (n (fine-entries t z e))) (λ e. absurd (refused-side t z e a)) (λ e. absurd (refused-count t z e .1 b)) answered
+      (λ e. absurd (n (refused-lengths t z e .2))) (λ e. absurd (n (refused-partitions t z e .2)));
+  four = λ a b c n. by-six r most (λ e. absurd (n (fine-lengths t z e))) (λ e. absurd (refused-side t z e a)) (λ e. absurd (refused-count t z e .1 b)) (λ e. absurd (refused-entries t z e .2 c)) answered
+      (λ e. absurd (n (refused-partitions t z e .3)));
+  five = λ a b c d n. by-six r most (λ e. absurd (n (fine-partitions t z e))) (λ e. absurd (refused-side t z e a)) (λ e. absurd (refused-count t z e .1 b)) (λ e. absurd (refused-entries t z e .2 c))
+      (λ e. absurd (refused-lengths t z e .3 d)) answered;
+}
+  where
+    z : Sizes
+    z = sizesOf m
+
+    r : ℕ
+    r = refusalOf t z
+
+    most : r ≤ 5
+    most = refusal-most t z
+
+    -- the call answers the number of the check
+    answered : {n : ℕ} → r ≡ suc n → number t m ≡ suc n
+    answered e = sym (ap (λ (o : Ended). numberOf (o .answer)) (picture-bad t m refl (λ g. omega arith))) ∙ e
 
 -- and good arguments are not refused
 pub good-arguments : (t : Call) (m : Memory) → Sides (t .tile .width) (t .tile .height) → Counted (t .tile .count) → Bounded (t .header) → Lengths t (sizesOf m) → Cut (t .bytes) (t .tile) → Fine t m

@@ -1,42 +1,71 @@
--- The promises are not empty: two tiles, of one macroblock in each of two rows, that differ in every byte of token partition 1 and in
--- nothing else, with memories that held other things. They meet every hypothesis of demand 3, so their first rows come out the same.
+-- The promises are not empty: two tiles, of one macroblock in each of two rows, that differ in the first byte of token partition 1 and in
+-- nothing else, with memories that held other things. They meet every hypothesis of demand 3, so their first rows come out the same; both
+-- are finished; and the row below differs. What they come out as is computed.
 use Prim.Native.Nat.{ℕ, zero, suc, _+_, _-_, _<_}
 use mathlib.Core.Path.{_≡_, refl, sym, _∙_, ap}
 use mathlib.Core.List.{List, [], _∷_, _++_}
 use mathlib.Core.Logic.{⊎-elim}
 use native.Mathlib.Omega.{arith}
 use lib.IntN.{ℤ, pos}
-use lib.ListN.{length, getD, replicate, length-replicate, length-append, List·getD-append, List·getD-eq-default, getD-replicate}
+use lib.ListN.{length, getD, replicate, length-replicate, length-append, List·getD-append}
 use lib.Seq.{getD-append-add}
 use Rattle.numbers.specs.Tests.{lt-or}
 use Rattle.numbers.specs.Parts.{of-le}
-use Rattle.numbers.specs.Lists.{getD-constant}
-use Rattle.reader.specs.Boolean.{firstReader}
-use Rattle.reader.specs.BooleanLaws.{Bytes}
+use Rattle.numbers.specs.Lists.{getD-constant, build}
+use Rattle.reader.specs.Boolean.{Bytes, firstReader, symbolOf, splitOf, grow, decidedOf}
 use Rattle.lent.specs.Memory.{Memory, memoryOf, sizesOf}
 use Rattle.tile.specs.declared.Span.{Span}
-use Rattle.tile.specs.Partitions.{spanAt}
+use Rattle.tile.specs.Partitions.{spanAt, contentsOf, pickOf, readerOf, readersOf}
 use Rattle.tile.specs.PartitionsLaws.{part-length}
 use Rattle.tile.specs.Checks.{Sides, Counted, Inside, Cut}
 use Rattle.picture.specs.Checks.{Call, callOf, Bounded, Lengths}
-use Rattle.promises.specs.Refusals.{Fine, good-arguments}
+use Rattle.numbers.specs.Clamp.{upTo, clampZ}
+use Rattle.numbers.specs.Runs.{placed, copied}
+use Rattle.numbers.specs.Wrap.{wrapZ}
+use Rattle.header.specs.Frame.{announcedOf, frameOf}
+use Rattle.header.specs.Own.{segmentedOf}
+use Rattle.header.specs.Levels.{deltaOf, levelOf}
+use Rattle.header.specs.Quantizers.{factorsOf, dcSteps, acSteps}
+use Rattle.reader.specs.Reading.{run}
+use Rattle.reader.specs.Extra.{extraFrom}
+use Rattle.reader.specs.Trees.{walk, step}
+use Rattle.reader.specs.Token.{elevenAt}
+use Rattle.modes.specs.Table.{probabilities, rfcTable}
+use Rattle.modes.specs.Modes.{modesOf, prefix, segment, skip, modeAbove, modeLeft, smallFrom, smallModes}
+use Rattle.coefficients.specs.Block.{categories, bases, magnitude, signedValue, bands, zigzag, probabilityPlace, quantizerAt, contextAfter, blockFrom, headerTable}
+use Rattle.residual.specs.Residual.{coordinates, kindOf, spread, second, sixteenAt, advance, blocksFrom, residualOf}
+use Rattle.lent.specs.Records.{recordAt, recordSet}
+use Rattle.macroblock.specs.Macroblock.{endOf, stepOf}
+use Rattle.picture.specs.Picture.{besideOf, stepAt, runOf, picturedOf, begunOf, numberOf, valuesOf, Ended, pictureOf}
+use Rattle.planes.specs.Paint.{nearOf, fourAbove, fourLeft, firstPlaces, edgeOf, aboveRight, blockAboveRight, aroundOf, rowsPainted, blockCoefficients, blockResidual, summedOf, blockPainted, blocksPainted, smallAt, predictionRule, squarePainted}
+use Rattle.planes.specs.Predict.{dcBlock, sumOfFirst}
+use Rattle.transform.specs.Transform.{gridOf, transposeOf, scaledOf, passOf, rowsOf, verticalPass, horizontalPass, resultsOf, samplesOf}
+use Rattle.promises.specs.Refusals.{Fine, good-arguments, number, fine-is}
 use Rattle.promises.specs.Isolation.{SameTokens, Alike, Isolated}
 use Rattle.promises.specs.IsolationLaws.{isolated}
+use Rattle.promises.specs.Places.{sampleOf, luma}
 
--- the first partition, then token partition 0, of 32 bytes each; then token partition 1: zeros, or 255
+-- the first partition, then token partition 0, of 32 bytes each, all zeros
 abbrev pub shared : List ℕ
 shared = replicate 64 0
 
+-- then token partition 1: x, and zeros
+abbrev pub tokensOf : ℕ → List ℕ
+tokensOf x = x ∷ replicate 31 0
+
+-- the bytes of a tile
 abbrev pub witnessBytes : ℕ → List ℕ
-witnessBytes x = shared ++ replicate 32 x
+witnessBytes x = shared ++ tokensOf x
 
 -- a header of zeros
 abbrev pub header : List ℤ
 header = replicate 1096 (pos 0)
 
+-- where the two token partitions lie
 abbrev pub spans : List Span
 spans = record { start = 32; len = 32 } ∷ record { start = 64; len = 32 } ∷ []
 
+-- THE TILE: 16 by 32 samples, two token partitions, the first partition opened afresh
 abbrev pub witnessTile : ℕ → Call
 witnessTile x = callOf (witnessBytes x)
     (record { first = record { start = 0; len = 32 }; tokens = spans; reader = firstReader (replicate 32 0); count = 2; width = 16; height = 32 })
@@ -48,22 +77,20 @@ heldOf x = memoryOf (replicate 512 x) (replicate 128 x) (replicate 128 x) (repli
 
 -- what all of them share
 front : (x i : ℕ) → i < 64 → getD (witnessBytes x) i 0 ≡ 0
-front x i h = List·getD-append shared (replicate 32 x) 0 i (rw (length-replicate {A = ℕ} 64 0) h) ∙ getD-constant 64 i 0
+front x i h = List·getD-append shared (tokensOf x) 0 i (rw (length-replicate {A = ℕ} 64 0) h) ∙ getD-constant 64 i 0
 
 long : (x : ℕ) → length (witnessBytes x) ≡ 96
-long x = length-append shared (replicate 32 x) ∙ ap (λ (n : ℕ). n + length (replicate 32 x)) (length-replicate {A = ℕ} 64 0) ∙ ap (λ (n : ℕ). 64 + n) (length-replicate {A = ℕ} 32 x)
+long x = length-append shared (tokensOf x) ∙ ap (λ (n : ℕ). n + length (tokensOf x)) (length-replicate {A = ℕ} 64 0) ∙ ap (λ (n : ℕ). 64 + suc n) (length-replicate {A = ℕ} 31 0)
 
 bytes-fine : (x : ℕ) → x < 256 → Bytes (witnessBytes x)
 bytes-fine x h i = ⊎-elim
     (λ l. rw (front x i l) (omega arith))
-    (λ l. let e : i ≡ length shared + (i - 64) = omega (arith, length-replicate {A = ℕ} 64 0) in rw (e, getD-append-add shared (replicate 32 x) (i - 64) 0) (later (i - 64)))
+    (λ l. let e : i ≡ length shared + (i - 64) = omega (arith, length-replicate {A = ℕ} 64 0) in rw (e, getD-append-add shared (tokensOf x) (i - 64) 0) (later (i - 64)))
     (lt-or i 64)
   where
-    later : (j : ℕ) → getD (replicate 32 x) j 0 < 256
-    later j = ⊎-elim
-        (λ l. rw (getD-replicate 32 j x 0 l) h)
-        (λ l. rw (List·getD-eq-default (replicate 32 x) 0 {n = j} (rw (length-replicate {A = ℕ} 32 x) l)) (omega arith))
-        (lt-or j 32)
+    later : (j : ℕ) → getD (tokensOf x) j 0 < 256
+    later zero = h
+    later (suc j) = rw (getD-constant {A = ℕ} 31 j 0) (omega arith)
 
 bounded : Bounded header
 bounded = record { at = λ i. rw (getD-constant 1096 i (pos 0)) (record { low = of-le (omega arith); high = of-le (omega arith) }) }
@@ -130,6 +157,42 @@ two-tiles x y = record {
     tokens (suc zero) h n = absurd (n refl)
     tokens (suc (suc q)) h n = absurd (omega arith)
 
--- THE PROMISE at work: partition 1 all zeros in the one and all 255 in the other, memory that held 7 and memory that held 9
-pub first-row : Isolated 1 (witnessTile 0) (witnessTile 255) (heldOf 7) (heldOf 9)
-first-row = isolated 1 (witnessTile 0) (witnessTile 255) (heldOf 7) (heldOf 9) (two-tiles 0 255) (fine 0 7) (fine 255 9) (bytes-fine 0 (omega arith)) (bytes-fine 255 (omega arith))
+-- THE PROMISE at work: the byte 0 in the one and 128 in the other, memory that held 7 and memory that held 9
+pub first-row : Isolated 1 (witnessTile 0) (witnessTile 128) (heldOf 7) (heldOf 9)
+first-row = isolated 1 (witnessTile 0) (witnessTile 128) (heldOf 7) (heldOf 9) (two-tiles 0 128) (fine 0 7) (fine 128 9) (bytes-fine 0 (omega arith)) (bytes-fine 128 (omega arith))
+
+-- ---- what they come out as
+-- the macroblocks of a tile, from blank memory
+abbrev pub outcome : (x y : ℕ) → Ended
+outcome x y = runOf 2 (picturedOf (witnessTile x)) 0 (begunOf (witnessTile x) (heldOf y))
+
+picture-is : (x y : ℕ) → pictureOf (witnessTile x) (heldOf y) ≡ outcome x y
+picture-is x y = fine-is (witnessTile x) (heldOf y) (fine x y)
+
+-- the answers, and the first luma sample of row 1
+computed : (numberOf (outcome 0 7 .answer) ≡ 0) × (valuesOf (outcome 0 7 .answer) ≡ 2) × (sampleOf 1 luma 0 16 (outcome 0 7 .mem) ≡ 129)
+    × (numberOf (outcome 128 9 .answer) ≡ 0) × (valuesOf (outcome 128 9 .answer) ≡ 2) × (sampleOf 1 luma 0 16 (outcome 128 9 .mem) ≡ 188)
+unfolding build upTo clampZ placed copied wrapZ announcedOf frameOf segmentedOf deltaOf levelOf factorsOf dcSteps acSteps symbolOf splitOf grow decidedOf run extraFrom walk step elevenAt probabilities rfcTable modesOf prefix segment skip modeAbove modeLeft smallFrom smallModes categories bases magnitude signedValue bands zigzag probabilityPlace quantizerAt contextAfter blockFrom headerTable coordinates kindOf spread second sixteenAt advance blocksFrom residualOf recordAt recordSet endOf stepOf contentsOf spanAt pickOf readerOf readersOf besideOf stepAt runOf nearOf fourAbove fourLeft firstPlaces edgeOf aboveRight blockAboveRight aroundOf rowsPainted blockCoefficients blockResidual summedOf blockPainted blocksPainted smallAt predictionRule squarePainted dcBlock sumOfFirst gridOf transposeOf scaledOf passOf rowsOf verticalPass horizontalPass resultsOf samplesOf
+computed = (refl, refl, refl, refl, refl, refl)
+
+-- both tiles are finished: two macroblocks each, number 0
+pub record Whole : Type 0 where
+  pub first : (number (witnessTile 0) (heldOf 7) ≡ 0) × (valuesOf (pictureOf (witnessTile 0) (heldOf 7) .answer) ≡ 2)
+  pub second : (number (witnessTile 128) (heldOf 9) ≡ 0) × (valuesOf (pictureOf (witnessTile 128) (heldOf 9) .answer) ≡ 2)
+
+pub both-whole : Whole
+both-whole = record {
+  first = (ap (λ (E : Ended). numberOf (E .answer)) (picture-is 0 7) ∙ computed .0, ap (λ (E : Ended). valuesOf (E .answer)) (picture-is 0 7) ∙ computed .1);
+  second = (ap (λ (E : Ended). numberOf (E .answer)) (picture-is 128 9) ∙ computed .3, ap (λ (E : Ended). valuesOf (E .answer)) (picture-is 128 9) ∙ computed .4);
+}
+
+-- and row 1 differs: what stands in token partition 1 is seen there
+pub record RowDiffers : Type 0 where
+  pub first : sampleOf 1 luma 0 16 (pictureOf (witnessTile 0) (heldOf 7) .mem) ≡ 129
+  pub second : sampleOf 1 luma 0 16 (pictureOf (witnessTile 128) (heldOf 9) .mem) ≡ 188
+
+pub row-differs : RowDiffers
+row-differs = record {
+  first = ap (λ (E : Ended). sampleOf 1 luma 0 16 (E .mem)) (picture-is 0 7) ∙ computed .2;
+  second = ap (λ (E : Ended). sampleOf 1 luma 0 16 (E .mem)) (picture-is 128 9) ∙ computed .5;
+}

@@ -17,14 +17,17 @@ pub record Row : Type 0 where
   pub gives : List ℤ
   pub must : List ℤ
 
+-- what is computed, row by row
 abbrev given : List Row → List (List ℤ)
 given [] = []
 given (r ∷ rs) = r .gives ∷ given rs
 
+-- what it must be, row by row
 abbrev wanted : List Row → List (List ℤ)
 wanted [] = []
 wanted (r ∷ rs) = r .must ∷ wanted rs
 
+-- samples as numbers with a sign
 abbrev signed : List ℕ → List ℤ
 signed [] = []
 signed (x ∷ xs) = pos x ∷ signed xs
@@ -33,6 +36,7 @@ signed (x ∷ xs) = pos x ∷ signed xs
 abbrev dc : ℤ → List ℤ
 dc d = d ∷ replicate 15 (pos 0)
 
+-- sixteen results that are all one value
 abbrev all : ℤ → List ℤ
 all z = replicate 16 z
 
@@ -40,12 +44,15 @@ all z = replicate 16 z
 abbrev product : Bool → ℕ → List ℤ
 product negative x = wrapZ (signOf negative x) ∷ []
 
+-- the eight samples of the kernel's rows
 abbrev flat : List ℕ
 flat = 100 ∷ 100 ∷ 100 ∷ 100 ∷ 110 ∷ 110 ∷ 110 ∷ 110 ∷ []
 
+-- what the kernel makes of them, inner number and threshold 0
 abbrev edge : Bool → Bool → ℕ → List ℤ
 edge simple macroblock limit = signed (filterOf flat simple macroblock limit 0 0)
 
+-- THE TABLE
 abbrev pub table : List Row
 table =
     -- the inverse DCT of a DC alone

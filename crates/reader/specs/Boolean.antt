@@ -88,11 +88,13 @@ symbolAnswer s r prob = elim (validOf s r) [ true ↦ toSymbol (symbolOf s r pro
 abbrev pub noReader : Reader
 noReader = record { at = 0; range = 0; shifts = 0; window = 0 }
 
+-- the answer's number
 abbrev pub symbolNumberOf : ℕ → Symbol → ℕ
 symbolNumberOf short (S.Got b r) = 0
 symbolNumberOf short S.Missing = short
 symbolNumberOf short S.Refused = 9
 
+-- the bit, and the reader after it
 abbrev pub symbolValuesOf : Symbol → Bool × Reader
 symbolValuesOf (S.Got b r) = (b, r)
 symbolValuesOf S.Missing = (false, noReader)

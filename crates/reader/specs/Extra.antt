@@ -18,6 +18,7 @@ extraFrom v (p ∷ ps) = do
   b ← symbol p
   extraFrom (v + v + bitOf b) ps
 
+-- from no bits yet
 abbrev pub extra : List ℕ → Reading ℕ
 extra = extraFrom 0
 
@@ -26,6 +27,7 @@ abbrev pub toNumber : Given ℕ → Number
 toNumber (given v r) = N.Value v r
 toNumber missing = N.Missing
 
+-- the number, read from a partition
 unfoldable pub extraOf : List ℕ → List ℕ → Reader → Number
 extraOf s ps r = toNumber (run (extra ps) s r)
 
@@ -33,11 +35,13 @@ extraOf s ps r = toNumber (run (extra ps) s r)
 unfoldable pub extraAnswer : List ℕ → List ℕ → Reader → Number
 extraAnswer s ps r = elim (validOf s r && leb (length ps) 16) [ true ↦ extraOf s ps r | false ↦ N.Refused ]
 
+-- the answer's number; `short` is the number that the layer above gives a missing byte
 abbrev pub numberNumberOf : ℕ → Number → ℕ
 numberNumberOf short (N.Value v r) = 0
 numberNumberOf short N.Missing = short
 numberNumberOf short N.Refused = 9
 
+-- the number, and the reader after it
 abbrev pub numberValuesOf : Number → ℕ × Reader
 numberValuesOf (N.Value v r) = (v, r)
 numberValuesOf N.Missing = (0, noReader)

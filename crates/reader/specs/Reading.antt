@@ -6,6 +6,7 @@ use mathlib.Core.List.{List}
 use Rattle.reader.specs.declared.boolean.Reader.{Reader}
 use Rattle.reader.specs.Boolean.{Given, given, missing, symbolOf}
 
+-- a value is given at once, or a symbol with a probability is asked and what follows depends on it
 pub data Reading (A : Type 0) : Type 0 where
   done : A → Reading A
   ask : ℕ → (Bool → Reading A) → Reading A

@@ -34,6 +34,7 @@ abbrev pub tokenStart : Bool → ℕ
 tokenStart true = 1
 tokenStart false = 0
 
+-- the walk with its eleven probabilities, after a zero or not
 abbrev pub token : List ℕ → Bool → Reading ℕ
 token ps z = walk 32 ps tokenTree (tokenStart z)
 
@@ -41,10 +42,12 @@ token ps z = walk 32 ps tokenTree (tokenStart z)
 unfoldable pub elevenAt : List ℕ → ℕ → List ℕ
 elevenAt table at = take 11 (drop at table)
 
+-- the token that a run gives
 abbrev pub toToken : Given ℕ → Token
 toToken (given t r) = T.Read t r
 toToken missing = T.Missing
 
+-- one token, read from a partition
 unfoldable pub tokenOf : List ℕ → List ℕ → Bool → Reader → Token
 tokenOf s ps z r = toToken (run (token ps z) s r)
 
@@ -58,6 +61,7 @@ tokenNumberOf short (T.Read t r) = 0
 tokenNumberOf short T.Missing = short
 tokenNumberOf short T.Refused = 9
 
+-- the token, and the reader after it
 abbrev pub tokenValuesOf : Token → ℕ × Reader
 tokenValuesOf (T.Read t r) = (t, r)
 tokenValuesOf T.Missing = (0, noReader)

@@ -20,6 +20,7 @@ use Rattle.reader.specs.Reading.{Reading, done, ask, _>>=_, symbol, run}
 abbrev pub node : ℕ → ℤ
 node n = pos n
 
+-- a leaf's value as an entry
 abbrev pub leaf : ℕ → ℤ
 leaf zero = pos 0
 leaf (suc n) = negsuc n
@@ -35,6 +36,7 @@ abbrev pub atOf : ℕ → Bool → ℕ
 atOf i true = i + i + 1
 atOf i false = i + i
 
+-- where the bit b leads from node i
 abbrev pub branchAt : List ℤ → ℕ → Bool → Branch
 branchAt t i b = branchOf (getD t (atOf i b) (pos 0))
 
@@ -48,6 +50,7 @@ step ps t i = do
   b ← symbol (getD ps i 0)
   done (branchAt t i b)
 
+-- a leaf ends the walk; from a node it goes on
 abbrev pub follow : (ℕ → Reading ℕ) → Branch → Reading ℕ
 follow on (B.Leaf v) = done v
 follow on (B.Node j) = on j
@@ -83,6 +86,7 @@ toStep (given (B.Leaf v) r) = S.Leaf v r
 toStep (given (B.Node j) r) = S.Node j r
 toStep missing = S.Missing
 
+-- the leaf that a run gives
 abbrev pub toWalked : Given ℕ → Walked
 toWalked (given v r) = W.Leaf v r
 toWalked missing = W.Missing
@@ -90,6 +94,7 @@ toWalked missing = W.Missing
 unfoldable pub treeStepOf : List ℕ → List ℕ → List ℤ → ℕ → Reader → Step
 treeStepOf s ps t i r = toStep (run (step ps t i) s r)
 
+-- a walk from node i, read from a partition
 unfoldable pub walkOf : ℕ → List ℕ → List ℕ → List ℤ → ℕ → Reader → Walked
 walkOf n s ps t i r = toWalked (run (walk n ps t i) s r)
 
@@ -98,11 +103,13 @@ unfoldable pub walkAnswer : List ℕ → List ℕ → List ℤ → ℕ → Reade
 walkAnswer s ps t start r =
     elim (validOf s r && treeOf ps t start) [ true ↦ walkOf 32 s ps t start r | false ↦ W.Refused ]
 
+-- the answer's number; `short` is the number that the layer above gives a missing byte
 abbrev pub walkedNumberOf : ℕ → Walked → ℕ
 walkedNumberOf short (W.Leaf v r) = 0
 walkedNumberOf short W.Missing = short
 walkedNumberOf short W.Refused = 9
 
+-- the leaf, and the reader after it
 abbrev pub walkedValuesOf : Walked → ℕ × Reader
 walkedValuesOf (W.Leaf v r) = (v, r)
 walkedValuesOf W.Missing = (0, noReader)

@@ -32,15 +32,15 @@ placeAt zero = secondPlace
 placeAt (suc i) = coordinates i
 
 module _ (table : List ℕ) (f : Factors) (small : Bool) where
-  unfoldable pub partOf : (j : ℕ) → Model → Reading Model
-  partOf zero m = second table f m
-  partOf (suc i) m = advance table f small i m
+  unfoldable pub quickPart : (j : ℕ) → Model → Reading Model
+  quickPart zero m = second table f m
+  quickPart (suc i) m = advance table f small i m
 
   -- n more parts, from part j on
   unfoldable pub partsFrom : (n j : ℕ) → Model → Reading Model
   partsFrom zero j m = done m
   partsFrom (suc n) j m = do
-    next ← partOf j m
+    next ← quickPart j m
     partsFrom n (suc j) next
 
 -- ---- what a part that was read leaves

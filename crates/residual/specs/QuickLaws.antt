@@ -33,10 +33,10 @@ use Rattle.wide.specs.Padded.{runPadded}
 use Rattle.wide.specs.PaddedLaws.{padded-within}
 use Rattle.wide.specs.Wide.{widenOf, insideOf, narrowOf}
 use Rattle.wide.specs.WideLaws.{Sim}
-use Rattle.wide.specs.WideRuns.{Reads, Gave, Going, going-start, going-as, going-weaken, going-counted, going-next, going-told, wide-counted}
+use Rattle.wide.specs.WideRuns.{WideReads, Gave, Going, going-start, going-as, going-weaken, going-counted, going-next, going-told, wide-counted}
 use Rattle.wide.specs.declared.wide.Wide.{Wide}
 use Rattle.reader.specs.Trace.{count}
-use Rattle.residual.specs.Quick.{modelAt, kindAt, placeAt, partOf, partsFrom, settledOf, emptyAfter, QuickWhere}
+use Rattle.residual.specs.Quick.{modelAt, kindAt, placeAt, quickPart, partsFrom, settledOf, emptyAfter, QuickWhere}
 use Rattle.residual.specs.Residual.{Model, Flags, initial, secondKind, kindOf, coordinates, coded, flagged, spread, secondPlace, second, sixteenAt, stored, emptyOf, zeroOf, advance, blocksFrom, residualOf, residualAnswer}
 use Rattle.residual.specs.ResidualLaws.{kind-in, flags-flagged, length-spread, zeros-sixteen, sixteen-fit}
 use Rattle.residual.specs.ResidualSteps.{call-handed}
@@ -48,12 +48,12 @@ use Rattle.residual.specs.declared.quick.Wider.{Wider}
 
 -- ---- the parts are the macroblock
 parts-blocks : (table : List ℕ) (f : Factors) (small : Bool) (n i : ℕ) (m : Model) → blocksFrom table f small n i m ≡ partsFrom table f small n (suc i) m
-unfolding blocksFrom partsFrom partOf
+unfolding blocksFrom partsFrom quickPart
 parts-blocks table f small zero i m = refl
 parts-blocks table f small (suc n) i m = λ p. advance table f small i m >>= (λ x. (ap (λ (k : ℕ). blocksFrom table f small n k x) (add-one i) ∙ parts-blocks table f small n (suc i) x) p)
 
 residual-parts : (table : List ℕ) (f : Factors) (small : Bool) (top left : List ℕ) → residualOf table f small false top left ≡ partsFrom table f small (25 - bitOf small) (bitOf small) (initial top left)
-unfolding residualOf partsFrom partOf
+unfolding residualOf partsFrom quickPart
 residual-parts table f true top left = parts-blocks table f true 24 0 (initial top left)
 residual-parts table f false top left = λ p. second table f (initial top left) >>= (λ x. parts-blocks table f false 24 0 x p)
 
@@ -67,8 +67,8 @@ module _ (table : List ℕ) (f : Factors) (small : Bool) where
   afterAt zero m c = flagged (secondKind f) secondPlace (c .end) (spread (m .coefficients) (samplesOf true (c .values)) 16) (m .empty) m
   afterAt (suc i) m c = flagged (kindOf f small i) (coordinates i) (c .end) (stored (m .coefficients) (16 * i) (c .values)) (m .empty && emptyOf c) m
 
-  part-coded : (j : ℕ) (m : Model) → partOf table f small j m ≡ (coded table (kindAt f small j) (placeAt j) (m .top) (m .left) (oldAt j m) >>= (λ c. done (afterAt j m c)))
-  unfolding partOf second advance
+  part-coded : (j : ℕ) (m : Model) → quickPart table f small j m ≡ (coded table (kindAt f small j) (placeAt j) (m .top) (m .left) (oldAt j m) >>= (λ c. done (afterAt j m c)))
+  unfolding quickPart second advance
   part-coded zero m = refl
   part-coded (suc i) m = refl
 
@@ -164,7 +164,7 @@ pub record Ready (table : List ℕ) (m : Wider) (j : ℕ) (flat : List ℤ) : Ty
   pub zeros : j ≡ 0 → flat ≡ replicate 400 (pos 0)
 
 pub record Parted (s table : List ℕ) (f : Factors) (small : Bool) (m : Wider) (j : ℕ) (flat : List ℤ) (q : Wider) (new : List ℤ) : Type 0 where
-  pub read : Reads s 0 1216 (counted (m .reads) (partOf table f small j (modelAt m flat))) (m .next) (modelAt q new, q .reads) (q .next)
+  pub read : WideReads s 0 1216 (counted (m .reads) (quickPart table f small j (modelAt m flat))) (m .next) (modelAt q new, q .reads) (q .next)
   pub ready : Ready table q (j + 1) new
 
 length-settled : (j : ℕ) (l : List ℤ) → length l ≡ 400 → length (settledOf j l) ≡ 400
@@ -216,7 +216,7 @@ module _ (s table : List ℕ) (f : Factors) (small : Bool) (m : Wider) (j : ℕ)
         read = λ r v l n.
             let x = d .read r v l n in
             let fine : j ≡ 0 → transformOf (sixteenAt one (16 * j)) true .samples ≡ samplesOf true (sixteenAt one (16 * j)) = samples-at table f small y s r j (modelAt m flat) (rw (sym (old-at table f small j m flat (h .zeros))) at (x .value)) in
-            let a = going-as (ap (counted (m .reads)) (part-coded table f small j (modelAt m flat))) (going-start (counted (m .reads) (partOf table f small j (modelAt m flat))) r v l n) in
+            let a = going-as (ap (counted (m .reads)) (part-coded table f small j (modelAt m flat))) (going-start (counted (m .reads) (quickPart table f small j (modelAt m flat))) r v l n) in
             going-told (going-counted 0 1216 (m .reads) (coded table (kindAt f small j) (placeAt j) (m .top) (m .left) (oldAt table f small j (modelAt m flat))) (λ c. done (afterAt table f small j (modelAt m flat) c)) a (rw (sym (old-at table f small j m flat (h .zeros))) at (d .read)) (omega arith) (omega arith)) (model fine) refl;
         ready = record {
           size = h .size;
@@ -265,10 +265,10 @@ module _ (s table : List ℕ) (f : Factors) (small : Bool) (g : Reading Model) (
               going =
                   λ r v b.
                   going-as (ap (λ (k : ℕ). counted (q .reads) (partsFrom table f small n k (modelAt q new))) (sym (add-one j)))
-                  (going-next (1216 * n) 1216 (m .reads) (partOf table f small j (modelAt m flat)) (partsFrom table f small n (suc j)) (h r v b) (p .read) (omega arith) (omega arith));
+                  (going-next (1216 * n) 1216 (m .reads) (quickPart table f small j (modelAt m flat)) (partsFrom table f small n (suc j)) (h r v b) (p .read) (omega arith) (omega arith));
             }
 
-    pub parting-end : 25 ≤ j → Reads s 0 30400 (counted 0 g) start (modelAt m flat, m .reads) (m .next)
+    pub parting-end : 25 ≤ j → WideReads s 0 30400 (counted 0 g) start (modelAt m flat, m .reads) (m .next)
     unfolding partsFrom
     parting-end l r v k b = go (c .more) (c .sum) (c .going r v b)
       where
@@ -299,7 +299,7 @@ parting-start s table f small m {flat} {j} e n z t l k i =
 
 -- ---- THE LAW of the macroblock: where its end was not passed
 pub quick-fine : (s : List ℕ) (r : Reader) (table : List ℕ) (f : Factors) (small : Bool) (top left : List ℕ) (old : List ℤ) (m : Wider) (flat : List ℤ) {start : Wide} → Bytes s → Valid s r → length s < 2 ^ 63 → start ≡ widenOf r
-    → Reads s 0 30400 (counted 0 (residualOf table f small false top left)) start (modelAt m flat, m .reads) (m .next) → insideOf s (m .next) ≡ true → {x : Reader} → x ≡ narrowOf s (m .next)
+    → WideReads s 0 30400 (counted 0 (residualOf table f small false top left)) start (modelAt m flat, m .reads) (m .next) → insideOf s (m .next) ≡ true → {x : Reader} → x ≡ narrowOf s (m .next)
     → length flat ≡ 400 → {new : List ℤ} → new ≡ take 384 (drop 16 flat)
     → QuickWhere true s r table f small top left old new (record { fine = true; read = record { residual = record { answer = E.Done x (m .empty); top = m .top; left = m .left }; reads = m .reads } })
 quick-fine s r table f small top left old m flat y v n w h i {x} e l {new} k =

@@ -69,6 +69,7 @@ abbrev pub lumaKind : Factors → (small : Bool) → Kind
 lumaKind f false = record { kind = 0; first = 1; q0 = f .ydc; q1 = f .yac }
 lumaKind f true = record { kind = 3; first = 0; q0 = f .ydc; q1 = f .yac }
 
+-- of block i: luma, then chroma, U and V alike
 unfoldable pub kindOf : Factors → (small : Bool) → (i : ℕ) → Kind
 kindOf f small i =
     elim (ltb i 16) [
@@ -93,15 +94,18 @@ unfoldable pub spread : (l dc : List ℤ) → (n : ℕ) → List ℤ
 spread l dc zero = l
 spread l dc (suc k) = set (spread l dc k) (16 * k) (getD dc k (pos 0))
 
+-- flag 8 on either side
 abbrev pub secondPlace : FlagsAt
 secondPlace = record { x = 8; y = 8 }
 
+-- its tokens, its transform spread over the luma blocks, its flag
 unfoldable pub second : (table : List ℕ) → Factors → Model → Reading Model
 second table f m = do
   c ← coded table (secondKind f) secondPlace (m .top) (m .left) (replicate 16 (pos 0))
   done (flagged (secondKind f) secondPlace (c .end) (spread (m .coefficients) (samplesOf true (c .values)) 16) (m .empty) m)
 
 -- ---- block i of the 24
+-- whether a number is 0
 abbrev pub zeroOf : ℤ → Bool
 zeroOf (pos zero) = true
 zeroOf (pos (suc n)) = false
@@ -112,6 +116,7 @@ abbrev pub emptyOf : Coefficients → Bool
 emptyOf c = leb (c .end) 1 && zeroOf (getD (c .values) 0 (pos 0))
 
 module _ (table : List ℕ) (f : Factors) (small : Bool) where
+  -- block i's tokens, its numbers stored, its flag, whether all is still empty
   unfoldable pub advance : (i : ℕ) → Model → Reading Model
   advance i m = do
     c ← coded table (kindOf f small i) (coordinates i) (m .top) (m .left) (sixteenAt (m .coefficients) (16 * i))
@@ -135,6 +140,7 @@ abbrev pub cleared : (small : Bool) → (flags : List ℕ) → List ℕ
 cleared true flags = set (replicate 9 0) 8 (getD flags 8 0)
 cleared false flags = replicate 9 0
 
+-- nothing is read of a macroblock that is skipped; else Y2 where it has one, then 24 blocks
 unfoldable pub residualOf : (table : List ℕ) → Factors → (small skip : Bool) → (top left : List ℕ) → Reading Model
 residualOf table f small true top left = done (initial (cleared small top) (cleared small left))
 residualOf table f small false top left = do
@@ -146,13 +152,16 @@ pub record ResidualCalled : Type 0 where
   pub answer : Residual
   pub out : List ℤ
 
+-- the answer where it has not ended: zeros
 abbrev pub noResidual : Ended → Residual
 noResidual a = record { answer = a; top = replicate 9 0; left = replicate 9 0 }
 
+-- a run as an answer, and the lent numbers after it
 abbrev pub toResidualCalled : (old : List ℤ) → Given Model → ResidualCalled
 toResidualCalled old (given m r) = record { answer = record { answer = E.Done r (m .empty); top = m .top; left = m .left }; out = m .coefficients }
 toResidualCalled old missing = record { answer = noResidual E.Missing; out = old }
 
+-- a refusal: the lent numbers are as they were
 abbrev pub refusedResidual : (old : List ℤ) → ResidualCalled
 refusedResidual old = record { answer = noResidual E.Refused; out = old }
 
@@ -160,10 +169,12 @@ refusedResidual old = record { answer = noResidual E.Refused; out = old }
 abbrev pub flagsOf : List ℕ → Bool
 flagsOf l = allBelow 9 (λ i. leb (getD l i 0) 1)
 
+-- 1056 probabilities, flags of 0 and 1, room for 384 numbers
 abbrev pub residualArguments : (table : List ℕ) → (top left : List ℕ) → (size : ℕ) → Bool
 residualArguments table top left size = eqb (length table) probabilityCount && (flagsOf top && (flagsOf left && eqb size 384))
 
 module _ (s : List ℕ) (r : Reader) where
+  -- with the arguments in range
   unfoldable pub residualAnswer : (table : List ℕ) → Factors → (small skip : Bool) → (top left : List ℕ) → (old : List ℤ) → ResidualCalled
   residualAnswer table f small skip top left old = toResidualCalled old (run (residualOf table f small skip top left) s r)
 
@@ -192,8 +203,9 @@ module _ (s : List ℕ) (r : Reader) where
         | false ↦ 0
       ]
 
-  unfoldable pub headerReads : (h : List ℤ) → (segment : ℕ) → (small skip : Bool) → (top left : List ℕ) → (old : List ℤ) → ℕ
-  headerReads h segment small skip top left old =
+  -- `decode_header`: none too where the header is not fine or there is no such segment
+  unfoldable pub residualByHeaderReads : (h : List ℤ) → (segment : ℕ) → (small skip : Bool) → (top left : List ℕ) → (old : List ℤ) → ℕ
+  residualByHeaderReads h segment small skip top left old =
       elim (headerOf h && ltb segment 4) [
         | true ↦ residualReads (headerTable h) (factorsOf h segment) small skip top left old
         | false ↦ 0
@@ -205,19 +217,23 @@ endedNumberOf (E.Done r empty) = 0
 endedNumberOf E.Missing = 7
 endedNumberOf E.Refused = 9
 
+-- the answer's number
 abbrev pub residualNumberOf : Residual → ℕ
 residualNumberOf a = endedNumberOf (a .answer)
 
+-- the answer's values
 pub record Values : Type 0 where
   pub reader : Reader
   pub empty : Bool
   pub top : List ℕ
   pub left : List ℕ
 
+-- the same of how it ended, with the flags that it leaves
 abbrev endedValuesOf : (top left : List ℕ) → Ended → Values
 endedValuesOf top left (E.Done r empty) = record { reader = r; empty = empty; top = top; left = left }
 endedValuesOf top left E.Missing = record { reader = noReader; empty = false; top = top; left = left }
 endedValuesOf top left E.Refused = record { reader = noReader; empty = false; top = top; left = left }
 
+-- the reader after it, whether it is empty, and the flags that it leaves
 abbrev pub residualValuesOf : Residual → Values
 residualValuesOf a = endedValuesOf (a .top) (a .left) (a .answer)

@@ -35,7 +35,7 @@ use Rattle.coefficients.specs.Block as tokens
 use Rattle.coefficients.specs.declared.block.BlockRead.{BlockRead}
 use Rattle.coefficients.specs.declared.block.Table.{Table}
 use Rattle.transform.specs.Transform.{samplesOf}
-use Rattle.residual.specs.Residual.{Model, Flags, ModelInRange, initial, coordinates, secondKind, kindOf, coded, flagged, spread, secondPlace, second, sixteenAt, stored, emptyOf, advance, blocksFrom, dcStage, cleared, residualOf, noResidual, toResidualCalled, flagsOf, residualArguments, residualAnswer, residualCallOf, residualByHeaderOf, residualReads, headerReads}
+use Rattle.residual.specs.Residual.{Model, Flags, ModelInRange, initial, coordinates, secondKind, kindOf, coded, flagged, spread, secondPlace, second, sixteenAt, stored, emptyOf, advance, blocksFrom, dcStage, cleared, residualOf, noResidual, toResidualCalled, flagsOf, residualArguments, residualAnswer, residualCallOf, residualByHeaderOf, residualReads, residualByHeaderReads}
 use Rattle.residual.specs.declared.Ended.the-variants as E
 use Rattle.residual.specs.declared.Residual.{Residual}
 use Rattle.residual.specs.declared.ResidualRead.{ResidualRead}
@@ -256,19 +256,19 @@ module _ (s : List ℕ) (r : Reader) (table : List ℕ) (f : Factors) (small ski
 -- ---- with a header
 module _ (s : List ℕ) (r : Reader) (h : List ℤ) (segment : ℕ) (small skip : Bool) (top left : List ℕ) (old : List ℤ) where
   abbrev pub HeaderDecoded : ResidualRead → List ℤ → Type 0
-  HeaderDecoded a out = (record { answer = a .residual; out = out } ≡ residualByHeaderOf s r h segment small skip top left old) × (a .reads ≡ headerReads s r h segment small skip top left old)
+  HeaderDecoded a out = (record { answer = a .residual; out = out } ≡ residualByHeaderOf s r h segment small skip top left old) × (a .reads ≡ residualByHeaderReads s r h segment small skip top left old)
 
   header-refused : headerOf h && ltb segment 4 ≡ false → {a : ResidualRead} → a ≡ record { residual = noResidual E.Refused; reads = 0 } → HeaderDecoded a old
-  unfolding residualByHeaderOf headerReads
-  header-refused e k = (rw k (rw (e, residualByHeaderOf)), rw k (rw (e, headerReads)))
+  unfolding residualByHeaderOf residualByHeaderReads
+  header-refused e k = (rw k (rw (e, residualByHeaderOf)), rw k (rw (e, residualByHeaderReads)))
 
   pub header-passed : headerOf h && ltb segment 4 ≡ true → residualCallOf s r (headerTable h) (factorsOf h segment) small skip top left old ≡ residualByHeaderOf s r h segment small skip top left old
   unfolding residualByHeaderOf
   header-passed e = rw (e, residualByHeaderOf)
 
-  header-reads : headerOf h && ltb segment 4 ≡ true → residualReads s r (headerTable h) (factorsOf h segment) small skip top left old ≡ headerReads s r h segment small skip top left old
-  unfolding headerReads
-  header-reads e = rw (e, headerReads)
+  header-reads : headerOf h && ltb segment 4 ≡ true → residualReads s r (headerTable h) (factorsOf h segment) small skip top left old ≡ residualByHeaderReads s r h segment small skip top left old
+  unfolding residualByHeaderReads
+  header-reads e = rw (e, residualByHeaderReads)
 
   -- what the answer of the quantizers says
   module _ {x : Quantizers} (e : x ≡ quantizersOf h segment) where

@@ -16,7 +16,7 @@ ghost use Rattle.header.specs.Entries.{probabilityCount};
 ghost use Rattle.reader.specs.BooleanLaws.{Valid};
 ghost use Rattle.reader.specs.Trace.{count};
 ghost use Rattle.residual.specs.Residual.{Flags, noResidual, residualArguments, residualOf, residualAnswer, residualCallOf, residualByHeaderOf};
-ghost use Rattle.residual.specs.Residual.{residualReads, headerReads};
+ghost use Rattle.residual.specs.Residual.{residualReads, residualByHeaderReads};
 
 mod blocks;
 mod contexts;
@@ -170,7 +170,7 @@ pub fn decode_header(
 ) -> ResidualRead
     ensures { λ q. ⌜ (record { answer = q .residual; out = now (out .exit) }
         ≡ residualByHeaderOf (now (s .entry)) r (now (h .entry)) segment small skip top left (now (out .entry)))
-        × (q .reads ≡ headerReads (now (s .entry)) r (now (h .entry)) segment small skip top left (now (out .entry))) ⌝ }
+        × (q .reads ≡ residualByHeaderReads (now (s .entry)) r (now (h .entry)) segment small skip top left (now (out .entry))) ⌝ }
 {
     let Quantizers::Ready(f) = for_segment(h, segment) else {
         return no_residual(Ended::Refused, 0);

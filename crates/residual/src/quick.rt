@@ -32,9 +32,9 @@ ghost use Rattle.header.specs.Entries.{probabilityCount};
 ghost use Rattle.reader.specs.BooleanLaws.{Valid};
 ghost use Rattle.transform.specs.Transform.{transformOf};
 ghost use Rattle.wide.specs.Counted.{counted};
-ghost use Rattle.wide.specs.WideRuns.{Reads};
+ghost use Rattle.wide.specs.WideRuns.{WideReads};
 ghost use Rattle.residual.specs.Residual.{Flags, sixteenAt, residualOf};
-ghost use Rattle.residual.specs.Quick.{modelAt, kindAt, placeAt, partOf, settledOf, emptyAfter, QuickWhere};
+ghost use Rattle.residual.specs.Quick.{modelAt, kindAt, placeAt, quickPart, settledOf, emptyAfter, QuickWhere};
 ghost use Rattle.residual.specs.QuickLaws.{Ready, Parted};
 
 // What goes from block to block. The numbers stand beside it: sixteen of the second-order block, then the 384 of the macroblock.
@@ -143,7 +143,7 @@ fn part(
 fn parts(s: &[u8], table: &[u8], f: Factors, small: bool, start: Wider, flat: &mut [i32]) -> Wider
     requires { ⌜ (length (now table) ≡ probabilityCount) × (now flat ≡ replicate 400 (pos 0)) ⌝ }
     requires { ⌜ (Flags (start .top) × Flags (start .left)) × ((start .reads ≡ 0) × (start .empty ≡ true)) ⌝ }
-    ensures { λ q. ⌜ Reads (now (s .entry)) 0 30400 (counted 0 (residualOf (now (table .entry)) f small false (start .top) (start .left)))
+    ensures { λ q. ⌜ WideReads (now (s .entry)) 0 30400 (counted 0 (residualOf (now (table .entry)) f small false (start .top) (start .left)))
         (start .next) (modelAt q (now (flat .exit)), q .reads) (q .next) × (length (now (flat .exit)) ≡ 400) ⌝ }
 {
     let mut m = start;

@@ -19,9 +19,11 @@ contentsOf bytes s = take (s .len) (drop (s .start) bytes)
 abbrev pub noSpan : Span
 noSpan = record { start = 0; len = 0 }
 
+-- the span of token partition i, the empty one past the eight
 unfoldable pub spanAt : Tile → ℕ → Span
 spanAt t i = elim (ltb i 8) [ true ↦ getD (t .tokens) i noSpan | false ↦ noSpan ]
 
+-- its contents
 abbrev pub tokenContents : List ℕ → Tile → ℕ → List ℕ
 tokenContents bytes t i = contentsOf bytes (spanAt t i)
 

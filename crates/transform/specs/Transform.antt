@@ -23,6 +23,7 @@ at r k = getD r k (pos 0)
 abbrev pub cell : Grid → (y x : ℕ) → ℤ
 cell g y x = at (getD g y []) x
 
+-- four of something, by their numbers
 abbrev pub four {ℓ} : {A : Type ℓ} → (ℕ → A) → List A
 four f = f 0 ∷ f 1 ∷ f 2 ∷ f 3 ∷ []
 
@@ -34,6 +35,7 @@ gridRow c from = four (λ x. at c (from + x))
 unfoldable pub gridOf : List ℤ → Grid
 gridOf c = four (λ y. gridRow c (4 * y))
 
+-- column x, from the top
 abbrev pub gridColumn : Grid → (x : ℕ) → List ℤ
 gridColumn g x = four (λ y. cell g y x)
 
@@ -62,6 +64,7 @@ passOf false bias a b c d =
     let d1 = scaledOf (pos 20091) b +ℤ b +ℤ scaledOf (pos 35468) d in
     (a1 +ℤ d1) ∷ (b1 +ℤ c1) ∷ (b1 -ℤ c1) ∷ (a1 -ℤ d1) ∷ []
 
+-- a line of four through a transform
 abbrev pub lineOf : (walsh : Bool) (bias : ℤ) → List ℤ → List ℤ
 lineOf walsh bias r = passOf walsh bias (at r 0) (at r 1) (at r 2) (at r 3)
 
@@ -79,6 +82,7 @@ abbrev pub biasOf : (walsh : Bool) → ℤ
 biasOf true = pos 3
 biasOf false = pos 4
 
+-- each row
 unfoldable pub horizontalPass : (walsh : Bool) → Grid → Grid
 horizontalPass walsh g = rowsOf walsh (biasOf walsh) g
 
@@ -87,6 +91,7 @@ abbrev pub resultOf : (walsh : Bool) → ℤ → ℤ
 resultOf true v = wrapZ (shrZ v 8)
 resultOf false v = shrZ v 8
 
+-- of all sixteen
 unfoldable pub resultsOf : (walsh : Bool) → Grid → List ℤ
 resultsOf walsh g = build 16 (λ k. resultOf walsh (cell g (k / 4) (k % 4)))
 
@@ -98,9 +103,11 @@ samplesOf walsh c = resultsOf walsh (horizontalPass walsh (verticalPass walsh (g
 abbrev pub fits16 : ℤ → Bool
 fits16 z = leZ (negsuc 32767) z && leZ z (pos 32767)
 
+-- every coefficient fits
 unfoldable pub blockFits : List ℤ → Bool
 blockFits c = allBelow 16 (λ k. fits16 (at c k))
 
+-- `transform`
 unfoldable pub transformOf : (c : List ℤ) (walsh : Bool) → Transformed
 transformOf c walsh =
     cond (blockFits c) (record { number = 0; samples = samplesOf walsh c }) (record { number = 8; samples = replicate 16 (pos 0) })

@@ -10,7 +10,7 @@ use lent::columns::read_column;
 use macroblock::arguments::Around;
 use macroblock::arguments::Place;
 use macroblock::arguments::Readers;
-use macroblock::arguments::Reads;
+use macroblock::arguments::SymbolCounts;
 use macroblock::whole::Finish;
 use macroblock::whole::Outcome;
 use macroblock::whole::decode;
@@ -136,7 +136,7 @@ fn show_places(f: Finish) {
     show(readers.token.at as u64);
 }
 
-fn show_reads(r: Reads) {
+fn show_reads(r: SymbolCounts) {
     show(r.first);
     show(r.tokens);
     io::write_all(1, b"\n");

@@ -110,7 +110,8 @@ fn decoded(width: usize, height: usize, count: usize) {
         &mut m,
         &mut s,
     );
-    answer(d.answer);
+    let end = d.answer;
+    answer(end);
 }
 
 fn row(width: usize, height: usize, count: usize) {

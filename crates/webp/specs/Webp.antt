@@ -15,9 +15,11 @@ use Rattle.webp.specs.declared.write.Wrapped.the-variants as W
 abbrev pub byteAt : List ℕ → ℕ → ℕ
 byteAt s i = getD s i 0
 
+-- four bytes, the lowest first
 unfoldable pub uint32At : List ℕ → ℕ → ℕ
 uint32At s i = byteAt s i + 256 * byteAt s (i + 1) + 65536 * byteAt s (i + 2) + 16777216 * byteAt s (i + 3)
 
+-- the four bytes of a number
 abbrev pub uint32Of : ℕ → List ℕ
 uint32Of n = n % 256 ∷ n / 256 % 256 ∷ n / 65536 % 256 ∷ n / 16777216 % 256 ∷ []
 
@@ -25,12 +27,15 @@ uint32Of n = n % 256 ∷ n / 256 % 256 ∷ n / 65536 % 256 ∷ n / 16777216 % 25
 abbrev pub riff : List ℕ
 riff = 82 ∷ 73 ∷ 70 ∷ 70 ∷ []
 
+-- 'WEBP'
 abbrev pub webp : List ℕ
 webp = 87 ∷ 69 ∷ 66 ∷ 80 ∷ []
 
+-- 'VP8 '
 abbrev pub vp8 : List ℕ
 vp8 = 86 ∷ 80 ∷ 56 ∷ 32 ∷ []
 
+-- whether these four stand at place i
 unfoldable pub fourCCAt : List ℕ → ℕ → List ℕ → Bool
 fourCCAt s i c =
     leb (i + 4) (length s)
@@ -40,6 +45,7 @@ fourCCAt s i c =
 abbrev pub padOf : ℕ → List ℕ
 padOf size = replicate (size % 2) 0
 
+-- a chunk's bytes
 abbrev pub chunkOf : List ℕ → List ℕ → List ℕ
 chunkOf kind payload = kind ++ uint32Of (length payload) ++ payload ++ padOf (length payload)
 
@@ -73,6 +79,7 @@ lossyOf s = fourCCAt s 12 vp8
 abbrev pub chunkSize : List ℕ → ℕ
 chunkSize s = uint32At s 16
 
+-- the test
 unfoldable pub filledOf : List ℕ → Bool
 filledOf s =
     leb 20 (length s)
@@ -86,6 +93,7 @@ findRefusal true true false filled = 19
 findRefusal true true true false = 18
 findRefusal true true true true = 0
 
+-- the reader's number, 0 where no test fails
 abbrev pub foundRefusal : List ℕ → ℕ
 foundRefusal s = findRefusal (markedOf s) (sizedOf s) (lossyOf s) (filledOf s)
 
@@ -119,18 +127,22 @@ abbrev pub foundNumberOf : Found → ℕ
 foundNumberOf (F.At start len) = 0
 foundNumberOf (F.Refused n) = n
 
+-- where the frame starts; 0 after a refusal
 abbrev pub foundStartOf : Found → ℕ
 foundStartOf (F.At start len) = start
 foundStartOf (F.Refused n) = 0
 
+-- how long it is; 0 after a refusal
 abbrev pub foundLengthOf : Found → ℕ
 foundLengthOf (F.At start len) = len
 foundLengthOf (F.Refused n) = 0
 
+-- the writer's number
 abbrev pub wrappedNumberOf : Wrapped → ℕ
 wrappedNumberOf (W.Written n) = 0
 wrappedNumberOf (W.Refused n) = n
 
+-- the bytes written; 0 after a refusal
 abbrev pub wrappedLengthOf : Wrapped → ℕ
 wrappedLengthOf (W.Written n) = n
 wrappedLengthOf (W.Refused n) = 0

@@ -13,6 +13,7 @@ use Rattle.wide.specs.declared.wide.Bit.{Bit}
 abbrev pub less32 : ℕ → ℕ → ℕ
 less32 a b = (a + (2 ^ 32 - b)) % 2 ^ 32
 
+-- the same in 64 bits
 abbrev pub less64 : ℕ → ℕ → ℕ
 less64 a b = (a + (2 ^ 64 - b)) % 2 ^ 64
 
@@ -20,9 +21,11 @@ less64 a b = (a + (2 ^ 64 - b)) % 2 ^ 64
 abbrev pub fourOf : List ℕ → ℕ → ℕ
 fourOf s at = getD s at 0 * 16777216 + getD s (at + 1) 0 * 65536 + getD s (at + 2) 0 * 256 + getD s (at + 3) 0
 
+-- with them
 abbrev pub moreOf : List ℕ → Wide → Wide
 moreOf s w = record { at = (w .at + 4) % 2 ^ 64; value = (w .value + fourOf s (w .at) * 2 ^ (32 - w .count)) % 2 ^ 64; top = w .top; count = w .count + 32 }
 
+-- where fewer than 32 are loaded
 unfoldable pub fillOf : List ℕ → Wide → Wide
 fillOf s w = elim (leb 32 (w .count)) [ true ↦ w | false ↦ moreOf s w ]
 
@@ -30,6 +33,7 @@ fillOf s w = elim (leb 32 (w .count)) [ true ↦ w | false ↦ moreOf s w ]
 abbrev pub lowOf : Wide → ℕ → ℕ
 lowOf w prob = w .top % 256 * prob / 256
 
+-- the bit
 abbrev pub onOf : Wide → ℕ → Bool
 onOf w prob = ltb (lowOf w prob) (w .value / 2 ^ 56)
 
@@ -38,9 +42,10 @@ abbrev pub rangeOf : ℕ → ℕ → Bool → ℕ
 rangeOf top x true = top - x
 rangeOf top x false = x + 1
 
-abbrev pub takenOf : ℕ → Bool → ℕ
-takenOf x true = (x + 1) * 2 ^ 56
-takenOf x false = 0
+-- the part of the value below the split, for a one
+abbrev pub takenOff : ℕ → Bool → ℕ
+takenOff x true = (x + 1) * 2 ^ 56
+takenOff x false = 0
 
 -- the doublings at once: as many as the range has leading zeros of eight bits
 abbrev pub liftedOf : Wide → ℕ → ℕ → Wide
@@ -52,11 +57,12 @@ liftedOf w value range =
       count = less32 (w .count) (leadingZeros 8 range);
     }
 
-unfoldable pub bitOf : Wide → ℕ → Bit
-bitOf w prob =
+-- the symbol and the reader after it
+unfoldable pub wideBitOf : Wide → ℕ → Bit
+wideBitOf w prob =
     record {
       on = onOf w prob;
-      next = liftedOf w (w .value - takenOf (lowOf w prob) (onOf w prob)) (rangeOf (w .top % 256) (lowOf w prob) (onOf w prob));
+      next = liftedOf w (w .value - takenOff (lowOf w prob) (onOf w prob)) (rangeOf (w .top % 256) (lowOf w prob) (onOf w prob));
     }
 
 -- ---- from a reader of sixteen bits and back
@@ -67,12 +73,15 @@ widenOf r = record { at = r .at; value = r .window * 2 ^ 48 % 2 ^ 64; top = less
 unfoldable pub insideOf : List ℕ → Wide → Bool
 insideOf s w = ltb (w .at) (length s + w .count / 8)
 
+-- how many bytes the reader of sixteen bits is behind: those loaded, a begun one counted whole
 abbrev pub backOf : ℕ → ℕ
 backOf count = count / 8 + (count % 8 + 7) / 8
 
+-- how many bits of its last byte are used up
 abbrev pub shiftsOf : ℕ → ℕ
 shiftsOf count = (8 - count % 8) % 8
 
+-- the reader that a wide one stands for
 unfoldable pub narrowOf : List ℕ → Wide → Reader
 narrowOf s w =
     record {

@@ -19,7 +19,7 @@ use Rattle.wide.specs.declared.wide.Bit.{Bit}
 use Rattle.reader.specs.Boolean.{splitOf, chosenOf, shifted, loaded, grow, decidedOf}
 use Rattle.reader.specs.BooleanLaws.{Bytes, Valid, grow-stop, grow-shift, grow-load, split-is}
 use Rattle.wide.specs.Padded.{paddedBit, paddedNext}
-use Rattle.wide.specs.Wide.{fourOf, moreOf, fillOf, lowOf, onOf, rangeOf, takenOf, liftedOf, bitOf, widenOf, insideOf, backOf, shiftsOf, narrowOf, less32, less64}
+use Rattle.wide.specs.Wide.{fourOf, moreOf, fillOf, lowOf, onOf, rangeOf, takenOff, liftedOf, wideBitOf, widenOf, insideOf, backOf, shiftsOf, narrowOf, less32, less64}
 
 -- ---- a number and the n bytes from `at` on behind it
 unfoldable pub ahead : List ℕ → ℕ → ℕ → ℕ → ℕ
@@ -321,8 +321,8 @@ module _ (s : List ℕ) (w : Wide) (r : Reader) (p : ℕ) (b : Bytes s) (h : p <
   unfolding splitOf
   low-is = rw top-is (omega arith)
 
-  at-bit : (c : Bool) → c ≡ onOf w p → c ≡ paddedBit r p → Read s w r p (bitOf w p)
-  unfolding bitOf paddedNext paddedBit
+  at-bit : (c : Bool) → c ≡ onOf w p → c ≡ paddedBit r p → Read s w r p (wideBitOf w p)
+  unfolding wideBitOf paddedNext paddedBit
   at-bit true e f =
       let i = split-is (r .range) p (omega (arith, m .least)) h in
       let d : ℕ = splitOf (r .range) p in
@@ -341,7 +341,7 @@ module _ (s : List ℕ) (w : Wide) (r : Reader) (p : ℕ) (b : Bytes s) (h : p <
         next = rw (sym e, sym f) (lift-sim s w (w .value - 0) (lowOf w p + 1) (chosenOf r d false) b (m .placed) l (m .room) (sym low-is) (omega (arith, low-is, i .1)) (omega (arith, low-is, i .2, m .most)) (half-none s w r d m));
       }
 
-  pub sim-bit : Read s w r p (bitOf w p)
+  pub sim-bit : Read s w r p (wideBitOf w p)
   unfolding paddedBit
   sim-bit =
       let d : ℕ = splitOf (r .range) p in
@@ -431,11 +431,11 @@ lifted-none w v range l h f g =
     rw (sym k) (λ i. record { at = w .at; value = ev i; top = et i; count = ec i })
 
 -- one symbol, from its parts
-pub bit-is : (w : Wide) (p : ℕ) (b : Bool) {x h v g : ℕ} {q : Wide} → x ≡ lowOf w p → h ≡ w .value / 2 ^ 56 → b ≡ ltb x h → v ≡ w .value - takenOf x b → g ≡ rangeOf (w .top % 256) x b → q ≡ liftedOf w v g → record { on = b; next = q } ≡ bitOf w p
-unfolding bitOf
+pub bit-is : (w : Wide) (p : ℕ) (b : Bool) {x h v g : ℕ} {q : Wide} → x ≡ lowOf w p → h ≡ w .value / 2 ^ 56 → b ≡ ltb x h → v ≡ w .value - takenOff x b → g ≡ rangeOf (w .top % 256) x b → q ≡ liftedOf w v g → record { on = b; next = q } ≡ wideBitOf w p
+unfolding wideBitOf
 bit-is w p b ex eh eb ev eg eq = rw (eq, ev, eg, eb, ex, eh)
 
-pub taken-fits : (x v : ℕ) (b : Bool) → b ≡ ltb x (v / 2 ^ 56) → takenOf x b ≤ v
+pub taken-fits : (x v : ℕ) (b : Bool) → b ≡ ltb x (v / 2 ^ 56) → takenOff x b ≤ v
 taken-fits x v true e = let l : x < v / 2 ^ 56 = ltb-true _ _ (sym e) in omega arith
 taken-fits x v false e = omega arith
 

@@ -23,7 +23,7 @@ use Rattle.wide.specs.Counted.{counted, Costs}
 use Rattle.wide.specs.CountedLaws.{Ran, counted-run, counted-then, counted-next, counted-costs}
 use Rattle.wide.specs.Padded.{paddedBit, paddedNext, runPadded}
 use Rattle.wide.specs.PaddedLaws.{padded-then, padded-inside}
-use Rattle.wide.specs.Wide.{fillOf, bitOf, widenOf, insideOf, narrowOf}
+use Rattle.wide.specs.Wide.{fillOf, wideBitOf, widenOf, insideOf, narrowOf}
 use Rattle.wide.specs.WideLaws.{Sim, sim-widen, sim-fill, sim-bit, sim-inside, sim-narrow}
 
 -- what a reader that w stands for ends with: the grammar's value, and q stands for the reader after it, at most at `lim`
@@ -33,8 +33,8 @@ pub record Gave {A : Type 0} (s : List ℕ) (E : A × Reader) (lim : ℕ) (a : A
   pub near : q .at ≤ lim
 
 -- a contract: with k bits loaded, and n bytes' way before places wrap, the code gives what the grammar gives over padded bytes
-abbrev pub Reads : {A : Type 0} → List ℕ → ℕ → ℕ → Reading A → Wide → A → Wide → Type 0
-Reads s k n g w a q = (r : Reader) → Sim s w r → k ≤ w .count → w .at + n < 2 ^ 64 → Gave s (runPadded g s r) (w .at + n) a q
+abbrev pub WideReads : {A : Type 0} → List ℕ → ℕ → ℕ → Reading A → Wide → A → Wide → Type 0
+WideReads s k n g w a q = (r : Reader) → Sim s w r → k ≤ w .count → w .at + n < 2 ^ 64 → Gave s (runPadded g s r) (w .at + n) a q
 
 -- ---- a way through the code, towards E: w stands for a reader from which g gives E, k bits are loaded, and n bytes' way is left
 pub record Going {A : Type 0} (s : List ℕ) (E : A × Reader) (lim k n : ℕ) (g : Reading A) (w : Wide) : Type 0 where
@@ -54,7 +54,7 @@ module _ {A : Type 0} {s : List ℕ} {E : A × Reader} {lim : ℕ} where
       let f = sim-fill s w (c .r) (omega (arith, c .near, c .fits)) (c .sim) in
       rw e (record { r = c .r; sim = f .sim; same = c .same; loaded = f .enough; near = omega (arith, f .near, c .near); fits = c .fits })
 
-  pub going-bit : (k : ℕ) {n p : ℕ} {f : Bool → Reading A} {w : Wide} {q : Bit} {b : Bool} → Bytes s → p < 256 → Going s E lim (suc k + 7) n (ask p f) w → q ≡ bitOf w p → q .on ≡ b → Going s E lim (suc k) n (f b) (q .next)
+  pub going-bit : (k : ℕ) {n p : ℕ} {f : Bool → Reading A} {w : Wide} {q : Bit} {b : Bool} → Bytes s → p < 256 → Going s E lim (suc k + 7) n (ask p f) w → q ≡ wideBitOf w p → q .on ≡ b → Going s E lim (suc k) n (f b) (q .next)
   unfolding runPadded
   going-bit k {n} {p} {f} {w} {q} {b} y h c e i =
       let m = sim-bit s w (c .r) p y h (omega (arith, c .loaded)) (c .sim) in
@@ -75,13 +75,13 @@ module _ {A : Type 0} {s : List ℕ} {E : A × Reader} {lim : ℕ} where
       record { value = e ∙ ap (λ (z : A × Reader). z .0) (c .same); sim = rw (ap (λ (z : A × Reader). z .1) (c .same)) at (c .sim); near = omega (arith, c .near) }
 
   -- a call that ends the way
-  pub going-last : {k n i j : ℕ} {a : A} {g : Reading A} {w q : Wide} → Going s E lim k n g w → Reads s j i g w a q → j ≤ k → i ≤ n → Gave s E lim a q
+  pub going-last : {k n i j : ℕ} {a : A} {g : Reading A} {w q : Wide} → Going s E lim k n g w → WideReads s j i g w a q → j ≤ k → i ≤ n → Gave s E lim a q
   going-last c h l m =
       let v = h (c .r) (c .sim) (omega (arith, c .loaded)) (omega (arith, c .near, c .fits)) in
       record { value = v .value ∙ ap (λ (z : A × Reader). z .0) (c .same); sim = rw (ap (λ (z : A × Reader). z .1) (c .same)) at (v .sim); near = omega (arith, v .near, c .near) }
 
   -- a call on the way, which leaves n bytes' way
-  pub going-call : {D : Type 0} (n i : ℕ) {k m j : ℕ} {d : D} (g : Reading D) (f : D → Reading A) {w q : Wide} → Going s E lim k m (g >>= f) w → Reads s j i g w d q → j ≤ k → n + i ≤ m → Going s E lim 0 n (f d) q
+  pub going-call : {D : Type 0} (n i : ℕ) {k m j : ℕ} {d : D} (g : Reading D) (f : D → Reading A) {w q : Wide} → Going s E lim k m (g >>= f) w → WideReads s j i g w d q → j ≤ k → n + i ≤ m → Going s E lim 0 n (f d) q
   going-call {D} n i {d} g f {w} {q} c h l o =
       let v = h (c .r) (c .sim) (omega (arith, c .loaded)) (omega (arith, c .near, c .fits)) in
       record {
@@ -103,13 +103,13 @@ going-weaken j m c l h = record { r = c .r; sim = c .sim; same = c .same; loaded
 
 -- ---- a way that counts: a callee whose value tells its cost, a callee that counts, or counts on, the end
 module _ {A : Type 0} {s : List ℕ} {E : (A × ℕ) × Reader} {lim : ℕ} where
-  pub going-cost : {D : Type 0} (n i c : ℕ) {cost : D → ℕ} {k m j : ℕ} {d : D} (g : Reading D) (f : D → Reading A) {w q : Wide} → Costs cost 0 g → Going s E lim k m (counted c (g >>= f)) w → Reads s j i g w d q → j ≤ k → n + i ≤ m → Going s E lim 0 n (counted (c + cost d) (f d)) q
+  pub going-cost : {D : Type 0} (n i c : ℕ) {cost : D → ℕ} {k m j : ℕ} {d : D} (g : Reading D) (f : D → Reading A) {w q : Wide} → Costs cost 0 g → Going s E lim k m (counted c (g >>= f)) w → WideReads s j i g w d q → j ≤ k → n + i ≤ m → Going s E lim 0 n (counted (c + cost d) (f d)) q
   going-cost n i c {cost} g f h a = going-call n i g (λ d. counted (c + cost d) (f d)) (going-as (counted-costs f c h) a)
 
-  pub going-counted : {D : Type 0} (n i c : ℕ) {k m j e : ℕ} {d : D} (g : Reading D) (f : D → Reading A) {w q : Wide} → Going s E lim k m (counted c (g >>= f)) w → Reads s j i (counted 0 g) w (d, e) q → j ≤ k → n + i ≤ m → Going s E lim 0 n (counted (c + e) (f d)) q
+  pub going-counted : {D : Type 0} (n i c : ℕ) {k m j e : ℕ} {d : D} (g : Reading D) (f : D → Reading A) {w q : Wide} → Going s E lim k m (counted c (g >>= f)) w → WideReads s j i (counted 0 g) w (d, e) q → j ≤ k → n + i ≤ m → Going s E lim 0 n (counted (c + e) (f d)) q
   going-counted n i c g f a = going-call n i (counted 0 g) (λ x. counted (c + x .1) (f (x .0))) (going-as (counted-then g f c) a)
 
-  pub going-next : {D : Type 0} (n i c : ℕ) {k m j e : ℕ} {d : D} (g : Reading D) (f : D → Reading A) {w q : Wide} → Going s E lim k m (counted c (g >>= f)) w → Reads s j i (counted c g) w (d, e) q → j ≤ k → n + i ≤ m → Going s E lim 0 n (counted e (f d)) q
+  pub going-next : {D : Type 0} (n i c : ℕ) {k m j e : ℕ} {d : D} (g : Reading D) (f : D → Reading A) {w q : Wide} → Going s E lim k m (counted c (g >>= f)) w → WideReads s j i (counted c g) w (d, e) q → j ≤ k → n + i ≤ m → Going s E lim 0 n (counted e (f d)) q
   going-next n i c g f a = going-call n i (counted c g) (λ x. counted (x .1) (f (x .0))) (going-as (counted-next g f c) a)
 
   pub going-told : {k n c e : ℕ} {a x : A} {w : Wide} → Going s E lim k n (counted c (done a)) w → x ≡ a → e ≡ c → Gave s E lim (x, e) w
@@ -117,13 +117,13 @@ module _ {A : Type 0} {s : List ℕ} {E : (A × ℕ) × Reader} {lim : ℕ} wher
   going-told h f g = going-done h (λ i. (f i, g i))
 
 -- ---- contracts, of larger grammars
-pub reads-as : {A : Type 0} (s : List ℕ) (k n : ℕ) {g h : Reading A} {w : Wide} {a : A} {q : Wide} → g ≡ h → Reads s k n g w a q → Reads s k n h w a q
+pub reads-as : {A : Type 0} (s : List ℕ) (k n : ℕ) {g h : Reading A} {w : Wide} {a : A} {q : Wide} → g ≡ h → WideReads s k n g w a q → WideReads s k n h w a q
 reads-as s k n e f r m l b = rw (sym e) (f r m l b)
 
-pub reads-done : {A : Type 0} (s : List ℕ) (k n : ℕ) {w : Wide} (a : A) → Reads s k n (done a) w a w
+pub reads-done : {A : Type 0} (s : List ℕ) (k n : ℕ) {w : Wide} (a : A) → WideReads s k n (done a) w a w
 reads-done s k n a r m l b = going-done (going-start (done a) r m l b) refl
 
-pub reads-then : {D A : Type 0} (s : List ℕ) (k n : ℕ) {w : Wide} {d : D} {q : Wide} (g : Reading D) (f : D → A) → Reads s k n g w d q → Reads s k n (g >>= (λ v. done (f v))) w (f d) q
+pub reads-then : {D A : Type 0} (s : List ℕ) (k n : ℕ) {w : Wide} {d : D} {q : Wide} (g : Reading D) (f : D → A) → WideReads s k n g w d q → WideReads s k n (g >>= (λ v. done (f v))) w (f d) q
 reads-then s k n g f h r m l b = going-done (going-call 0 n g (λ v. done (f v)) (going-start (g >>= (λ v. done (f v))) r m l b) h (omega arith) (omega arith)) refl
 
 -- ---- a walk of a known tree, one node at a time: at most m steps from node i
@@ -134,7 +134,7 @@ walk-asks n ps t i = refl
 pub record Walking (s : List ℕ) (E : ℕ × Reader) (lim k n : ℕ) (ps : List ℕ) (t : List ℤ) (m i : ℕ) (w : Wide) : Type 0 where
   pub going : Going s E lim k n (walk m ps t i) w
 
-module _ {s : List ℕ} {E : ℕ × Reader} {lim n : ℕ} {ps : List ℕ} {t : List ℤ} {i p : ℕ} {w : Wide} {q : Bit} {b : Bool} (k m : ℕ) (y : Bytes s) (h : p < 256) (e : getD ps i 0 ≡ p) (c : Walking s E lim (suc k + 7) n ps t (suc m) i w) (o : q ≡ bitOf w p) (v : q .on ≡ b) where
+module _ {s : List ℕ} {E : ℕ × Reader} {lim n : ℕ} {ps : List ℕ} {t : List ℤ} {i p : ℕ} {w : Wide} {q : Bit} {b : Bool} (k m : ℕ) (y : Bytes s) (h : p < 256) (e : getD ps i 0 ≡ p) (c : Walking s E lim (suc k + 7) n ps t (suc m) i w) (o : q ≡ wideBitOf w p) (v : q .on ≡ b) where
   stepped : Going s E lim (suc k) n (follow (walk m ps t) (branchAt t i b)) (q .next)
   stepped = going-bit k y h (going-as (walk-asks m ps t i ∙ ap (λ (z : ℕ). ask z (λ b. follow (walk m ps t) (branchAt t i b))) e) (c .going)) o v
 
@@ -152,7 +152,7 @@ module _ {s : List ℕ} {E : ℕ × Reader} {lim k : ℕ} {ps : List ℕ} {t : L
   pub walking-fill : (n : ℕ) → Walking s E lim k (n + 4) ps t m i w → q ≡ fillOf s w → Walking s E lim 32 n ps t m i q
   walking-fill n c e = record { going = going-fill n (c .going) e }
 
-  pub walking-last : {n o j a : ℕ} → Walking s E lim k n ps t m i w → Reads s j o (walk m ps t i) w a q → j ≤ k → o ≤ n → Gave s E lim a q
+  pub walking-last : {n o j a : ℕ} → Walking s E lim k n ps t m i w → WideReads s j o (walk m ps t i) w a q → j ≤ k → o ≤ n → Gave s E lim a q
   walking-last c h l f = going-last (c .going) h l f
 
 -- the same node, said otherwise
@@ -160,7 +160,7 @@ pub walking-as : {s : List ℕ} {E : ℕ × Reader} {lim k n : ℕ} {ps : List �
 walking-as e c = rw e at c
 
 -- a node of two leaves, one after the other
-module _ {s : List ℕ} {E : ℕ × Reader} {lim n : ℕ} {ps : List ℕ} {t : List ℤ} {i p : ℕ} {w : Wide} {q : Bit} (k m : ℕ) (y : Bytes s) (h : p < 256) (e : getD ps i 0 ≡ p) (c : Walking s E lim (suc k + 7) n ps t (suc m) i w) (o : q ≡ bitOf w p) where
+module _ {s : List ℕ} {E : ℕ × Reader} {lim n : ℕ} {ps : List ℕ} {t : List ℤ} {i p : ℕ} {w : Wide} {q : Bit} (k m : ℕ) (y : Bytes s) (h : p < 256) (e : getD ps i 0 ≡ p) (c : Walking s E lim (suc k + 7) n ps t (suc m) i w) (o : q ≡ wideBitOf w p) where
   pub walking-two : {x a : ℕ} → branchAt t i false ≡ B.Leaf a → branchAt t i true ≡ B.Leaf (a + 1) → x ≡ a + flags.bitOf (q .on) → Gave s E lim x (q .next)
   walking-two {x} {a} f g u = go (q .on) refl
     where
@@ -181,7 +181,7 @@ pub record Taking (s ps : List ℕ) (start : Wide) (v : ℕ) (w : Wide) (i : ℕ
 pub taking-start : (s ps : List ℕ) (w : Wide) → Taking s ps w 0 w 0
 taking-start s ps w = record { passed = omega arith; small = omega arith; going = λ r m f. going-start (extra ps) r m (omega arith) f }
 
-pub taking-next : {s ps : List ℕ} {start w f : Wide} {v i x : ℕ} {q : Bit} → Taking s ps start v w i → i < length ps → length ps ≤ 16 → Bytes s → Bytes ps → f ≡ fillOf s w → q ≡ bitOf f (getD ps i 0) → x ≡ v + v + flags.bitOf (q .on) → Taking s ps start x (q .next) (i + 1)
+pub taking-next : {s ps : List ℕ} {start w f : Wide} {v i x : ℕ} {q : Bit} → Taking s ps start v w i → i < length ps → length ps ≤ 16 → Bytes s → Bytes ps → f ≡ fillOf s w → q ≡ wideBitOf f (getD ps i 0) → x ≡ v + v + flags.bitOf (q .on) → Taking s ps start x (q .next) (i + 1)
 taking-next {s} {ps} {start} {w} {f} {v} {i} {x} {q} t l h y z e o u =
     record {
       passed = omega arith;
@@ -200,11 +200,11 @@ taking-small {i} t h = omega (arith, t .small, t .passed, pow-mono {i = i} {j = 
 pub taking-bits : {s ps : List ℕ} {start w : Wide} {v i : ℕ} → Taking s ps start v w i → v < 2 ^ length ps
 taking-bits {ps} {i} t = omega (arith, t .small, pow-mono {i = i} {j = length ps} (t .passed))
 
-pub taking-end : {s ps : List ℕ} {start w : Wide} {v i : ℕ} → Taking s ps start v w i → length ps ≤ i → Reads s 0 64 (extra ps) start v w
+pub taking-end : {s ps : List ℕ} {start w : Wide} {v i : ℕ} → Taking s ps start v w i → length ps ≤ i → WideReads s 0 64 (extra ps) start v w
 taking-end {ps} {v} {i} t h r m k f = going-done (going-as (extra-ends ps v i h) (t .going r m f)) refl
 
 -- ---- THE LAWS for callers: widen a reader in range, read, look once whether the end was passed, and go back
-pub wide-run : {A : Type 0} (s : List ℕ) (r : Reader) (g : Reading A) (n : ℕ) {a : A} {q : Wide} → Bytes s → Valid s r → r .at + n + 4 < 2 ^ 64 → Reads s 0 n g (widenOf r) a q → insideOf s q ≡ true → run g s r ≡ given a (narrowOf s q)
+pub wide-run : {A : Type 0} (s : List ℕ) (r : Reader) (g : Reading A) (n : ℕ) {a : A} {q : Wide} → Bytes s → Valid s r → r .at + n + 4 < 2 ^ 64 → WideReads s 0 n g (widenOf r) a q → insideOf s q ≡ true → run g s r ≡ given a (narrowOf s q)
 unfolding widenOf
 wide-run s r g n {a} {q} y v f h e =
     let m = h r (sim-widen s r v) (omega arith) (omega arith) in
@@ -213,5 +213,5 @@ wide-run s r g n {a} {q} y v f h e =
     ∙ (λ i. given (sym (m .value) i) (sym z i))
 
 -- with the count of M-103
-pub wide-counted : {A : Type 0} (s : List ℕ) (r : Reader) (g : Reading A) (n : ℕ) {a : A} {c : ℕ} {q : Wide} → Bytes s → Valid s r → r .at + n + 4 < 2 ^ 64 → Reads s 0 n (counted 0 g) (widenOf r) (a, c) q → insideOf s q ≡ true → Ran g s r a c (narrowOf s q)
+pub wide-counted : {A : Type 0} (s : List ℕ) (r : Reader) (g : Reading A) (n : ℕ) {a : A} {c : ℕ} {q : Wide} → Bytes s → Valid s r → r .at + n + 4 < 2 ^ 64 → WideReads s 0 n (counted 0 g) (widenOf r) (a, c) q → insideOf s q ≡ true → Ran g s r a c (narrowOf s q)
 wide-counted s r g n y v f h e = counted-run g s r (wide-run s r (counted 0 g) n y v f h e)

@@ -5,7 +5,7 @@ ghost use Prim.Native.Nat.{_<_, _≤_, _^_};
 ghost use lib.ListN.{length};
 ghost use Rattle.numbers.specs.Flags.{bitOf};
 ghost use Rattle.reader.specs.Extra.{extra};
-ghost use Rattle.wide.specs.WideRuns.{Reads};
+ghost use Rattle.wide.specs.WideRuns.{WideReads};
 
 // The number, and the reader after it.
 pub struct Numbered {
@@ -21,7 +21,7 @@ fn bit_value(bit: bool) -> u32
 
 // A number of as many bits as there are probabilities, at most sixteen; of more, nothing is read.
 pub fn extra_bits(s: &[u8], w: Wide, probs: &[u8]) -> Numbered
-    ensures { λ q. ⌜ (length (now (probs .entry)) ≤ 16 → Reads (now (s .entry)) 0 64 (extra (now (probs .entry))) w (q .value) (q .next))
+    ensures { λ q. ⌜ (length (now (probs .entry)) ≤ 16 → WideReads (now (s .entry)) 0 64 (extra (now (probs .entry))) w (q .value) (q .next))
         × (q .value < 2 ^ length (now (probs .entry))) ⌝ }
 {
     let mut value: u32 = 0;

@@ -9,7 +9,7 @@ ghost use mathlib.Core.Bool.{Bool, true, false};
 ghost use Prim.Native.Nat.{_<_, _≤_, _+_, _-_, _*_, _/_, _%_, _^_};
 ghost use lib.ListN.{length, getD};
 ghost use lib.Count.{leadingZeros};
-ghost use Rattle.wide.specs.Wide.{fourOf, fillOf, lowOf, rangeOf, takenOf, liftedOf, bitOf, widenOf, insideOf, backOf, narrowOf};
+ghost use Rattle.wide.specs.Wide.{fourOf, fillOf, lowOf, rangeOf, takenOff, liftedOf, wideBitOf, widenOf, insideOf, backOf, narrowOf};
 
 // `at` is the next byte's place; `value` the loaded bits from the top on, less what was subtracted; `top` the range less one; `count` how
 // many bits are loaded.
@@ -88,7 +88,7 @@ fn high(value: u64) -> u32
 // What a bit takes off the value.
 fn taken(x: u32, on: bool) -> u64
     requires { ⌜ x < 255 ⌝ }
-    ensures { λ r. ⌜ r ≡ takenOf x on ⌝ }
+    ensures { λ r. ⌜ r ≡ takenOff x on ⌝ }
 {
     if on {
         return (x as u64 + 1) << 56;
@@ -157,7 +157,7 @@ impl Wide {
 
     // One symbol.
     pub fn bit(self, prob: u8) -> Bit
-        ensures { λ q. ⌜ q ≡ bitOf self prob ⌝ }
+        ensures { λ q. ⌜ q ≡ wideBitOf self prob ⌝ }
     {
         let top = self.top % 256;
         let x = low(top, prob);
@@ -175,7 +175,7 @@ impl Wide {
 
     // The same without a branch, where the bit is a number and not a way.
     pub fn even(self, prob: u8) -> Bit
-        ensures { λ q. ⌜ q ≡ bitOf self prob ⌝ }
+        ensures { λ q. ⌜ q ≡ wideBitOf self prob ⌝ }
     {
         let top = self.top % 256;
         let x = low(top, prob);

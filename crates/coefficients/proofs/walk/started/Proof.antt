@@ -1,6 +1,6 @@
 use mathlib.Core.Bool.{true}
 use mathlib.Core.Path.{_∙_, ap}
-use Rattle.wide.specs.Wide.{bitOf}
+use Rattle.wide.specs.Wide.{wideBitOf}
 use Rattle.wide.specs.declared.wide.Wide.{Wide}
 use borrow.Author.Needs.{needs}
 use Rattle.coefficients.proofs.walk.started.Statement.{statement}
@@ -16,7 +16,7 @@ bit-requires : tie.Need-bit-requires
 bit-requires c κs = search needs
 
 returns-2 : tie.Need-returns-2
-returns-2 c = rw (c .before .if1 .left) (c .bit .ensures ∙ ap (λ (z : Wide). bitOf z (c .before .before .before .before .args .prob)) (c .before .before .fill .ensures))
+returns-2 c = rw (c .before .if1 .left) (c .bit .ensures ∙ ap (λ (z : Wide). wideBitOf z (c .before .before .before .before .args .prob)) (c .before .before .fill .ensures))
 
 pub started-spec : {M : Type 1} → statement M
 started-spec = tie.close (tie.spec fill-requires returns bit-requires returns-2)

@@ -10,8 +10,8 @@ use Rattle.residual.specs.Residual.{residualOf}
 use Rattle.residual.specs.ResidualLaws.{fromResidual, fromEnded, decoded, decode-ends}
 use Rattle.header.specs.Frame.{factorsAt}
 use Rattle.reader.specs.Trace.{count}
-use Rattle.residual.specs.ResidualLaws.{reads-good}
-use Rattle.macroblock.specs.Counts.{readsMade, tokenReads}
+use Rattle.residual.specs.ResidualLaws as ResidualLaws
+use Rattle.macroblock.specs.Counts.{readsMade, macroblockTokenReads}
 use Rattle.macroblock.specs.MacroblockLaws.{tokens-missing, tokens-done, painting}
 use denote.Enum.Declared.{tagOf}
 use Rattle.residual.specs.ResidualLaws.{not-done}
@@ -58,12 +58,11 @@ is c =
     ∙ decoded _ _ _ _ _ _ _ _ _ (p .token) (record { size = p .size; top-flags = p .top; left-flags = p .left; long = refl }) (c .before .decode .ensures .0)
 
 -- and its count
-counted : (c : tie.After-c2) → (let a = start c .args in c .before .decode .result .reads ≡ tokenReads (a .tokens .now) (a .t) (a .frame) (a .table .now) (a .around) (given (macroblockOf (a .m .kinds) (a .m .modes)) (a .m .next)))
+counted : (c : tie.After-c2) → (let a = start c .args in c .before .decode .result .reads ≡ macroblockTokenReads (a .tokens .now) (a .t) (a .frame) (a .table .now) (a .around) (given (macroblockOf (a .m .kinds) (a .m .modes)) (a .m .next)))
 counted c =
     let a = start c .args in
     let p = start c .pre .0 in
-    c .before .decode .ensures .1
-    ∙ reads-good _ _ _ _ _ _ _ _ _ (p .token) (record { size = p .size; top-flags = p .top; left-flags = p .left; long = refl })
+    ResidualLaws.decode-reads _ _ _ _ _ _ _ _ _ (p .token) (record { size = p .size; top-flags = p .top; left-flags = p .left; long = refl }) (c .before .decode .ensures .1)
     ∙ ap (λ (f : Factors). count (residualOf (a .table .now) f (a .m .kinds .small) (a .m .kinds .skip) (a .around .top .flags) (a .around .left .flags)) (a .tokens .now) (a .t)) (c .before .before .before .factors-of .ensures ∙ ap (factorsAt (a .frame)) (c .before .before .before .before .index .ensures))
 
 abbrev at-c2 : tie.After-known-told → tie.After-c2
