@@ -76,6 +76,26 @@ beside() {
 beside "Instructions a luma sample, 256 by 256 samples, before the loop filter:"
 beside "The same with the loop filter (the picture call, then deblocking, the normal kind):" deblock
 
+# The dearest tile: as many symbols a macroblock as the format allows (request M-103). Each tile's symbols are those that the call counts.
+python3 bench/dearest.py $out/dearest.case
+$X86CC -O2 -Wall -Iinclude -o $out/symbols examples/c/decode_case.c "$ARCHIVE"
+echo "The dearest tile beside real ones, a macroblock of 256:"
+echo
+echo "| tile | symbols, first partition | symbols, token partitions | instructions | with deblocking | a symbol |"
+echo "|---|---|---|---|---|---|"
+for f in $out/dearest.case bench/tile-q50.case bench/tile-q75.case bench/tile-q90.case; do
+    read -r _ _ first tokens < <($qemu $out/symbols -c "$f")
+    a=$(count $out/bench "$f" 10)
+    b=$(count $out/bench "$f" 10 deblock)
+    echo "| $(basename "$f" .case) | $(div "$first" 256 1) | $(div "$tokens" 256 1) | $(div "$a" 2560 0) | $(div "$b" 2560 0) | $(div "$a" "(10*($first+$tokens))" 1) |"
+done
+echo
+echo "Stack, bytes:"
+echo
+$X86CC -O2 -Wall -Iinclude -o $out/stack bench/stack.c "$ARCHIVE" -lpthread
+$out/stack bench/tile-q90.case | sed 's/^/- /'
+echo
+
 $X86CC -O2 -Iinclude -o $out/needed bench/needed.c "$ARCHIVE"
 rm -rf $out/grow
 python3 bench/grow.py make $out/grow
