@@ -1,43 +1,46 @@
 -- One turn of each loop over sub-blocks, and each way out of the public call, on plain values.
-use Prim.Native.Nat.{ℕ, _+_, _*_, _%_}
-use mathlib.Core.Bool.{Bool, true, false, _&&_}
+use Prim.Native.Nat.{ℕ, _+_, _*_, _%_, _<_, _≤_}
+use mathlib.Core.Bool.{Bool, true, false, cond, _&&_}
 use mathlib.Core.List.{List}
 use mathlib.Core.Path.{_≡_, _∙_, ap}
 use native.Mathlib.Numerals.{add-one}
 use lib.Dec.{eqb}
-use lib.IntN.{ℤ}
+use lib.IntN.{ℤ, pos}
 use lib.ListN.{length, getD}
 use Rattle.numbers.specs.Tables.{allBelow}
 use Rattle.numbers.specs.Tests.{both-true, both-false}
-use Rattle.transform.specs.Transform.{samplesOf}
 use Rattle.numbers.specs.declared.Checked.the-variants.{Done, Refused}
-use Rattle.planes.specs.declared.predict.Edge.{Edge}
-use Rattle.planes.specs.Predict.{smallBlock, largeOf}
-use Rattle.planes.specs.Paint.{blockAboveRight, aroundOf, painted, blockCoefficients, blockResidual, summedOf, blockPainted, blocksPainted, largeRule, smallAt, smallRule, squarePainted, paintModesFine, squareFine, coefficientsFine, paintFine, paintOf}
-use Rattle.planes.specs.PaintLaws.{Bytes, Blank, blank-summed, blocks-next}
-use Rattle.planes.specs.Places.{Cell}
+use Rattle.planes.specs.declared.edges.Spot.{Spot}
+use Rattle.planes.specs.Predict.{smallBlock}
+use Rattle.planes.specs.Paint.{blockAboveRight, aroundOf, painted, blockPainted, blocksPainted, smallAt, smallRule, squarePainted, paintModesFine, squareFine, eachFits, coefficientsFine, paintFine, paintOf}
+use Rattle.planes.specs.PaintLaws.{blocks-next}
+use Rattle.planes.specs.Places.{Lies, Sub}
+use Rattle.planes.specs.Steps.{laneAdded, meanAdded, Ready, standing, standRule, added-block, painted-then, small-at-long}
 
 -- ---- sub-blocks
--- one without coefficients is what is predicted, and any other is summed
-module _ (p : List ℕ) (w x y : ℕ) (pred : List ℕ) (c : List ℤ) (i : ℕ) {b : List ℤ} (e : b ≡ blockCoefficients c i) where
-  pub blank-painted : length pred ≡ 16 → Bytes pred → Blank 16 b → painted p w x y pred ≡ blockPainted p w x y pred c i
-  unfolding blockPainted blockResidual
-  blank-painted n k h = rw (← e, blank-summed pred b n k h)
+module _ {c : List ℤ} {coded : List Bool} {r : List ℤ} {n : ℕ} (ready : Ready c coded r n) (w x y m i : ℕ) (h : i < n) {s : Spot} (a : Sub w x y m i s) (l : s .x + 4 ≤ w)
+    {b : Bool} {dc : ℤ} (f : b ≡ getD coded i false) (g : dc ≡ getD c (16 * i) (pos 0)) where
+  -- one added to what stands there
+  added-sub : (q : List ℕ) {q′ : List ℕ} → q′ ≡ cond b (laneAdded q w (s .at) r i) (meanAdded q w (s .at) dc) → q′ ≡ blockPainted q w (s .x) (s .y) (standing q w (s .x) (s .y)) c i
+  added-sub q d = d ∙ added-block ready q w (s .x) (s .y) i h l (a .at) f g
 
-  pub added-painted : {s : List ℕ} → s ≡ summedOf pred (samplesOf false b) → painted p w x y s ≡ blockPainted p w x y pred c i
-  unfolding blockPainted blockResidual
-  added-painted f = rw (f, e)
+  pub large-turn : (p : List ℕ) {q q′ : List ℕ} → q ≡ blocksPainted (standRule w x y m) p w x y m c i → q′ ≡ cond b (laneAdded q w (s .at) r i) (meanAdded q w (s .at) dc)
+      → q′ ≡ blocksPainted (standRule w x y m) p w x y m c (i + 1)
+  large-turn p {q} e d = added-sub q d ∙ rw (a .across, a .down) (blocks-next (standRule w x y m) p w x y m c i e)
 
-pub large-turn : (p : List ℕ) (w x y m mode dc : ℕ) (e : Edge) (c : List ℤ) (i : ℕ) {q pred : List ℕ} {column row : ℕ}
-    → q ≡ blocksPainted (largeRule m mode dc e) p w x y m c i → Cell m i column row → pred ≡ largeOf mode dc e row column
-    → blockPainted q w (x + column) (y + row) pred c i ≡ blocksPainted (largeRule m mode dc e) p w x y m c (i + 1)
-large-turn p w x y m mode dc e c i f s g = rw (g, s .across, s .down) (blocks-next (largeRule m mode dc e) p w x y m c i f)
-
-pub small-turn : (p : List ℕ) (w x y : ℕ) (right modes : List ℕ) (c : List ℤ) (i : ℕ) {q : List ℕ} {column row : ℕ}
-    → q ≡ blocksPainted (smallRule w x y right modes) p w x y 4 c i → Cell 4 i column row
-    → blockPainted q w (x + column) (y + row) (smallAt q w (x + column) (y + row) (eqb (i % 4) 3) right (getD modes i 0)) c i
-    ≡ blocksPainted (smallRule w x y right modes) p w x y 4 c (i + 1)
-small-turn p w x y right modes c i f s = rw (s .across, s .down) (blocks-next (smallRule w x y right modes) p w x y 4 c i f)
+module _ {c : List ℤ} {coded : List Bool} {r : List ℤ} {n : ℕ} (ready : Ready c coded r n) (w x y i : ℕ) (h : i < n) {s : Spot} (a : Sub w x y 4 i s)
+    {b : Bool} {dc : ℤ} (f : b ≡ getD coded i false) (g : dc ≡ getD c (16 * i) (pos 0)) (right modes : List ℕ) where
+  -- one predicted, and added
+  pub small-turn : (p : List ℕ) {q q′ q″ : List ℕ} → q ≡ blocksPainted (smallRule w x y right modes) p w x y 4 c i → Lies (length q) w s → getD modes i 0 < 10
+      → q′ ≡ painted q w (s .x) (s .y) (smallAt q w (s .x) (s .y) (eqb (i % 4) 3) right (getD modes i 0))
+      → q″ ≡ cond b (laneAdded q′ w (s .at) r i) (meanAdded q′ w (s .at) dc)
+      → q″ ≡ blocksPainted (smallRule w x y right modes) p w x y 4 c (i + 1)
+  small-turn p {q} {q′} e t k d o =
+      let pred = smallAt q w (s .x) (s .y) (eqb (i % 4) 3) right (getD modes i 0) in
+      added-sub ready w x y 4 i h a (t .square .columns) f g q′ o
+      ∙ ap (λ (v : List ℕ). blockPainted v w (s .x) (s .y) (standing v w (s .x) (s .y)) c i) d
+      ∙ painted-then q w (s .x) (s .y) (t .square) pred c i (small-at-long q w (s .x) (s .y) (eqb (i % 4) 3) right (getD modes i 0) k)
+      ∙ rw (a .across, a .down) (blocks-next (smallRule w x y right modes) p w x y 4 c i e)
 
 pub small-is : (p : List ℕ) (w x y : ℕ) (last : Bool) (right : List ℕ) (mode : ℕ) (e : List ℕ) {pred : List ℕ}
     → e ≡ aroundOf p w x y (blockAboveRight p w x y last right) → pred ≡ smallBlock mode e → pred ≡ smallAt p w x y last right mode
@@ -62,6 +65,15 @@ module _ (p : List ℕ) (w column row n : ℕ) (small : Bool) (mode : ℕ) (mode
   pub refused-coefficients : coefficientsFine n c ≡ false → record { answer = Refused; plane = p } ≡ paintOf p w column row n small mode modes c
   unfolding paintOf paintFine
   refused-coefficients e = rw (both-false (paintModesFine n small mode modes) (both-false (squareFine (length p) w column row n) e))
+
+  -- how many coefficients there are, and whether each fits
+  pub unfit : eqb (length c) (n * n) ≡ false → coefficientsFine n c ≡ false
+  unfolding coefficientsFine
+  unfit e = rw e
+
+  pub fit : eqb (length c) (n * n) ≡ true → {b : Bool} → b ≡ eachFits c → b ≡ coefficientsFine n c
+  unfolding coefficientsFine
+  fit e f = f ∙ rw e
 
   pub all-fine : paintModesFine n small mode modes ≡ true → squareFine (length p) w column row n ≡ true → coefficientsFine n c ≡ true
       → paintFine (length p) w column row n small mode modes c ≡ true

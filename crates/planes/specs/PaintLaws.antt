@@ -2,36 +2,33 @@
 -- `paint-same` and `paint-good`, at the end.
 use Prim.Native.Nat.{ℕ, zero, suc, _+_, _-_, _*_, _/_, _%_, _≤_, _<_}
 use mathlib.Core.Bool.{Bool, true, false, _&&_, _||_}
-use mathlib.Core.List.{List}
+use mathlib.Core.List.{List, []}
 use mathlib.Core.Logic.{_⊎_, inl, inr}
 use mathlib.Core.Path.{_≡_, refl, sym, _∙_, ap, subst}
 use native.Mathlib.Decide.{ℕ-discrete}
-use native.Mathlib.Nat.{zero-add, add-zero, mul-one, add-assoc, mul-le-mul, mul-le-mul-right, div-mul-le-self, mul-mod-left, mul-div-cancel}
+use native.Mathlib.Nat.{zero-add, mul-one, add-assoc, mul-le-mul, mul-le-mul-right, div-mul-le-self, mul-mod-left, mul-div-cancel}
 use native.Mathlib.Numerals.{add-one}
 use native.Mathlib.Omega.{arith}
 use borrow.Author.Tests.{eqb-true, ltb-true, leb-true, lt-ltb, le-leb, eq-eqb, ne-eqb}
 use lib.Dec.{eqb, ltb, leb}
 use lib.IntN.{ℤ, pos, negsuc, _+ℤ_}
-use lib.ListN.{length, getD, set, replicate, length-take, length-drop, List·getD-eq-default}
+use lib.ListN.{length, getD, set, replicate, length-take, length-drop}
 use lib.Seq.{getD-take, getD-drop}
-use lib.Signed.{leZ}
 pub use Rattle.numbers.specs.Lists.{Bytes}
-use Rattle.numbers.specs.Clamp.{clipZ}
-use Rattle.numbers.specs.ClampLaws.{upTo-le, upTo-same}
-use Rattle.numbers.specs.In.{In, Each}
-use Rattle.numbers.specs.Know.{num, wider, inside}
-use Rattle.numbers.specs.Lists.{build, built, getD-build, getD-build-past, getD-constant, _∷≡_}
-use Rattle.numbers.specs.Parts.{true-le, le-true}
-use Rattle.numbers.specs.Runs.{placed, placed-none, placed-next, placed-same, copied, copied-none, copied-next, length-copied, copied-keeps, copied-in, copied-off, Off, off-less}
+use Rattle.numbers.specs.ClampLaws.{upTo-le}
+use Rattle.numbers.specs.In.{Each}
+use Rattle.numbers.specs.Know.{inside}
+use Rattle.numbers.specs.Lists.{build, built, getD-build, getD-build-past, _∷≡_}
+use Rattle.numbers.specs.Parts.{le-true}
+use Rattle.numbers.specs.Runs.{placed, placed-none, placed-next, length-placed, placed-in, placed-off, placed-keeps, placed-same, copied, Off, off-less}
 use Rattle.numbers.specs.Tables.{allBelow, all-below}
 use Rattle.numbers.specs.Tests.{lt-or, eq-or, both-left, both-right, both-true, cond-at}
-use Rattle.transform.specs.Transform.{samplesOf, fits16}
-use Rattle.transform.specs.TransformLaws.{CoefficientsIn, shortcut}
+use Rattle.transform.specs.LanesLaws.{each-fit}
 use Rattle.numbers.specs.declared.Checked.the-variants.{Done, Refused}
 use Rattle.planes.specs.declared.predict.Edge.{Edge}
 use Rattle.planes.specs.Predict.{Size, smallBlock, dcOf}
 use Rattle.planes.specs.Paint.{sampleAt, nearOf, fourAbove, firstPlaces, firstAbove, firstLeft, edgeOf, aboveRight, blockAboveRight, aroundOf, rowsPainted, painted, blockCoefficients, blockResidual, summedOf, blockPainted, cellColumn, cellRow, blocksPainted, largeRule, smallAt, smallRule, predictionRule, squarePainted, eachFits, paintModesFine, squareFine, coefficientsFine, paintFine, PaintedPlane, paintOf}
-use Rattle.planes.specs.Places.{Square, Outside, run-inside, sub-square, apart, outside-sub, BlockSides, cell, not-last, Stands, higher, before, stands-first, stands-last, Within, stood, later, by-size, size-some, quarter, size-sides, tiles}
+use Rattle.planes.specs.Places.{Square, Outside, run-inside, sub-square, apart, outside-sub, BlockSides, cell, not-last, Stands, higher, before, stands-first, stands-last, Within, stood, other, by-size, size-some, quarter, size-sides, tiles}
 
 -- arguments with which the square at column x, row y can be painted
 pub record Good (len w x y n : ℕ) (small : Bool) (mode : ℕ) (modes : List ℕ) (c : List ℤ) : Type 0 where
@@ -50,9 +47,6 @@ module _ {len w x y n mode : ℕ} {small : Bool} {modes : List ℕ} {c : List �
 
   pub luma-whole : small ≡ true → x + 16 < w → x + 20 ≤ w
   luma-whole e h = let q = g .luma e in omega (arith, g .whole (omega arith))
-
-  pub luma-long : small ≡ true → length c ≡ 256
-  luma-long e = g .long ∙ ap (λ (k : ℕ). k * k) (g .luma e)
 
 -- ---- around
 pub near-top : (p : List ℕ) (w x y : ℕ) → y ≡ 0 → 127 ≡ nearOf p w x y
@@ -81,51 +75,65 @@ module _ (f : ℕ → ℕ) where
   unfolding firstPlaces
   first-next n = subst (λ (k : ℕ). set (placed (replicate 16 0) 0 f n) k (f n) ≡ placed (replicate 16 0) 0 f (n + 1)) (zero-add n) (placed-next (replicate 16 0) 0 f n)
 
--- ---- the rows of a sub-block
-module _ (p : List ℕ) (w x y : ℕ) (b : List ℕ) where
-  pub rows-none : rowsPainted p w x y b 0 ≡ p
-  unfolding rowsPainted
+-- ---- rows
+-- m rows of n samples at column x, row y: f j k is sample k of row j
+unfoldable pub rowsPlaced : List ℕ → (w x y n : ℕ) (f : ℕ → ℕ → ℕ) (m : ℕ) → List ℕ
+rowsPlaced p w x y n f zero = p
+rowsPlaced p w x y n f (suc j) = placed (rowsPlaced p w x y n f j) ((y + j) * w + x) (f j) n
+
+module _ (p : List ℕ) (w x y n : ℕ) (f : ℕ → ℕ → ℕ) where
+  pub rows-none : rowsPlaced p w x y n f 0 ≡ p
+  unfolding rowsPlaced
   rows-none = refl
 
-  pub rows-next : (j : ℕ) → copied (rowsPainted p w x y b j) ((y + j) * w + x) b (4 * j) 4 ≡ rowsPainted p w x y b (j + 1)
-  unfolding rowsPainted
+  pub rows-next : (j : ℕ) → placed (rowsPlaced p w x y n f j) ((y + j) * w + x) (f j) n ≡ rowsPlaced p w x y n f (j + 1)
+  unfolding rowsPlaced
   rows-next j = rw add-one
 
-  pub length-rows : (j : ℕ) → length (rowsPainted p w x y b j) ≡ length p
-  unfolding rowsPainted
+  pub length-rows : (j : ℕ) → length (rowsPlaced p w x y n f j) ≡ length p
+  unfolding rowsPlaced
   length-rows zero = refl
-  length-rows (suc j) = length-copied (rowsPainted p w x y b j) ((y + j) * w + x) b (4 * j) 4 ∙ length-rows j
+  length-rows (suc j) = length-placed (rowsPlaced p w x y n f j) ((y + j) * w + x) (f j) n ∙ length-rows j
 
-  -- column c of row r: outside them nothing changes, inside stands the block
-  rows-off : (m c r : ℕ) → x + 4 ≤ w → c < w → Off x 4 c ⊎ Off y m r → sampleAt (rowsPainted p w x y b m) w c r ≡ sampleAt p w c r
-  unfolding rowsPainted
+  -- column c of row r: outside them nothing changes, inside stands the sample
+  pub rows-off : (m c r : ℕ) → x + n ≤ w → c < w → Off x n c ⊎ Off y m r → sampleAt (rowsPlaced p w x y n f m) w c r ≡ sampleAt p w c r
+  unfolding rowsPlaced
   rows-off zero c r l h o = refl
   rows-off (suc m) c r l h o =
-      copied-off (rowsPainted p w x y b m) ((y + m) * w + x) b (4 * m) 4 (r * w + c) (apart (y + m) r w x 4 c h l (last o))
+      placed-off (rowsPlaced p w x y n f m) ((y + m) * w + x) (f m) n (r * w + c) 0 (apart (y + m) r w x n c h l (last o))
       ∙ rows-off m c r l h (less o)
     where
-      last : Off x 4 c ⊎ Off y (suc m) r → Off x 4 c ⊎ Off (y + m) 1 r
+      last : Off x n c ⊎ Off y (suc m) r → Off x n c ⊎ Off (y + m) 1 r
       last (inl a) = inl a
       last (inr (inl a)) = inr (inl (omega arith))
       last (inr (inr a)) = inr (inr (omega arith))
 
-      less : Off x 4 c ⊎ Off y (suc m) r → Off x 4 c ⊎ Off y m r
+      less : Off x n c ⊎ Off y (suc m) r → Off x n c ⊎ Off y m r
       less (inl a) = inl a
       less (inr a) = inr (off-less y m r a)
 
-  rows-in : (m j k : ℕ) → x + 4 ≤ w → (y + m) * w ≤ length p → j < m → k < 4
-      → sampleAt (rowsPainted p w x y b m) w (x + k) (y + j) ≡ getD b (4 * j + k) 0
-  unfolding rowsPainted
-  rows-in zero j k l f h g = absurd (omega arith)
-  rows-in (suc m) j k l f h g =
-      let q = rowsPainted p w x y b m in
-      let n : (y + m) * w + x + 4 ≤ length q = rw (length-rows m) (run-inside {y = y + m} {h = y + suc m} x 4 (omega arith) l f) in
+  pub rows-in : (m j k : ℕ) → x + n ≤ w → (y + m) * w ≤ length p → j < m → k < n
+      → sampleAt (rowsPlaced p w x y n f m) w (x + k) (y + j) ≡ f j k
+  unfolding rowsPlaced
+  rows-in zero j k l h a b = absurd (omega arith)
+  rows-in (suc m) j k l h a b =
+      let q = rowsPlaced p w x y n f m in
+      let i : (y + m) * w + x + n ≤ length q = rw (length-rows m) (run-inside {y = y + m} {h = y + suc m} x n (omega arith) l h) in
       elim (ℕ-discrete j m) [
-        | yes e ↦ rw (e, ← add-assoc) (copied-in q ((y + m) * w + x) b (4 * m) 4 k n g)
+        | yes e ↦ rw (e, ← add-assoc) (placed-in q ((y + m) * w + x) (f m) n k 0 i b)
         | no e ↦
-            copied-off q ((y + m) * w + x) b (4 * m) 4 ((y + j) * w + (x + k)) (apart (y + m) (y + j) w x 4 (x + k) (omega arith) l (inr (inl (omega arith))))
-            ∙ rows-in m j k l (omega (arith, mul-le-mul-right {m = y + m} {n = y + suc m} w (omega arith))) (omega arith) g
+            placed-off q ((y + m) * w + x) (f m) n ((y + j) * w + (x + k)) 0 (apart (y + m) (y + j) w x n (x + k) (omega arith) l (inr (inl (omega arith))))
+            ∙ rows-in m j k l (omega (arith, mul-le-mul-right {m = y + m} {n = y + suc m} w (omega arith))) (omega arith) b
       ]
+
+-- two rules that agree paint the same
+pub rows-same : (p : List ℕ) (w x y n : ℕ) (f g : ℕ → ℕ → ℕ) (m : ℕ) → ((j k : ℕ) → j < m → k < n → f j k ≡ g j k)
+    → rowsPlaced p w x y n f m ≡ rowsPlaced p w x y n g m
+unfolding rowsPlaced
+rows-same p w x y n f g zero h = refl
+rows-same p w x y n f g (suc m) h =
+    ap (λ (q : List ℕ). placed q ((y + m) * w + x) (f m) n) (rows-same p w x y n f g m (λ j k l. h j k (omega arith)))
+    ∙ placed-same (rowsPlaced p w x y n g m) ((y + m) * w + x) (f m) (g m) n (λ k l. h m k (omega arith) l)
 
 -- ---- the coefficients of a sub-block, one by one, and its residual
 module _ (c : List ℤ) (i : ℕ) (h : 16 * i + 16 ≤ length c) where
@@ -133,49 +141,51 @@ module _ (c : List ℤ) (i : ℕ) (h : 16 * i + 16 ≤ length c) where
   unfolding blockCoefficients
   length-block = simp (length-take, length-drop) (omega arith)
 
-  block-at : (k : ℕ) (d : ℤ) → k < 16 → getD (blockCoefficients c i) k d ≡ getD c (16 * i + k) d
+  pub block-at : (k : ℕ) (d : ℤ) → k < 16 → getD (blockCoefficients c i) k d ≡ getD c (16 * i + k) d
   unfolding blockCoefficients
   block-at k d l = rw (getD-take, getD-drop)
 
   pub block-built : blockCoefficients c i ≡ build 16 (λ k. getD c (16 * i + k) (pos 0))
   block-built = built (blockCoefficients c i) 16 (λ k. getD c (16 * i + k) (pos 0)) (pos 0) length-block (λ k l. block-at k (pos 0) l)
 
-  pub block-fits : Each (negsuc 32767) (pos 32767) c → CoefficientsIn (blockCoefficients c i)
-  block-fits e = record { fit = λ k l. rw (block-at k (pos 0) l) (e .at (16 * i + k)) }
+-- ---- a sub-block painted is four rows of four
+module _ (p : List ℕ) (w x y : ℕ) (b : List ℕ) where
+  painted-to : (m : ℕ) → rowsPainted p w x y b m ≡ rowsPlaced p w x y 4 (λ j k. getD b (4 * j + k) 0) m
+  unfolding rowsPainted rowsPlaced copied
+  painted-to zero = refl
+  painted-to (suc m) = ap (λ (q : List ℕ). placed q ((y + m) * w + x) (λ k. getD b (4 * m + k) 0) 4) (painted-to m)
 
--- the first n are 0
-abbrev pub Blank : ℕ → List ℤ → Type 0
-Blank n b = (k : ℕ) → k < n → getD b k (pos 0) ≡ pos 0
+  pub painted-rows : painted p w x y b ≡ rowsPlaced p w x y 4 (λ j k. getD b (4 * j + k) 0) 4
+  painted-rows = painted-to 4
 
--- coefficients that are all 0 leave what is predicted
-blank-samples : (b : List ℤ) → Blank 16 b → samplesOf false b ≡ replicate 16 (pos 0)
-blank-samples b h = shortcut false (record { zero = λ k l m. h k m }) ∙ rw (h 0 (omega arith))
+  pub length-painted : length (painted p w x y b) ≡ length p
+  length-painted = ap length painted-rows ∙ length-rows p w x y 4 _ 4
 
-pub blank-summed : (pred : List ℕ) (b : List ℤ) → length pred ≡ 16 → Bytes pred → Blank 16 b → summedOf pred (samplesOf false b) ≡ pred
-unfolding summedOf
-blank-summed pred b n y h = rw (blank-samples b h) (sym (built pred 16 _ 0 n same))
-  where
-    same : (k : ℕ) → k < 16 → getD pred k 0 ≡ clipZ (pos (getD pred k 0) +ℤ getD (replicate 16 (pos 0)) k (pos 0))
-    same k l = rw (getD-constant 16 k (pos 0), add-zero) (sym (upTo-same (omega (arith, y k))))
+-- column c of row r, outside it and in it
+module _ (p : List ℕ) (w x y : ℕ) (b : List ℕ) (c r : ℕ) where
+  pub painted-off : x + 4 ≤ w → c < w → Outside x y 4 c r → sampleAt (painted p w x y b) w c r ≡ sampleAt p w c r
+  painted-off l h o = ap (λ (q : List ℕ). sampleAt q w c r) (painted-rows p w x y b) ∙ rows-off p w x y 4 _ 4 c r l h o
 
--- ---- a sub-block painted: column c of row r, outside it and in it
+  pub painted-in : Square (length p) w x y 4 → Within x y c r → sampleAt (painted p w x y b) w c r ≡ getD b (4 * (r - y) + (c - x)) 0
+  painted-in s h =
+      subst (λ (d : ℕ). sampleAt (painted p w x y b) w d r ≡ getD b (4 * (r - y) + (c - x)) 0) (omega arith)
+      (subst (λ (d : ℕ). sampleAt (painted p w x y b) w (x + (c - x)) d ≡ getD b (4 * (r - y) + (c - x)) 0) (omega arith)
+      (ap (λ (q : List ℕ). sampleAt q w (x + (c - x)) (y + (r - y))) (painted-rows p w x y b)
+      ∙ rows-in p w x y 4 (λ j k. getD b (4 * j + k) 0) 4 (r - y) (c - x) (s .columns) (s .rows) (omega (arith, h .bottom)) (omega (arith, h .right))))
+
 module _ (p : List ℕ) (w x y : ℕ) (pred : List ℕ) (cs : List ℤ) (i : ℕ) where
   pub length-one : length (blockPainted p w x y pred cs i) ≡ length p
   unfolding blockPainted
-  length-one = length-rows p w x y (summedOf pred (blockResidual cs i)) 4
+  length-one = length-painted p w x y _
 
   pub one-off : (c r : ℕ) → x + 4 ≤ w → c < w → Outside x y 4 c r → sampleAt (blockPainted p w x y pred cs i) w c r ≡ sampleAt p w c r
   unfolding blockPainted
-  one-off c r l h o = rows-off p w x y (summedOf pred (blockResidual cs i)) 4 c r l h o
+  one-off c r l h o = painted-off p w x y (summedOf pred (blockResidual cs i)) c r l h o
 
   pub one-in : (c r : ℕ) → Square (length p) w x y 4 → Within x y c r
       → sampleAt (blockPainted p w x y pred cs i) w c r ≡ getD (summedOf pred (blockResidual cs i)) (4 * (r - y) + (c - x)) 0
   unfolding blockPainted
-  one-in c r s h =
-      let b = summedOf pred (blockResidual cs i) in
-      subst (λ (d : ℕ). sampleAt (painted p w x y b) w d r ≡ getD b (4 * (r - y) + (c - x)) 0) (omega arith)
-      (subst (λ (d : ℕ). sampleAt (painted p w x y b) w (x + (c - x)) d ≡ getD b (4 * (r - y) + (c - x)) 0) (omega arith)
-      (rows-in p w x y b 4 (r - y) (c - x) (s .columns) (s .rows) (omega (arith, h .bottom)) (omega (arith, h .right))))
+  one-in c r s h = painted-in p w x y (summedOf pred (blockResidual cs i)) c r s h
 
 -- ---- sub-blocks painted one after the other
 module _ (rule : List ℕ → ℕ → List ℕ) (p : List ℕ) (w x y m : ℕ) (cs : List ℤ) where
@@ -198,7 +208,7 @@ module _ (rule : List ℕ → ℕ → List ℕ) (p : List ℕ) (w x y m : ℕ) (
   due i s t h = rw (length-blocks i) (sub-square t (cellColumn m i) (cellRow m i) 4 (cell s h .inside) (cell s h .above))
 
   -- outside the square nothing changes
-  blocks-off : (i c r : ℕ) → BlockSides m → Square (length p) w x y (4 * m) → i ≤ m * m → c < w → Outside x y (4 * m) c r
+  pub blocks-off : (i c r : ℕ) → BlockSides m → Square (length p) w x y (4 * m) → i ≤ m * m → c < w → Outside x y (4 * m) c r
       → sampleAt (blocksPainted rule p w x y m cs i) w c r ≡ sampleAt p w c r
   unfolding blocksPainted
   blocks-off zero c r s t l h o = refl
@@ -208,12 +218,22 @@ module _ (rule : List ℕ → ℕ → List ℕ) (p : List ℕ) (w x y m : ℕ) (
       one-off q w (x + cellColumn m i) (y + cellRow m i) (rule q i) cs i c r (due i s t k .columns) h (outside-sub (cellColumn m i) (cellRow m i) 4 (cell s k .inside) (cell s k .above) o)
       ∙ blocks-off i c r s t (omega arith) h o
 
+  -- a sample of sub-block i is what it was until that is painted
+  pub blocks-yet : (j i c r : ℕ) → BlockSides m → Square (length p) w x y (4 * m) → j ≤ i → i < m * m → c < w
+      → Within (x + cellColumn m i) (y + cellRow m i) c r → sampleAt (blocksPainted rule p w x y m cs j) w c r ≡ sampleAt p w c r
+  unfolding blocksPainted
+  blocks-yet zero i c r s t l h g k = refl
+  blocks-yet (suc j) i c r s t l h g k =
+      let q = blocksPainted rule p w x y m cs j in
+      one-off q w (x + cellColumn m j) (y + cellRow m j) (rule q j) cs j c r (due j s t (omega arith) .columns) g (other x y i j s (λ z. omega arith) k)
+      ∙ blocks-yet j i c r s t (omega arith) h g k
+
   -- a sample of sub-block i is what was painted for it: those after it lie elsewhere
   abbrev pub paintedIn : (i c r : ℕ) → ℕ
   paintedIn i c r =
       getD (summedOf (rule (blocksPainted rule p w x y m cs i) i) (blockResidual cs i)) (4 * (r - (y + cellRow m i)) + (c - (x + cellColumn m i))) 0
 
-  blocks-in : BlockSides m → Square (length p) w x y (4 * m) → (i c r : ℕ) → i < m * m → Within (x + cellColumn m i) (y + cellRow m i) c r → (j : ℕ) → i < j → j ≤ m * m
+  pub blocks-in : BlockSides m → Square (length p) w x y (4 * m) → (i c r : ℕ) → i < m * m → Within (x + cellColumn m i) (y + cellRow m i) c r → (j : ℕ) → i < j → j ≤ m * m
       → sampleAt (blocksPainted rule p w x y m cs j) w c r ≡ paintedIn i c r
   unfolding blocksPainted
   blocks-in s t i c r h k zero a b = absurd (omega arith)
@@ -224,22 +244,9 @@ module _ (rule : List ℕ → ℕ → List ℕ) (p : List ℕ) (w x y m : ℕ) (
             subst (λ (z : ℕ). sampleAt (blockPainted (blocksPainted rule p w x y m cs z) w (x + cellColumn m z) (y + cellRow m z) (rule (blocksPainted rule p w x y m cs z) z) cs z) w c r ≡ paintedIn i c r) e
             (one-in (blocksPainted rule p w x y m cs i) w (x + cellColumn m i) (y + cellRow m i) (rule (blocksPainted rule p w x y m cs i) i) cs i c r (due i s t h) k)
         | inr e ↦
-            one-off q w (x + cellColumn m j) (y + cellRow m j) (rule q j) cs j c r (due j s t (omega arith) .columns) (omega (arith, k .right, due i s t h .columns)) (later x y i j s (omega arith) k)
+            one-off q w (x + cellColumn m j) (y + cellRow m j) (rule q j) cs j c r (due j s t (omega arith) .columns) (omega (arith, k .right, due i s t h .columns)) (other x y i j s (λ z. omega arith) k)
             ∙ blocks-in s t i c r h k j (omega arith) (omega arith)
       ]
-
--- ---- a row of four, store by store
-module _ (p : List ℕ) (at : ℕ) (b : List ℕ) (from : ℕ) where
-  abbrev one : List ℕ → ℕ → List ℕ
-  one q n = set q (at + n) (getD b (from + n) 0)
-
-  copied-one : set p at (getD b from 0) ≡ copied p at b from 1
-  copied-one = rw (copied-none p at b from, add-zero, add-zero) at (copied-next p at b from 0)
-
-  pub copied-four : one (one (one (set p at (getD b from 0)) 1) 2) 3 ≡ copied p at b from 4
-  copied-four =
-      ap (λ (q : List ℕ). one (one (one q 1) 2) 3) copied-one ∙ ap (λ (q : List ℕ). one (one q 2) 3) (copied-next p at b from 1)
-      ∙ ap (λ (q : List ℕ). one q 3) (copied-next p at b from 2) ∙ copied-next p at b from 3
 
 -- ---- bytes stay bytes
 summed-bytes : (pred : List ℕ) (res : List ℤ) → Bytes (summedOf pred res)
@@ -249,18 +256,19 @@ summed-bytes pred res k = elim (lt-or k 16) [
   | inr h ↦ rw getD-build-past (omega arith)
 ]
 
-rows-bytes : (p : List ℕ) (w x y : ℕ) (b : List ℕ) (m : ℕ) → Bytes b → Bytes p → Bytes (rowsPainted p w x y b m)
-unfolding rowsPainted
-rows-bytes p w x y b zero h g = g
-rows-bytes p w x y b (suc m) h g =
-    copied-keeps (rowsPainted p w x y b m) ((y + m) * w + x) b (4 * m) 4 (λ (v : ℕ). v < 256) (rows-bytes p w x y b m h g) h
+rows-bytes : (p : List ℕ) (w x y n : ℕ) (f : ℕ → ℕ → ℕ) (m : ℕ) → ((j k : ℕ) → f j k < 256) → Bytes p → Bytes (rowsPlaced p w x y n f m)
+unfolding rowsPlaced
+rows-bytes p w x y n f zero h g = g
+rows-bytes p w x y n f (suc m) h g =
+    placed-keeps (λ (v : ℕ). v < 256) (rowsPlaced p w x y n f m) ((y + m) * w + x) (f m) n 0 (rows-bytes p w x y n f m h g) (h m)
 
 blocks-bytes : (rule : List ℕ → ℕ → List ℕ) (p : List ℕ) (w x y m : ℕ) (cs : List ℤ) (i : ℕ) → Bytes p → Bytes (blocksPainted rule p w x y m cs i)
 unfolding blocksPainted blockPainted
 blocks-bytes rule p w x y m cs zero g = g
 blocks-bytes rule p w x y m cs (suc i) g =
     let q = blocksPainted rule p w x y m cs i in
-    rows-bytes q w (x + cellColumn m i) (y + cellRow m i) (summedOf (rule q i) (blockResidual cs i)) 4 (summed-bytes (rule q i) (blockResidual cs i)) (blocks-bytes rule p w x y m cs i g)
+    subst Bytes (sym (painted-rows q w (x + cellColumn m i) (y + cellRow m i) (summedOf (rule q i) (blockResidual cs i))))
+    (rows-bytes q w (x + cellColumn m i) (y + cellRow m i) 4 _ 4 (λ j k. summed-bytes (rule q i) (blockResidual cs i) (4 * j + k)) (blocks-bytes rule p w x y m cs i g))
 
 -- ---- two planes with the same samples around the square get the same samples in it
 -- they agree at column c of row r wherever P holds of c and r
@@ -361,6 +369,15 @@ module _ (p : List ℕ) (w x y n : ℕ) (small : Bool) (mode : ℕ) (modes : Lis
       → blocksPainted (largeRule (n / 4) mode dc e) p w x y (n / 4) cs (n / 4 * (n / 4)) ≡ squarePainted p w x y n small mode modes cs
   unfolding squarePainted predictionRule
   square-large s f d = rw (s, d, f)
+
+  -- modes that do not count
+  pub small-any : small ≡ true → n ≡ 16 → squarePainted p w x y 16 true 0 modes cs ≡ squarePainted p w x y n small mode modes cs
+  unfolding squarePainted predictionRule
+  small-any e z = rw (e, z)
+
+  pub large-any : small ≡ false → squarePainted p w x y n false mode [] cs ≡ squarePainted p w x y n small mode modes cs
+  unfolding squarePainted predictionRule
+  large-any e = rw e
 
   length-square : length (squarePainted p w x y n small mode modes cs) ≡ length p
   unfolding squarePainted
@@ -473,21 +490,6 @@ square-tiled {n} len w column row s e =
   where
     times-some : (k : ℕ) {n : ℕ} → 0 < n → k ≤ k * n
     times-some k h = let r : k ≤ k = omega arith in omega (arith, mul-le-mul r h, mul-one k)
-
-fits-in : (z : ℤ) → fits16 z ≡ true → In (negsuc 32767) (pos 32767) z
-fits-in z e =
-    let l = leZ (negsuc 32767) z in
-    let h = leZ z (pos 32767) in
-    record { low = true-le (negsuc 32767) z (both-left l h e); high = true-le z (pos 32767) (both-right l h e) }
-
-each-fit : (c : List ℤ) → eachFits c ≡ true → Each (negsuc 32767) (pos 32767) c
-each-fit c e = record { at = go }
-  where
-    go : (k : ℕ) → In (negsuc 32767) (pos 32767) (getD c k (pos 0))
-    go k = elim (lt-or k (length c)) [
-      | inl h ↦ fits-in (getD c k (pos 0)) (all-below (λ (i : ℕ). fits16 (getD c i (pos 0))) (length c) e k h)
-      | inr h ↦ rw (List·getD-eq-default c (pos 0) h) (inside (wider (num (pos 0)) tt))
-    ]
 
 module _ (len w column row n : ℕ) (small : Bool) (mode : ℕ) (modes : List ℕ) (c : List ℤ) where
   pub fine-good : paintFine len w column row n small mode modes c ≡ true → Good len w (column * n) (row * n) n small mode modes c

@@ -2,7 +2,7 @@
 use Prim.Native.Nat.{ℕ, suc, _+_, _-_, _*_, _/_, _%_, _≤_, _<_}
 use mathlib.Core.Bool.{false}
 use mathlib.Core.Logic.{_⊎_, inl, inr}
-use mathlib.Core.Path.{_≡_, refl, sym, subst}
+use mathlib.Core.Path.{_≡_, refl, sym, _∙_, ap, subst}
 use native.Mathlib.Decide.{decLt, ℕ-discrete}
 use native.Mathlib.Nat.{add-mul, one-mul, mul-le-mul-right}
 use native.Mathlib.Omega.{arith}
@@ -10,6 +10,7 @@ use borrow.Author.Tests.{eqb-false}
 use lib.Dec.{eqb}
 use Rattle.numbers.specs.Runs.{Off}
 use Rattle.numbers.specs.Tests.{lt-or}
+use Rattle.planes.specs.declared.edges.Spot.{Spot}
 use Rattle.planes.specs.Predict.{Size}
 use Rattle.planes.specs.Paint.{cellColumn, cellRow}
 
@@ -27,6 +28,20 @@ pub record Reach (len w x y : ℕ) : Type 0 where
   pub rows : y * w ≤ len
   pub wide : w ≤ 16384
   pub high : y ≤ 16384
+
+-- a sub-block, and what is above it, reached from its first sample
+pub record Lies (len w : ℕ) (s : Spot) : Type 0 where
+  pub square : Square len w (s .x) (s .y) 4
+  pub at : s .at ≡ s .y * w + s .x
+
+pub record Over (len w : ℕ) (s : Spot) : Type 0 where
+  pub reach : Reach len w (s .x + 4) (s .y)
+  pub at : s .at ≡ s .y * w + s .x
+
+-- four rows of four samples from the place `at` on
+pub record Block (len w at : ℕ) : Type 0 where
+  pub inside : at + 3 * w + 4 ≤ len
+  pub wide : w ≤ 16384
 
 -- column c of row r lies outside the square
 abbrev pub Outside : (x y n c r : ℕ) → Type 0
@@ -60,6 +75,27 @@ reach-at {len} {w} {x} {y} r p q = omega (arith, run-inside {y = y - 1} {h = y} 
 pub reach-run : {len w y : ℕ} (x n : ℕ) → Reach len w (x + n) y → 0 < y → (y - 1) * w + x + n ≤ len
 reach-run {len} {w} {y} x n r q = run-inside {y = y - 1} {h = y} x n (omega arith) (r .column) (r .rows)
 
+-- from a sample to the one above it
+pub up-row : (y w x : ℕ) → 0 < y → y * w + x ≡ w + ((y - 1) * w + x)
+up-row y w x h = let e : y ≡ y - 1 + 1 = omega arith in ap (λ (k : ℕ). k * w + x) e ∙ omega (arith, add-mul (y - 1) 1 w, one-mul w)
+
+-- from a sub-block to what is above it, and to its rows
+pub lies-over : {len w : ℕ} {s : Spot} → Lies len w s → Over len w s
+lies-over l = record { reach = reach-above (l .square) (l .square .columns); at = l .at }
+
+pub lies-block : {len w : ℕ} {s : Spot} → Lies len w s → Block len w (s .at)
+lies-block {len} {w} {s} l = record { inside = omega (arith, l .at, l .square .columns, l .square .rows, add-mul (s .y) 4 w); wide = l .square .wide }
+
+-- where those samples lie
+pub above-at : {len w : ℕ} (s : Spot) → Over len w s → 0 < s .y → (w ≤ s .at) × (s .at - w ≡ (s .y - 1) * w + s .x) × (s .at - w + 4 ≤ len)
+above-at {len} {w} s o h =
+    let e = o .at ∙ up-row (s .y) w (s .x) h in
+    let i : s .at - w ≡ (s .y - 1) * w + s .x = omega arith in
+    (omega arith, i, rw i (reach-run (s .x) 4 (o .reach) h))
+
+pub left-at : {len w : ℕ} (s : Spot) → Lies len w s → 0 < s .x → (j : ℕ) → s .at - 1 + j * w ≡ (s .y + j) * w + (s .x - 1)
+left-at {len} {w} s l h j = omega (arith, l .at, add-mul (s .y) j w)
+
 -- a place of another row, or of the same row and another column, is off n samples of row q from column x on
 pub apart : (q r w x n c : ℕ) → c < w → x + n ≤ w → Off x n c ⊎ Off q 1 r → Off (q * w + x) n (r * w + c)
 apart q r w x n c h l (inr (inl a)) = inl (omega (arith, next-row r q w a))
@@ -91,6 +127,12 @@ pub record Cell (m i column row : ℕ) : Type 0 where
   pub inside : column + 4 ≤ 4 * m
   pub above : row + 4 ≤ 4 * m
 
+-- sub-block i of a square of m by m at column x, row y
+pub record Sub (w x y m i : ℕ) (s : Spot) : Type 0 where
+  pub across : s .x ≡ x + cellColumn m i
+  pub down : s .y ≡ y + cellRow m i
+  pub at : s .at ≡ s .y * w + s .x
+
 -- what holds of both holds of each
 pub by-sides : (P : ℕ → Type 0) → P 2 → P 4 → {m : ℕ} → BlockSides m → P m
 by-sides P a b (inl e) = subst P (sym e) a
@@ -107,6 +149,11 @@ cell {m} {i} s =
     by-sides (λ (m : ℕ). i < m * m → Cell m i (cellColumn m i) (cellRow m i))
     (λ h. record { across = refl; down = refl; inside = omega arith; above = omega arith })
     (λ h. record { across = refl; down = refl; inside = omega arith; above = omega arith }) s
+
+pub sub-lies : {len w x y m i : ℕ} {s : Spot} → BlockSides m → i < m * m → Square len w x y (4 * m) → Sub w x y m i s → Lies len w s
+sub-lies {len} {w} {x} {y} {m} {i} b h t a =
+    let c = cell b h in
+    record { square = rw (a .across, a .down) (sub-square t (cellColumn m i) (cellRow m i) 4 (c .inside) (c .above)); at = a .at }
 
 -- a sub-block that is not in the last column has one right of it
 pub not-last : (i : ℕ) → eqb (i % 4) 3 ≡ false → cellColumn 4 i + 8 ≤ 16
@@ -194,23 +241,80 @@ stood {x} {y} {m} {i} {c} {r} s l (before h k q) = elim (next-cell i s) [ inl n 
     below : Below m i → (Stands x y m i c r × Outside (x + cellColumn m i) (y + cellRow m i) 4 c r) ⊎ Within (x + cellColumn m i) (y + cellRow m i) c r
     below n = inl (beside h (omega (arith, n .across)), inl (inl (omega (arith, n .across))))
 
--- a place in sub-block i lies outside those after it
-pub later : {m c r : ℕ} (x y i j : ℕ) → BlockSides m → i < j → Within (x + cellColumn m i) (y + cellRow m i) c r → Outside (x + cellColumn m j) (y + cellRow m j) 4 c r
-later {m} {c} {r} x y i j s h k = go (by-sides Apart two four s)
+-- a place in sub-block i lies outside the others
+pub other : {m c r : ℕ} (x y i j : ℕ) → BlockSides m → (i ≡ j → ⊥) → Within (x + cellColumn m i) (y + cellRow m i) c r → Outside (x + cellColumn m j) (y + cellRow m j) 4 c r
+other {m} {c} {r} x y i j s h k = go (by-sides Apart two four s)
   where
     Apart : ℕ → Type 0
-    Apart m = (i % m < j % m) ⊎ ((j % m < i % m) ⊎ (i / m < j / m))
+    Apart m = (i % m < j % m) ⊎ ((j % m < i % m) ⊎ ((i / m < j / m) ⊎ (j / m < i / m)))
 
     two : Apart 2
-    two = elim (lt-or (i % 2) (j % 2)) [ inl a ↦ inl a | inr a ↦ elim (lt-or (j % 2) (i % 2)) [ inl b ↦ inr (inl b) | inr b ↦ inr (inr (omega arith)) ] ]
+    two = elim (lt-or (i % 2) (j % 2)) [
+      | inl a ↦ inl a
+      | inr a ↦ elim (lt-or (j % 2) (i % 2)) [ inl b ↦ inr (inl b) | inr b ↦ inr (inr (elim (lt-or (i / 2) (j / 2)) [ inl d ↦ inl d | inr d ↦ inr (omega arith) ])) ]
+    ]
 
     four : Apart 4
-    four = elim (lt-or (i % 4) (j % 4)) [ inl a ↦ inl a | inr a ↦ elim (lt-or (j % 4) (i % 4)) [ inl b ↦ inr (inl b) | inr b ↦ inr (inr (omega arith)) ] ]
+    four = elim (lt-or (i % 4) (j % 4)) [
+      | inl a ↦ inl a
+      | inr a ↦ elim (lt-or (j % 4) (i % 4)) [ inl b ↦ inr (inl b) | inr b ↦ inr (inr (elim (lt-or (i / 4) (j / 4)) [ inl d ↦ inl d | inr d ↦ inr (omega arith) ])) ]
+    ]
 
     go : Apart m → Outside (x + cellColumn m j) (y + cellRow m j) 4 c r
     go (inl a) = inl (inl (omega (arith, k .right)))
     go (inr (inl a)) = inl (inr (omega (arith, k .left)))
-    go (inr (inr a)) = inr (inl (omega (arith, k .bottom)))
+    go (inr (inr (inl a))) = inr (inl (omega (arith, k .bottom)))
+    go (inr (inr (inr a))) = inr (inr (omega (arith, k .top)))
+
+-- a place lies in a sub-block of four by four or outside it, and in a square of them in one of them or outside all
+pub within-or : (x y c r : ℕ) → Within x y c r ⊎ Outside x y 4 c r
+within-or x y c r = elim (lt-or c x) [
+  | inl a ↦ inr (inl (inl a))
+  | inr a ↦ elim (lt-or c (x + 4)) [
+    | inr b ↦ inr (inl (inr b))
+    | inl b ↦ elim (lt-or r y) [
+      | inl d ↦ inr (inr (inl d))
+      | inr d ↦ elim (lt-or r (y + 4)) [ inr e ↦ inr (inr (inr e)) | inl e ↦ inl (record { left = a; right = b; top = d; bottom = e }) ]
+    ]
+  ]
+]
+
+pub record Covered (x y m c r : ℕ) : Type 0 where
+  pub block : ℕ
+  pub among : block < m * m
+  pub within : Within (x + cellColumn m block) (y + cellRow m block) c r
+
+pub covered : {m : ℕ} (x y c r : ℕ) → BlockSides m → Covered x y m c r ⊎ Outside x y (4 * m) c r
+covered x y c r s = by-sides (λ (m : ℕ). Covered x y m c r ⊎ Outside x y (4 * m) c r) (go 2 two) (go 4 four) s
+  where
+    Inside : ℕ → Type 0
+    Inside m = x ≤ c → c < x + 4 * m → y ≤ r → r < y + 4 * m → Covered x y m c r
+
+    go : (m : ℕ) → Inside m → Covered x y m c r ⊎ Outside x y (4 * m) c r
+    go m f = elim (lt-or c x) [
+      | inl a ↦ inr (inl (inl a))
+      | inr a ↦ elim (lt-or c (x + 4 * m)) [
+        | inr b ↦ inr (inl (inr b))
+        | inl b ↦ elim (lt-or r y) [
+          | inl d ↦ inr (inr (inl d))
+          | inr d ↦ elim (lt-or r (y + 4 * m)) [ inr e ↦ inr (inr (inr e)) | inl e ↦ inl (f a b d e) ]
+        ]
+      ]
+    ]
+
+    two : Inside 2
+    two a b d e = record {
+      block = (r - y) / 4 * 2 + (c - x) / 4;
+      among = omega arith;
+      within = record { left = omega arith; right = omega arith; top = omega arith; bottom = omega arith };
+    }
+
+    four : Inside 4
+    four a b d e = record {
+      block = (r - y) / 4 * 4 + (c - x) / 4;
+      among = omega arith;
+      within = record { left = omega arith; right = omega arith; top = omega arith; bottom = omega arith };
+    }
 
 -- ---- sizes
 pub by-size : (P : ℕ → Type 0) → P 8 → P 16 → {n : ℕ} → Size n → P n

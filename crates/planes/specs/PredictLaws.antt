@@ -1,7 +1,7 @@
 -- What callers and proofs cite of the prediction: facts of the width, the mean of DC, TM row by row, a sub-block of a square from four samples
 -- of each side, and that each answer is sixteen bytes.
 use Prim.Native.Nat.{ℕ, zero, suc, _+_, _*_, _/_, _%_, _≤_, _<_}
-use mathlib.Core.Path.{_≡_, refl, sym, ap, ap₂, subst, _∙_}
+use mathlib.Core.Path.{_≡_, refl, sym, ap, subst, _∙_}
 use mathlib.Core.Logic.{_⊎_, inl, inr, ⊎-elim}
 use mathlib.Core.Bool.{Bool, true, false}
 use mathlib.Core.List.{List, [], _∷_}
@@ -12,7 +12,7 @@ use lib.IntN.{ℤ, pos, _+ℤ_, _-ℤ_}
 use lib.ListN.{length, getD, replicate}
 use Rattle.numbers.specs.Clamp.{clipZ}
 use Rattle.numbers.specs.ClampLaws.{upTo-le}
-use Rattle.numbers.specs.Lists.{build, listed, build-listed, length-build, getD-build, build-same, build-constant}
+use Rattle.numbers.specs.Lists.{build, listed, build-listed, length-build}
 use Rattle.planes.specs.declared.predict.Edge.{Edge}
 use Rattle.planes.specs.Predict.{Size, at, mean2, mean3, dcBlock, tmBlock, veBlock, heBlock, rdBlock, vrBlock, ldBlock, vlBlock, hdBlock, huBlock, smallBlocks, smallBlock, sumOfFirst, meanOf, dcOf, largeAt, largeOf}
 
@@ -95,32 +95,6 @@ pub tm-edge : (e : List ℕ)
 unfolding tmOf tmBlock
 tm-edge e = build-listed 16 _ ∙ sym (build-listed 16 _)
 
--- ---- a sub-block of a square, from four samples of each side
-module _ (dc : ℕ) (e : Edge) (r c : ℕ) where
-  abbrev left : List ℕ
-  left = build 4 (λ j. getD (e .left) (r + j) 0)
-
-  abbrev above : List ℕ
-  above = build 4 (λ j. getD (e .above) (c + j) 0)
-
-  pub large-mean : replicate 16 dc ≡ largeOf 0 dc e r c
-  unfolding largeOf
-  large-mean = sym (build-constant 16 dc)
-
-  pub large-tm : tmOf left above (e .corner) ≡ largeOf 1 dc e r c
-  unfolding largeOf tmOf
-  large-tm =
-      build-same 16 _ _
-      (λ k h. ap₂ (λ (l a : ℕ). tmOne l a (e .corner)) (getD-build 4 _ (k / 4) 0 (omega arith)) (getD-build 4 _ (k % 4) 0 (omega arith)))
-
-  pub large-columns : build 16 (λ k. getD above (k % 4) 0) ≡ largeOf 2 dc e r c
-  unfolding largeOf
-  large-columns = build-same 16 _ _ (λ k h. getD-build 4 _ (k % 4) 0 (omega arith))
-
-  pub large-rows : build 16 (λ k. getD left (k / 4) 0) ≡ largeOf 3 dc e r c
-  unfolding largeOf
-  large-rows = build-same 16 _ _ (λ k h. getD-build 4 _ (k / 4) 0 (omega arith))
-
 -- ---- bytes
 -- n numbers, each a byte; past the end `getD` gives 0, so no index has to be within the list
 pub record Bytes (n : ℕ) (l : List ℕ) : Type 0 where
@@ -180,6 +154,14 @@ mean-byte p h = div-lt-iff-lt-mul p .1 (omega arith)
 
 ruleset means = (mean2-byte, mean3-byte)
 
+-- ---- a sub-block is sixteen
+ten-long : (e : List ℕ) → Every (λ (l : List ℕ). length l ≡ 16) (smallBlocks e)
+unfolding dcBlock tmBlock veBlock heBlock rdBlock vrBlock ldBlock vlBlock hdBlock huBlock
+ten-long e = refl & length-build 16 _ & refl & refl & refl & refl & refl & refl & refl & refl & tt
+
+pub small-long : (mode : ℕ) (e : List ℕ) → mode < 10 → length (smallBlock mode e) ≡ 16
+small-long mode e h = every-at (λ (l : List ℕ). length l ≡ 16) (smallBlocks e) [] (ten-long e) mode h
+
 -- ---- a sub-block of bytes
 module _ {n : ℕ} {e : List ℕ} (b : Bytes n e) where
   dc-each : Every Byte (dcBlock e)
@@ -197,13 +179,9 @@ module _ {n : ℕ} {e : List ℕ} (b : Bytes n e) where
       dc-each & tm-each & (search (means, b .byte)) & (search (means, b .byte)) & (search (means, b .byte)) & (search (means, b .byte))
       & (search (means, b .byte)) & (search (means, b .byte)) & (search (means, b .byte)) & (search (means, b .byte)) & tt
 
-  ten-long : Every (λ (l : List ℕ). length l ≡ 16) (smallBlocks e)
-  unfolding dcBlock tmBlock veBlock heBlock rdBlock vrBlock ldBlock vlBlock hdBlock huBlock
-  ten-long = refl & length-build 16 _ & refl & refl & refl & refl & refl & refl & refl & refl & tt
-
   pub small-bytes : (mode : ℕ) → mode < 10 → Bytes 16 (smallBlock mode e)
   small-bytes mode h = record {
-    long = every-at (λ (l : List ℕ). length l ≡ 16) (smallBlocks e) [] ten-long mode h;
+    long = small-long mode e h;
     byte = any-byte (smallBlock mode e) (every-at (Every Byte) (smallBlocks e) [] ten-bytes mode h);
   }
 

@@ -1,8 +1,9 @@
 // Whether the arguments of the public call lie in their ranges. Nothing is multiplied before it is known to be small.
 ghost use mathlib.Core.Path.{_≡_};
+ghost use lib.Dec.{eqb};
 ghost use Prim.Native.Nat.{_*_, _≤_};
 ghost use Rattle.planes.specs.Predict.{Size};
-ghost use Rattle.planes.specs.Paint.{modesBelow, eachFits, paintModesFine, squareFine, coefficientsFine};
+ghost use Rattle.planes.specs.Paint.{modesBelow, paintModesFine, squareFine};
 
 fn each_below(modes: &[u8; 16], limit: u8) -> bool
     ensures { λ r. ⌜ r ≡ modesBelow limit (now (modes .entry)) ⌝ }
@@ -10,17 +11,6 @@ fn each_below(modes: &[u8; 16], limit: u8) -> bool
     let mut fine = true;
     for k in 0..16usize {
         fine = (modes[k] < limit) & fine;
-    }
-    fine
-}
-
-fn each_fits(c: &[i32]) -> bool
-    ensures { λ r. ⌜ r ≡ eachFits (now (c .entry)) ⌝ }
-{
-    let mut fine = true;
-    for k in 0..c.len() {
-        let x = c[k];
-        fine = (-32768 <= x) & (x <= 32767) & fine;
     }
     fine
 }
@@ -54,11 +44,12 @@ pub(crate) fn square_fine(len: usize, stride: usize, column: usize, row: usize, 
         & (row < rows / size)
 }
 
-pub(crate) fn coefficients_fine(size: usize, c: &[i32]) -> bool
+// How many coefficients there are.
+pub(crate) fn length_fine(size: usize, len: usize) -> bool
     requires { ⌜ Size size ⌝ }
-    ensures { λ r. ⌜ r ≡ coefficientsFine size (now (c .entry)) ⌝ }
+    ensures { λ r. ⌜ r ≡ eqb len (size * size) ⌝ }
 {
-    (c.len() == size * size) & each_fits(c)
+    len == size * size
 }
 
 // Where the kth square of a row or a column begins.

@@ -7,7 +7,12 @@ ghost use Prim.Native.Nat.{_+_, _*_, _<_, _≤_};
 ghost use lib.ListN.{length};
 ghost use Rattle.planes.specs.Paint.{nearOf, fourAbove, fourLeft, firstAbove, firstLeft, edgeOf};
 ghost use Rattle.planes.specs.Paint.{aboveRight, aroundOf, blockAboveRight};
-ghost use Rattle.planes.specs.Places.{Square, Reach};
+ghost use Rattle.planes.specs.Places.{Square, Reach, Lies, Over};
+
+// What lies above the plane, the corner too, and left of it.
+const ABOVE: u8 = 127;
+
+const LEFT: u8 = 129;
 
 // Where column x of row y lies, in rows of w samples.
 pub(crate) fn place(y: usize, w: usize, x: usize) -> usize
@@ -23,40 +28,56 @@ fn near(p: &[u8], w: usize, x: usize, y: usize) -> u8
     ensures { λ r. ⌜ r ≡ nearOf (now (p .entry)) w x y ⌝ }
 {
     if y == 0 {
-        return 127;
+        return ABOVE;
     }
     if x == 0 {
-        return 129;
+        return LEFT;
     }
     p[place(y - 1, w, x - 1)]
 }
 
-// The four samples above columns x .. x + 3 of row y.
-fn four_above(p: &[u8], w: usize, x: usize, y: usize) -> [u8; 4]
-    requires { ⌜ Reach (length (now p)) w (x + 4) y ⌝ }
-    ensures { λ r. ⌜ r ≡ fourAbove (now (p .entry)) w x y ⌝ }
+// A sub-block by its column, its row and the place of its first sample.
+pub(crate) struct Spot {
+    pub x: usize,
+    pub y: usize,
+    pub at: usize,
+}
+
+// The corner of a sub-block, the four samples above it, and the four to its left. All are reached from its first sample.
+fn corner(p: &[u8], w: usize, s: Spot) -> u8
+    requires { ⌜ Lies (length (now p)) w s ⌝ }
+    ensures { λ r. ⌜ r ≡ nearOf (now (p .entry)) w (s .x) (s .y) ⌝ }
 {
-    if y == 0 {
-        return [127; 4];
+    if s.y == 0 {
+        return ABOVE;
     }
-    let at = place(y - 1, w, x);
+    if s.x == 0 {
+        return LEFT;
+    }
+    let at = s.at - w - 1;
+    p[at]
+}
+
+fn four_above(p: &[u8], w: usize, s: Spot) -> [u8; 4]
+    requires { ⌜ Over (length (now p)) w s ⌝ }
+    ensures { λ r. ⌜ r ≡ fourAbove (now (p .entry)) w (s .x) (s .y) ⌝ }
+{
+    if s.y == 0 {
+        return [ABOVE; 4];
+    }
+    let at = s.at - w;
     [p[at], p[at + 1], p[at + 2], p[at + 3]]
 }
 
-// The four samples left of column x in rows y .. y + 3.
-fn four_left(p: &[u8], w: usize, x: usize, y: usize) -> [u8; 4]
-    requires { ⌜ Reach (length (now p)) w x (y + 4) ⌝ }
-    ensures { λ r. ⌜ r ≡ fourLeft (now (p .entry)) w x y ⌝ }
+fn four_left(p: &[u8], w: usize, s: Spot) -> [u8; 4]
+    requires { ⌜ Lies (length (now p)) w s ⌝ }
+    ensures { λ r. ⌜ r ≡ fourLeft (now (p .entry)) w (s .x) (s .y) ⌝ }
 {
-    if x == 0 {
-        return [129; 4];
+    if s.x == 0 {
+        return [LEFT; 4];
     }
-    [
-        p[place(y, w, x - 1)],
-        p[place(y + 1, w, x - 1)],
-        p[place(y + 2, w, x - 1)],
-        p[place(y + 3, w, x - 1)],
-    ]
+    let at = s.at - 1;
+    [p[at], p[at + w], p[at + 2 * w], p[at + 3 * w]]
 }
 
 // The row above a square, and the column left of it.
@@ -111,31 +132,41 @@ pub(crate) fn above_right(p: &[u8], w: usize, x: usize, y: usize) -> [u8; 4]
     if x + 16 == w {
         return [near(p, w, w, y); 4];
     }
-    four_above(p, w, x + 16, y)
+    let s = Spot {
+        x: x + 16,
+        y: y,
+        at: place(y, w, x + 16),
+    };
+    four_above(p, w, s)
 }
 
 // The four samples above and right of a sub-block: those of the macroblock for its last column.
-fn block_above_right(p: &[u8], w: usize, x: usize, y: usize, last: bool, right: [u8; 4]) -> [u8; 4]
-    requires { ⌜ Square (length (now p)) w x y 4 ⌝ }
-    requires { ⌜ (last ≡ false → x + 8 ≤ w) ⌝ }
-    ensures { λ r. ⌜ r ≡ blockAboveRight (now (p .entry)) w x y last right ⌝ }
+fn block_above_right(p: &[u8], w: usize, s: Spot, last: bool, right: [u8; 4]) -> [u8; 4]
+    requires { ⌜ Lies (length (now p)) w s ⌝ }
+    requires { ⌜ (last ≡ false → s .x + 8 ≤ w) ⌝ }
+    ensures { λ r. ⌜ r ≡ blockAboveRight (now (p .entry)) w (s .x) (s .y) last right ⌝ }
 {
     if last {
         return right;
     }
-    four_above(p, w, x + 4, y)
+    let next = Spot {
+        x: s.x + 4,
+        y: s.y,
+        at: s.at + 4,
+    };
+    four_above(p, w, next)
 }
 
 // The thirteen samples around a sub-block.
-pub(crate) fn around(p: &[u8], w: usize, x: usize, y: usize, last: bool, right: [u8; 4]) -> [u8; 13]
-    requires { ⌜ Square (length (now p)) w x y 4 ⌝ }
-    requires { ⌜ (last ≡ false → x + 8 ≤ w) ⌝ }
-    ensures { λ r. ⌜ r ≡ aroundOf (now (p .entry)) w x y (blockAboveRight (now (p .entry)) w x y last right) ⌝ }
+pub(crate) fn around(p: &[u8], w: usize, s: Spot, last: bool, right: [u8; 4]) -> [u8; 13]
+    requires { ⌜ Lies (length (now p)) w s ⌝ }
+    requires { ⌜ (last ≡ false → s .x + 8 ≤ w) ⌝ }
+    ensures { λ r. ⌜ r ≡ aroundOf (now (p .entry)) w (s .x) (s .y) (blockAboveRight (now (p .entry)) w (s .x) (s .y) last right) ⌝ }
 {
-    let l = four_left(p, w, x, y);
-    let c = near(p, w, x, y);
-    let a = four_above(p, w, x, y);
-    let r = block_above_right(p, w, x, y, last, right);
+    let l = four_left(p, w, s);
+    let c = corner(p, w, s);
+    let a = four_above(p, w, s);
+    let r = block_above_right(p, w, s, last, right);
     [
         l[3],
         l[2],

@@ -1,11 +1,14 @@
 // Planes of samples: the prediction of a macroblock's square, its residual added, and both painted (RFC 6386, sections 12 and 14.5).
 // A plane is lent: the sample at column x of row y is element y * stride + x.
+mod add;
 mod blocks;
 mod checks;
 mod edges;
 mod predict;
+mod put;
 
 use numbers::Checked;
+use transform::lanes::residuals;
 ghost use mathlib.Core.Path.{_≡_};
 ghost use Rattle.planes.specs.Paint.{paintOf};
 
@@ -32,21 +35,30 @@ pub fn paint(
     if !checks::square_fine(plane.len(), stride, column, row, size) {
         return Checked::Refused;
     }
-    if !checks::coefficients_fine(size, coefficients) {
+    if !checks::length_fine(size, coefficients.len()) {
+        return Checked::Refused;
+    }
+    let coded = blocks::coded_blocks(coefficients, coefficients.len() / 16);
+    let mut values = blocks::no_values();
+    if !residuals(coefficients, coded, &mut values) {
         return Checked::Refused;
     }
     let x = checks::scaled(column, size);
     let y = checks::scaled(row, size);
-    blocks::square(
-        &mut plane[..],
-        stride,
-        x,
-        y,
-        size,
-        small,
-        mode,
-        modes,
-        coefficients,
-    );
+    if small {
+        blocks::small_square(plane, stride, x, y, modes, coded, &values, coefficients);
+    } else {
+        blocks::large_square(
+            plane,
+            stride,
+            x,
+            y,
+            size,
+            mode,
+            coded,
+            &values,
+            coefficients,
+        );
+    }
     Checked::Done
 }

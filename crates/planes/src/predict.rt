@@ -1,10 +1,10 @@
 // Prediction of a block from the samples around it (RFC 6386, sections 12.2 and 12.3).
-use numbers::clip;
+use crate::add::clipped;
 ghost use mathlib.Core.Path.{_≡_};
-ghost use Prim.Native.Nat.{_<_, _≤_, _+_, _*_, _/_, _%_};
+ghost use Prim.Native.Nat.{_<_, _≤_, _+_, _*_, _/_};
 ghost use lib.ListN.{getD};
 ghost use Rattle.numbers.specs.Lists.{build};
-ghost use Rattle.planes.specs.Predict.{Size, at, mean2, mean3, two, three, smallBlock, sumOfFirst, dcOf, largeOf};
+ghost use Rattle.planes.specs.Predict.{Size, at, mean2, mean3, two, three, smallBlock, sumOfFirst, dcOf};
 ghost use Rattle.planes.specs.Predict.{dcBlock, tmBlock, veBlock, heBlock, rdBlock, vrBlock, ldBlock, vlBlock, hdBlock, huBlock};
 ghost use Rattle.planes.specs.PredictLaws.{Count, meanOver, joinedOf, tmOne, tmRow, tmOf};
 
@@ -90,33 +90,11 @@ fn joined(w: [u8; 4], x: [u8; 4], y: [u8; 4], z: [u8; 4]) -> [u8; 16]
     ]
 }
 
-// Each row is a.
-fn columns(a: [u8; 4]) -> [u8; 16]
-    ensures { λ r. ⌜ r ≡ build 16 (λ k. getD a (k % 4) 0) ⌝ }
-{
-    let w = a[0];
-    let x = a[1];
-    let y = a[2];
-    let z = a[3];
-    [w, x, y, z, w, x, y, z, w, x, y, z, w, x, y, z]
-}
-
-// Each column is l.
-fn rows(l: [u8; 4]) -> [u8; 16]
-    ensures { λ r. ⌜ r ≡ build 16 (λ k. getD l (k / 4) 0) ⌝ }
-{
-    let w = l[0];
-    let x = l[1];
-    let y = l[2];
-    let z = l[3];
-    [w, w, w, w, x, x, x, x, y, y, y, y, z, z, z, z]
-}
-
 // TM: the sample on the left, moved by what the one above differs from the corner.
 fn tm_sample(l: u8, a: u8, corner: u8) -> u8
     ensures { λ r. ⌜ r ≡ tmOne l a corner ⌝ }
 {
-    clip(l as i32 + a as i32 - corner as i32)
+    clipped(l as i32 + a as i32 - corner as i32)
 }
 
 // The same for a row with l on its left and a above it, and for a block of four rows.
@@ -364,25 +342,13 @@ pub(crate) fn large_dc(size: usize, e: Edge) -> u8
     }
 }
 
-// Four samples from place i.
-fn four(l: [u8; 16], i: usize) -> [u8; 4]
-    requires { ⌜ i ≤ 12 ⌝ }
-    ensures { λ r. ⌜ r ≡ build 4 (λ j. getD l (i + j) 0) ⌝ }
+// A row of a square in TM, with l on its left and a above it.
+pub(crate) fn tm_wide(l: u8, a: [u8; 16], corner: u8) -> [u8; 16]
+    ensures { λ r. ⌜ r ≡ build 16 (λ k. tmOne l (getD a k 0) corner) ⌝ }
 {
-    [l[i], l[i + 1], l[i + 2], l[i + 3]]
-}
-
-// The sixteen samples of the sub-block at row r, column c of a square in a large mode.
-pub(crate) fn large_block(mode: u8, dc: u8, e: Edge, r: usize, c: usize) -> [u8; 16]
-    requires { ⌜ (mode < 4) × (r ≤ 12) × (c ≤ 12) ⌝ }
-    ensures { λ q. ⌜ q ≡ largeOf mode dc e r c ⌝ }
-{
-    let above = e.above;
-    let left = e.left;
-    match mode {
-        0 => [dc; 16],
-        1 => tm_samples(four(left, r), four(above, c), e.corner),
-        2 => columns(four(above, c)),
-        _ => rows(four(left, r)),
+    let mut b = [0u8; 16];
+    for k in 0..16usize {
+        b[k] = tm_sample(l, a[k], corner);
     }
+    b
 }

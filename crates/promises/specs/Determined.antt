@@ -22,6 +22,7 @@ use Rattle.header.specs.Quantizers.{quantizersOf}
 use Rattle.header.specs.declared.quantizers.Factors.{Factors}
 use Rattle.coefficients.specs.Block as Tokens
 use Rattle.coefficients.specs.Block.{numberAnswer, signedAnswer, tableOf}
+use Rattle.transform.specs.Lanes.{residualsOf}
 use Rattle.transform.specs.Transform.{transformOf}
 use Rattle.filter.specs.declared.answers.Rule.{Rule}
 use Rattle.filter.specs.Kernel.{samplesAcross, ruleOf, stepsOf, movedOf, filterOf, pixelOf}
@@ -233,6 +234,10 @@ coefficients-decode-header-reads s r h kind ctx first q0 q1 out = determined (To
 -- transform::transform
 pub transform-transform : (c : List ℤ) (walsh : Bool) → One (λ o. o ≡ transformOf c walsh)
 transform-transform c walsh = determined (transformOf c walsh)
+
+-- transform::lanes::residuals
+pub transform-residuals : (c : List ℤ) (coded : List Bool) (values : List ℤ) → One (λ o. o ≡ residualsOf c coded values)
+transform-residuals c coded values = determined (residualsOf c coded values)
 
 -- ---- filter
 -- filter::filter

@@ -3,3 +3,6 @@ pub mod Transform
 pub mod TransformBounds
 pub mod TransformLaws
 pub mod TransformSource
+-- several blocks at once
+pub mod Lanes
+pub mod LanesLaws

@@ -1,17 +1,16 @@
 -- What callers cite of the inverse transforms.
-use mathlib.Core.Path.{_≡_, refl, sym, ap, ap₂, _∙_}
+use mathlib.Core.Path.{_≡_, refl, sym}
 use mathlib.Core.Bool.{Bool, true, false, _&&_}
 use mathlib.Core.List.{List, [], _∷_}
 use mathlib.Core.Logic.{inl, inr}
 use Prim.Native.Nat.{ℕ, zero, suc, _+_, _*_, _/_, _%_, _<_}
 use native.Mathlib.Omega.{arith}
-use native.Mathlib.Nat.{div-add-mod, add-mul, mul-assoc}
 use lib.Dec.{T, ltb, lit<}
 use lib.IntN.{ℤ, pos, negsuc, _+ℤ_, _*ℤ_, +ℤ-idr}
 use lib.ListN.{length, replicate}
-use lib.Signed.{_≤ℤ_, leZ, shrZ, quotZ, remZ}
+use lib.Signed.{leZ, shrZ}
 use Rattle.numbers.specs.In.{In, Each, Each2}
-use Rattle.numbers.specs.Parts.{up, dn, of-le, le-true, true-le, add-parts, up-times, dn-times, shr-parts}
+use Rattle.numbers.specs.Parts.{of-le, le-true, true-le, add-parts, up-times, dn-times, shr-parts}
 use Rattle.numbers.specs.Floor.{floor-is}
 use Rattle.numbers.specs.Bounds.{each-[], each-∷, each2-[], each2-∷}
 use Rattle.numbers.specs.Lists.{build, build-listed, length-build, getD-build, getD-build-past, getD-constant, _∷≡_}
@@ -22,28 +21,38 @@ use Rattle.transform.specs.declared.Transformed.{Transformed}
 use Rattle.transform.specs.Transform.{Grid, at, cell, four, gridRow, gridOf, transposeOf, scaledOf, passOf, rowsOf, verticalPass, biasOf, horizontalPass, resultOf, resultsOf, samplesOf, fits16, blockFits, transformOf}
 use Rattle.transform.specs.TransformBounds.{numeral-in, vertical-in, horizontal-in, result-in}
 
--- ---- the scaled product
--- a multiplier taken apart into fours and a rest: a quarter of the rest's product, rounded down, is all that the quotient needs of it
-pub scaled-apart : (k x : ℤ) → pos 0 ≤ℤ k → shrZ (quotZ k (pos 4) *ℤ x +ℤ shrZ (remZ k (pos 4) *ℤ x) 4) 16384 ≡ scaledOf k x
+-- ---- the scaled products
+pub by-fours : (x : ℤ) → shrZ (pos 8867 *ℤ x) 16384 ≡ scaledOf (pos 35468) x
 unfolding scaledOf
-scaled-apart (negsuc n) x h = absurd (h .le)
-scaled-apart (pos n) x h =
-    let fours = pos (n / 4) *ℤ x in
-    let rest = pos (n % 4) *ℤ x in
-    let low = shrZ rest 4 in
-    let q = shrZ (fours +ℤ low) 16384 in
-    let a = shr-parts 4 rest (lit< tt) in
-    let b = shr-parts 16384 (fours +ℤ low) (lit< tt) in
-    let s = add-parts fours low in
+by-fours x =
+    let q = shrZ (pos 8867 *ℤ x) 16384 in
+    let a = shr-parts 16384 (pos 8867 *ℤ x) (lit< tt) in
     let m = add-parts (pos 65536 *ℤ q) (pos 65535) in
-    let i : up (pos n *ℤ x) ≡ 4 * up fours + up rest = up-times n x ∙ whole (up x) ∙ ap₂ (λ (y z : ℕ). 4 * y + z) (sym (up-times (n / 4) x)) (sym (up-times (n % 4) x)) in
-    let j : dn (pos n *ℤ x) ≡ 4 * dn fours + dn rest = dn-times n x ∙ whole (dn x) ∙ ap₂ (λ (y z : ℕ). 4 * y + z) (sym (dn-times (n / 4) x)) (sym (dn-times (n % 4) x)) in
+    let u1 = up-times 8867 x in
+    let d1 = dn-times 8867 x in
+    let u2 = up-times 35468 x in
+    let d2 = dn-times 35468 x in
     let u = up-times 65536 q in
     let d = dn-times 65536 q in
-    sym (floor-is 65536 {z = pos n *ℤ x} {q = q} (lit< tt) (record { low = of-le (omega arith); high = of-le (omega arith) }))
-  where
-    whole : (y : ℕ) → n * y ≡ 4 * (n / 4 * y) + n % 4 * y
-    whole y = ap (λ (z : ℕ). z * y) (sym (div-add-mod n 4)) ∙ add-mul (4 * (n / 4)) (n % 4) y ∙ ap (λ (z : ℕ). z + n % 4 * y) (mul-assoc 4 (n / 4) y)
+    sym (floor-is 65536 {z = pos 35468 *ℤ x} {q = q} (lit< tt) (record { low = of-le (omega arith); high = of-le (omega arith) }))
+
+pub by-halves : (x : ℤ) → shrZ (pos 10045 *ℤ x +ℤ shrZ x 2) 32768 ≡ scaledOf (pos 20091) x
+unfolding scaledOf
+by-halves x =
+    let h = shrZ x 2 in
+    let t = pos 10045 *ℤ x in
+    let q = shrZ (t +ℤ h) 32768 in
+    let a = shr-parts 2 x (lit< tt) in
+    let b = shr-parts 32768 (t +ℤ h) (lit< tt) in
+    let s = add-parts t h in
+    let m = add-parts (pos 65536 *ℤ q) (pos 65535) in
+    let u1 = up-times 10045 x in
+    let d1 = dn-times 10045 x in
+    let u2 = up-times 20091 x in
+    let d2 = dn-times 20091 x in
+    let u = up-times 65536 q in
+    let d = dn-times 65536 q in
+    sym (floor-is 65536 {z = pos 20091 *ℤ x} {q = q} (lit< tt) (record { low = of-le (omega arith); high = of-le (omega arith) }))
 
 -- ---- the grid
 pub below-four : (P : ℕ → Type 0) → P 0 → P 1 → P 2 → P 3 → (k : ℕ) → k < 4 → P k
@@ -64,7 +73,7 @@ transpose-at g =
 pub record CoefficientsIn (c : List ℤ) : Type 0 where
   pub fit : (k : ℕ) → k < 16 → In (negsuc 32767) (pos 32767) (at c k)
 
-fits-in : (z : ℤ) → fits16 z ≡ true → In (negsuc 32767) (pos 32767) z
+pub fits-in : (z : ℤ) → fits16 z ≡ true → In (negsuc 32767) (pos 32767) z
 fits-in z e =
     let l = leZ (negsuc 32767) z in
     let h = leZ z (pos 32767) in
@@ -101,7 +110,7 @@ unfolding transformOf
 transform-refused {c} walsh n = rw (sym (not-so (blockFits c) (λ e. n (good-fit e))))
 
 -- ---- the results: sixteen numbers no further out than 150001, refused or not, and those of Walsh in 16 bits
-each-build : {l h : ℤ} (n : ℕ) (f : ℕ → ℤ) → In l h (pos 0) → ((k : ℕ) → In l h (f k)) → Each l h (build n f)
+pub each-build : {l h : ℤ} (n : ℕ) (f : ℕ → ℤ) → In l h (pos 0) → ((k : ℕ) → In l h (f k)) → Each l h (build n f)
 each-build {l} {h} n f z p = record { at = go }
   where
     go : (k : ℕ) → In l h (at (build n f) k)
@@ -115,6 +124,17 @@ unfolding samplesOf resultsOf
 samples-in walsh f =
     let e = horizontal-in walsh (vertical-in walsh (grid-in f)) in
     each-build 16 _ (numeral-in (pos 0) tt) (λ k. result-in walsh (e .at (k / 4) (k % 4)))
+
+-- what each stage of the code requires, from what the stages before it answered
+module _ (w : Bool) {cs : List ℤ} {g : Grid} (f : CoefficientsIn cs) (a : g ≡ gridOf cs) where
+  pub vertical-asks : Each2 (negsuc 32767) (pos 32767) g
+  vertical-asks = rw a (grid-in f)
+
+  pub horizontal-asks : {u : Grid} → u ≡ verticalPass w g → Each2 (negsuc 199999) (pos 200000) u
+  horizontal-asks b = rw b (vertical-in w vertical-asks)
+
+  pub results-ask : {u h : Grid} → u ≡ verticalPass w g → h ≡ horizontalPass w u → Each2 (negsuc 1200007) (pos 1200008) h
+  results-ask b c = rw c (horizontal-in w (horizontal-asks b))
 
 module _ (c : List ℤ) where
   answer : (walsh : Bool) (P : List ℤ → Type 0) → (CoefficientsIn c → P (samplesOf walsh c)) → P (replicate 16 (pos 0)) → P (transformOf c walsh .samples)

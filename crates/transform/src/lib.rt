@@ -1,5 +1,7 @@
 // The two inverse transforms of a block of 4 by 4 coefficients: RFC 6386 section 14.3 (Walsh-Hadamard) and section 14.4 (DCT).
 // A block is handed from pass to pass as four rows of four numbers.
+pub mod lanes;
+
 ghost use mathlib.Core.Path.{_≡_};
 ghost use mathlib.Core.Bool.{true, false};
 ghost use Prim.Native.Nat.{_≤_, _<_, _+_};
@@ -11,7 +13,7 @@ ghost use Rattle.transform.specs.Transform.{scaledOf, lineOf, transposeO
 ghost use Rattle.transform.specs.Transform.{resultOf, resultsOf, samplesOf, blockFits, transformOf};
 ghost use Rattle.transform.specs.TransformLaws.{CoefficientsIn, PlainTo};
 
-type Grid = [[i32; 4]; 4];
+pub(crate) type Grid = [[i32; 4]; 4];
 
 // 0 and the sixteen results, row by row; or 8 and sixteen zeros, where a coefficient does not fit 16 bits.
 pub struct Transformed {
@@ -25,14 +27,20 @@ struct Seen {
     plain: bool,
 }
 
-// k / 65536 of x, rounded down. Every product of the transforms is worked out here, and none leaves 32 bits: k is taken apart into fours
-// and a rest, and a quarter of the rest's product, rounded down, goes to the other (`scaled-apart`). With 35468 there is no rest.
-fn scaled(x: i32, k: i32) -> i32
+// 35468 / 65536 and 20091 / 65536 of x, rounded down: sinpi8sqrt2 and cospi8sqrt2minus1 of the RFC. No product leaves 32 bits. 35468 is 4
+// times 8867; 20091 is twice 10045 and 1, and of that 1 the product is x itself, whose half, rounded down, goes to the other.
+fn by_sine(x: i32) -> i32
     requires { ⌜ In (negsuc 199999) (pos 200000) x ⌝ }
-    requires { ⌜ In (pos 0) (pos 40000) k ⌝ }
-    ensures { λ r. ⌜ r ≡ scaledOf k x ⌝ }
+    ensures { λ r. ⌜ r ≡ scaledOf (pos 35468) x ⌝ }
 {
-    (k / 4 * x + ((k % 4 * x) >> 2)) >> 14
+    (8867 * x) >> 14
+}
+
+fn by_cosine(x: i32) -> i32
+    requires { ⌜ In (negsuc 199999) (pos 200000) x ⌝ }
+    ensures { λ r. ⌜ r ≡ scaledOf (pos 20091) x ⌝ }
+{
+    (10045 * x + (x >> 1)) >> 15
 }
 
 // A line of four through the inverse DCT, with the RFC's names.
@@ -47,8 +55,8 @@ fn dct_line(r: [i32; 4], bias: i32) -> [i32; 4]
     let d = r[3];
     let a1 = a + c + bias;
     let b1 = a - c + bias;
-    let c1 = scaled(b, 35468) - scaled(d, 20091) - d;
-    let d1 = scaled(b, 20091) + b + scaled(d, 35468);
+    let c1 = by_sine(b) - by_cosine(d) - d;
+    let d1 = by_cosine(b) + b + by_sine(d);
     [a1 + d1, b1 + c1, b1 - c1, a1 - d1]
 }
 
@@ -121,7 +129,7 @@ fn wrapped(v: i32) -> i32
 }
 
 // A result: an eighth of what the passes leave, rounded down; a Walsh result in 16 bits.
-fn result(v: i32, walsh: bool) -> i32
+pub(crate) fn result(v: i32, walsh: bool) -> i32
     requires { ⌜ In (negsuc 1200007) (pos 1200008) v ⌝ }
     ensures { λ r. ⌜ r ≡ resultOf walsh v ⌝ }
 {
@@ -151,7 +159,7 @@ fn bias(walsh: bool) -> i32
 
 // The first pass, over the columns. The four lines stand here and in `horizontal` once more: a function for them, called twice, would be
 // more than the compiler draws into the transform.
-fn vertical(g: Grid, walsh: bool) -> Grid
+pub(crate) fn vertical(g: Grid, walsh: bool) -> Grid
     requires { ⌜ Each2 (negsuc 32767) (pos 32767) g ⌝ }
     ensures { λ r. ⌜ r ≡ verticalPass walsh g ⌝ }
 {
@@ -165,7 +173,7 @@ fn vertical(g: Grid, walsh: bool) -> Grid
 }
 
 // The second pass, over the rows.
-fn horizontal(g: Grid, walsh: bool) -> Grid
+pub(crate) fn horizontal(g: Grid, walsh: bool) -> Grid
     requires { ⌜ Each2 (negsuc 199999) (pos 200000) g ⌝ }
     ensures { λ r. ⌜ r ≡ horizontalPass walsh g ⌝ }
 {

@@ -1,33 +1,19 @@
 -- `samples` meets its contract: the shortcut is the whole transform, by the law of that name.
-use mathlib.Core.Bool.{Bool, true, false}
-use mathlib.Core.List.{List}
-use mathlib.Core.Path.{_≡_, sym, ap, _∙_}
+use mathlib.Core.Bool.{true, false}
+use mathlib.Core.Path.{sym, ap, _∙_}
 use borrow.Author.Needs.{needs}
 use lib.Dec.{lit<}
-use lib.IntN.{ℤ, pos, negsuc, _+ℤ_}
+use lib.IntN.{ℤ, _+ℤ_}
 use lib.ListN.{replicate}
 use mir.Syntax.{w32}
-use Rattle.numbers.specs.In.{Each2}
 use Rattle.numbers.specs.Hand.{there, passed}
-use Rattle.transform.specs.Transform.{Grid, gridOf, verticalPass, biasOf, horizontalPass, resultOf, samplesOf}
-use Rattle.transform.specs.TransformBounds.{vertical-in, horizontal-in}
-use Rattle.transform.specs.TransformLaws.{CoefficientsIn, grid-in, shortcut}
+use Rattle.transform.specs.Transform.{biasOf, resultOf, samplesOf}
+use Rattle.transform.specs.TransformLaws.{vertical-asks, horizontal-asks, results-ask, shortcut}
 use Rattle.transform.proofs.samples.Statement.{statement}
 use Rattle.transform.proofs.samples.Tie as tie
 
 shortcut-requires : tie.Need-shortcut-requires
 shortcut-requires c κs = passed w32 (c .before .before .pre .0 .fit 0 (lit< tt)) tt tt
-
--- what each stage requires, from what the stages before it answered
-module _ (w : Bool) {cs : List ℤ} {g : Grid} (f : CoefficientsIn cs) (a : g ≡ gridOf cs) where
-  ask-vertical : Each2 (negsuc 32767) (pos 32767) g
-  ask-vertical = rw a (grid-in f)
-
-  ask-horizontal : {u : Grid} → u ≡ verticalPass w g → Each2 (negsuc 199999) (pos 200000) u
-  ask-horizontal b = rw b (vertical-in w ask-vertical)
-
-  ask-results : {u h : Grid} → u ≡ verticalPass w g → h ≡ horizontalPass w u → Each2 (negsuc 1200007) (pos 1200008) h
-  ask-results b c = rw c (horizontal-in w (ask-horizontal b))
 
 returns : tie.Need-returns
 returns c =
@@ -48,10 +34,10 @@ pub samples-spec : {M : Type 1} → statement M
 samples-spec =
     tie.close
     (tie.spec (λ c. search needs) shortcut-requires
-    (λ c κs. search needs) (λ c κs. ask-vertical true (c .before .before .before .pre .0) (c .grid .ensures))
-    (λ c κs. ask-horizontal true (c .before .before .before .before .pre .0) (c .before .grid .ensures) (c .vertical .ensures))
-    (λ c κs. ask-results true (c .before .before .before .before .before .pre .0) (c .before .before .grid .ensures) (c .before .vertical .ensures) (c .horizontal .ensures))
-    (λ c κs. search needs) (λ c κs. ask-vertical false (c .before .before .before .pre .0) (c .grid2 .ensures))
-    (λ c κs. ask-horizontal false (c .before .before .before .before .pre .0) (c .before .grid2 .ensures) (c .vertical2 .ensures))
-    (λ c κs. ask-results false (c .before .before .before .before .before .pre .0) (c .before .before .grid2 .ensures) (c .before .vertical2 .ensures) (c .horizontal2 .ensures))
+    (λ c κs. search needs) (λ c κs. vertical-asks true (c .before .before .before .pre .0) (c .grid .ensures))
+    (λ c κs. horizontal-asks true (c .before .before .before .before .pre .0) (c .before .grid .ensures) (c .vertical .ensures))
+    (λ c κs. results-ask true (c .before .before .before .before .before .pre .0) (c .before .before .grid .ensures) (c .before .vertical .ensures) (c .horizontal .ensures))
+    (λ c κs. search needs) (λ c κs. vertical-asks false (c .before .before .before .pre .0) (c .grid2 .ensures))
+    (λ c κs. horizontal-asks false (c .before .before .before .before .pre .0) (c .before .grid2 .ensures) (c .vertical2 .ensures))
+    (λ c κs. results-ask false (c .before .before .before .before .before .pre .0) (c .before .before .grid2 .ensures) (c .before .vertical2 .ensures) (c .horizontal2 .ensures))
     returns returns-2 returns-3)

@@ -1,43 +1,57 @@
 -- `small_blocks` meets its contract: a sub-block a turn.
 use mathlib.Core.Logic.{inr}
-use mathlib.Core.Path.{_≡_, refl, sym, _∙_}
-use Prim.Native.Nat.{_-_, _≤_}
+use mathlib.Core.Path.{_≡_, refl, sym}
+use Prim.Native.Nat.{_*_, _-_, _≤_}
 use native.Mathlib.Omega.{arith}
+use lib.ListN.{length}
+use mir.Syntax.{w32}
+use Rattle.numbers.specs.Hand.{there, passed}
 use Rattle.planes.specs.Paint.{blocksPainted, smallRule}
-use Rattle.planes.specs.PaintLaws.{blocks-none, length-blocks}
-use Rattle.planes.specs.Places.{sub-square, not-last}
+use Rattle.planes.specs.PaintLaws.{blocks-none, length-blocks, length-painted}
+use Rattle.planes.specs.Places.{Lies, lies-block, sub-lies, not-last}
 use Rattle.planes.proofs.Turns.{small-turn}
 use Rattle.planes.proofs.blocks.small_blocks.Statement.{statement}
 use Rattle.planes.proofs.blocks.small_blocks.Tie as tie
 
 abbrev Inv-loop : tie.InvT-loop
-Inv-loop p₀ w x y right modes c i₀ p i = (i ≤ 16) × (p ≡ blocksPainted (smallRule w x y right modes) p₀ w x y 4 c i)
+Inv-loop p₀ w x y right modes r c coded i₀ p i = (i ≤ 16) × (p ≡ blocksPainted (smallRule w x y right modes) p₀ w x y 4 c i)
 
 abbrev μ-loop : tie.MeasureT-loop
-μ-loop p₀ w x y right modes c i₀ p i = 16 - i
+μ-loop p₀ w x y right modes r c coded i₀ p i = 16 - i
 
--- from the call that paints a sub-block to where it is known where it lies
-abbrev spotted : tie.After-small-step-arg2 Inv-loop μ-loop → tie.After-spot Inv-loop μ-loop
-spotted c = c .before .before .before .before
+-- where the sub-block lies, before it is predicted and after
+lies : (c : tie.After-sub-block Inv-loop μ-loop) → let a = c .before .before .before .before .args in Lies (length (c .before .before .loop .p)) (a .w) (c .sub-block .result)
+lies c =
+    let r = c .before .before .before .before .pre in
+    rw (c .before .before .loop .inv .1, length-blocks) (sub-lies (inr refl) (omega arith) (r .0) (c .sub-block .ensures))
 
-small-step-requires : tie.Need-small-step-requires Inv-loop μ-loop
-small-step-requires c κs =
-    let t = spotted c in
+still : (c : tie.After-predict-small Inv-loop μ-loop) → let t = c .before .before .before in Lies (length (c .predict-small .last .0)) (t .before .before .before .before .args .w) (t .sub-block .result)
+still c = rw (c .predict-small .ensures, length-painted) (lies (c .before .before .before))
+
+predict-small-requires : tie.Need-predict-small-requires Inv-loop μ-loop
+predict-small-requires c κs =
+    let t = c .before .before in
     let r = t .before .before .before .before .pre in
-    let l = t .before .before .loop in
-    let s = t .spot in (
-      rw (l .inv .1, length-blocks) (sub-square (r .0) (s .result .column) (s .result .row) 4 (s .ensures .inside) (s .ensures .above)),
-      (λ e. omega (arith, not-last (l .i) e, r .0, s .ensures .across), (r .1 .0 (l .i) (omega arith), ((omega (arith, r .1 .1 .0), omega arith), r .1 .1 .1))),
-    )
+    let i = t .before .before .loop .i in
+    (lies t, (λ e. omega (arith, not-last i e, r .0 .columns, t .sub-block .ensures .across), r .1 .0 i (omega arith)))
+
+add-requires : tie.Need-add-requires Inv-loop μ-loop
+add-requires c κs =
+    let d = c .before .before .before .before in
+    let t = d .before .before .before in
+    let r = t .before .before .before .before .pre .1 .1 in
+    (lies-block (still d), (omega arith, (r .near, passed w32 (r .fit .at _) tt tt)))
 
 loop-again : tie.Need-loop-again Inv-loop μ-loop
 loop-again c =
-    let t = spotted (c .before .before .before) in
-    let a = t .before .before .before .before .args in
+    let n = c .before .before in
+    let d = n .before .before .before .before .before in
+    let t = d .before .before .before in
+    let s = t .before .before .before .before in
     let l = t .before .before .loop in (
       omega arith,
-      c .before .before .small-step .ensures
-          ∙ small-turn (a .p .now) (a .w) (a .x) (a .y) (a .right) (a .modes .now) (a .c .now) (l .i) (l .inv .1) (t .spot .ensures),
+      small-turn (s .pre .1 .1) _ _ _ (l .i) (omega arith) (t .sub-block .ensures) refl (there w32 (s .pre .1 .1 .fit .at (16 * l .i)) tt .eq) (s .args .right) (s .args .modes .now) _
+          (l .inv .1) (lies t) (s .pre .1 .0 (l .i) (omega arith)) (d .predict-small .ensures) (n .add .ensures),
     )
 
 returns : tie.Need-returns Inv-loop μ-loop
@@ -46,7 +60,7 @@ returns c = let e : c .before .loop .i ≡ 16 = omega arith in rw e at (c .befor
 pub small-blocks-spec : {M : Type 1} → statement M
 small-blocks-spec =
     tie.close
-    (tie.spec Inv-loop μ-loop (λ c. (omega arith, sym (blocks-none _ _ _ _ _ _ _))) (λ c κs. (inr refl, omega arith))
-    (λ c. omega (arith, c .before .before .before .before .before .before .pre .0))
-    (λ c. omega (arith, c .before .before .before .before .before .before .before .pre .0)) (λ c. omega arith) small-step-requires (λ c. omega arith)
-    (λ c. omega arith) loop-again (λ c. rw (c .before .loop .inv .1) (length-blocks _ _ _ _ _ _ _ _)) returns)
+    (tie.spec Inv-loop μ-loop (λ c. (omega arith, sym (blocks-none _ _ _ _ _ _ _)))
+    (λ c κs. let r = c .before .before .before .pre in (inr refl, (omega arith, (r .0 .columns, r .0 .wide, r .0 .high)))) (λ c. omega arith) predict-small-requires
+    (λ c. omega arith) (λ c. omega arith) (λ c. omega arith) (λ c. omega (arith, c .before .before .before .before .before .before .before .before .before .before .pre .1 .1 .long)) add-requires (λ c. omega arith) (λ c. omega arith) loop-again
+    (λ c. rw (c .before .loop .inv .1) (length-blocks _ _ _ _ _ _ _ _)) returns)

@@ -12,13 +12,15 @@ unfolding aboveRight
 returns c = rw (eq-eqb _ _ (c .before .if1 .taken), c .near .ensures)
 
 four-above-requires : tie.Need-four-above-requires
-four-above-requires c κs = let r = c .before .before .pre in reach-above (r .0) (omega (arith, r .1 (omega arith)))
+four-above-requires c κs =
+    let r = c .before .before .before .pre in
+    record { reach = reach-above (r .0) (omega (arith, r .1 (omega arith))); at = c .place .ensures }
 
 returns-2 : tie.Need-returns-2
 unfolding aboveRight
-returns-2 c = rw (ne-eqb _ _ (c .before .if1 .left), c .four-above .ensures)
+returns-2 c = rw (ne-eqb _ _ (c .before .before .if1 .left), c .four-above .ensures)
 
 pub above-right-spec : {M : Type 1} → statement M
 above-right-spec =
     tie.close
-    (tie.spec (λ c. search needs) (λ c κs. search needs) returns (λ c. search needs) four-above-requires returns-2)
+    (tie.spec (λ c. search needs) (λ c κs. search needs) returns (λ c. search needs) (λ c. search needs) (λ c κs. search needs) four-above-requires returns-2)

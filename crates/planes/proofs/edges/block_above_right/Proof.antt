@@ -11,11 +11,13 @@ unfolding blockAboveRight
 returns c = rw (c .if1 .taken)
 
 four-above-requires : tie.Need-four-above-requires
-four-above-requires c κs = let r = c .before .before .pre in reach-above (r .0) (omega (arith, r .1 (c .if1 .left)))
+four-above-requires c κs =
+    let r = c .before .before .before .before .pre in
+    record { reach = reach-above (r .0 .square) (omega (arith, r .1 (c .before .before .if1 .left))); at = omega (arith, r .0 .at) }
 
 returns-2 : tie.Need-returns-2
 unfolding blockAboveRight
-returns-2 c = rw (c .before .if1 .left, c .four-above .ensures)
+returns-2 c = rw (c .before .before .before .if1 .left, c .four-above .ensures)
 
 pub block-above-right-spec : {M : Type 1} → statement M
-block-above-right-spec = tie.close (tie.spec returns (λ c. search needs) four-above-requires returns-2)
+block-above-right-spec = tie.close (tie.spec returns (λ c. search needs) (λ c. search needs) four-above-requires returns-2)

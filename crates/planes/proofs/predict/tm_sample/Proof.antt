@@ -15,7 +15,7 @@ abbrev ρ : tie.Start → List Var
     known (there w32 (unsigned (c .fits .l)) tt) ∷ known (there w32 (unsigned (c .fits .a)) tt) ∷ known (there w32 (unsigned (c .fits .corner)) tt) ∷ []
 
 returns : tie.Need-returns
-returns c = c .clip .ensures ∙ ap clipZ (is w32 (ρ (c .before)) (v 0 ⊕ v 1 ⊖ v 2) tt)
+returns c = c .clipped .ensures ∙ ap clipZ (is w32 (ρ (c .before)) (v 0 ⊕ v 1 ⊖ v 2) tt)
 
 pub tm-sample-spec : {M : Type 1} → statement M
 tm-sample-spec =

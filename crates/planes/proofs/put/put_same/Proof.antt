@@ -1,0 +1,35 @@
+-- `put_same` meets its contract: a row a turn.
+use mathlib.Core.Path.{_≡_, refl, sym}
+use Prim.Native.Nat.{ℕ, _-_, _≤_}
+use native.Mathlib.Omega.{arith}
+use lib.ListN.{getD}
+use Rattle.planes.specs.PaintLaws.{rowsPlaced, rows-none, length-rows}
+use Rattle.planes.specs.Steps.{row-room, row-turn}
+use Rattle.planes.proofs.put.put_same.Statement.{statement}
+use Rattle.planes.proofs.put.put_same.Tie as tie
+
+abbrev Inv-loop : tie.InvT-loop
+Inv-loop p₀ w x y size b j₀ p j = (j ≤ size) × (p ≡ rowsPlaced p₀ w x y size (λ (i k : ℕ). getD b k 0) j)
+
+abbrev μ-loop : tie.MeasureT-loop
+μ-loop p₀ w x y size b j₀ p j = size - j
+
+put-row-requires : tie.Need-put-row-requires Inv-loop μ-loop
+put-row-requires c κs =
+    let l = c .before .before .before .before .loop in
+    let s = c .before .before .before .before .before .before in
+    (s .pre .1, row-room _ _ _ _ _ _ (l .j) (l .inv .1) (c .before .place .ensures) (s .pre .0) (omega arith))
+
+loop-again : tie.Need-loop-again Inv-loop μ-loop
+loop-again c =
+    let l = c .before .before .before .before .before .before .before .loop in
+    (omega arith, row-turn _ _ _ _ _ _ (l .j) (l .inv .1) (c .before .before .before .before .place .ensures) (c .before .before .put-row .ensures) (λ k h. refl))
+
+returns : tie.Need-returns Inv-loop μ-loop
+returns c = let e : c .before .loop .j ≡ c .before .before .before .args .size = omega arith in rw e at (c .before .loop .inv .1)
+
+pub put-same-spec : {M : Type 1} → statement M
+put-same-spec =
+    tie.close
+    (tie.spec Inv-loop μ-loop (λ c. (omega arith, sym (rows-none _ _ _ _ _ _))) (λ c. omega arith) (λ c κs. omega arith) put-row-requires
+    (λ c. omega arith) (λ c. omega arith) loop-again (λ c. rw (c .before .loop .inv .1) (length-rows _ _ _ _ _ _ _)) returns)

@@ -1,0 +1,383 @@
+-- The two steps of the code: what is predicted is put into the plane, and the residual is added to what stands there. Sub-block after
+-- sub-block, and square after square, that is what the definitions paint.
+use Prim.Native.Nat.{ℕ, zero, suc, _+_, _-_, _*_, _/_, _%_, _≤_, _<_}
+use mathlib.Core.Bool.{Bool, true, false, cond}
+use mathlib.Core.List.{List, [], _∷_}
+use mathlib.Core.Logic.{inl, inr}
+use mathlib.Core.Path.{_≡_, refl, sym, _∙_, ap, ap₂, subst}
+use native.Mathlib.Nat.{add-zero, add-assoc, one-mul, add-mul, mod-lt, div-add-mod'}
+use native.Mathlib.Omega.{arith}
+use lib.IntN.{ℤ, pos, negsuc, _+ℤ_}
+use lib.ListN.{length, getD, set, replicate, getD-replicate}
+use lib.Seq.{set-getD, ext-getD}
+use lib.Signed.{_≤ℤ_, ltZ, ≤ℤ-refl, shrZ}
+use Rattle.numbers.specs.Bounds.{each-[], each-∷}
+use Rattle.numbers.specs.Clamp.{clampZ, clipZ}
+use Rattle.numbers.specs.ClampLaws.{clamp-tests, upTo-same}
+use Rattle.numbers.specs.In.{In, Each}
+use Rattle.numbers.specs.Lists.{build, built, build-same, getD-build, getD-constant}
+use Rattle.numbers.specs.Parts.{nlt-le}
+use Rattle.numbers.specs.Runs.{placed, placed-none, placed-next, placed-same, length-placed, copied}
+use Rattle.numbers.specs.Tests.{cond-at}
+use Rattle.transform.specs.Transform.{samplesOf}
+use Rattle.transform.specs.Lanes.{blockOf, knownLength, residualsOf}
+use Rattle.transform.specs.LanesLaws.{laneRow, each-fit, residuals-fit, residuals-at, residuals-in}
+use Rattle.transform.specs.TransformLaws.{below-four, shortcut}
+use Rattle.planes.specs.declared.predict.Edge.{Edge}
+use Rattle.planes.specs.Predict.{Size, dcOf, largeAt, largeOf}
+use Rattle.planes.specs.PredictLaws.{tmOne, small-long}
+use Rattle.planes.specs.Paint.{sampleAt, edgeOf, rowsPainted, painted, blockResidual, summedOf, blockPainted, cellColumn, cellRow, blocksPainted, largeRule, smallAt, squarePainted}
+use Rattle.planes.specs.PaintLaws.{Bytes, block-at, block-built, rowsPlaced, rows-none, rows-next, length-rows, rows-off, rows-in, rows-same, painted-rows, length-painted, painted-off, painted-in, length-blocks, blocks-yet, blocks-off, blocks-in, square-large}
+use Rattle.planes.specs.Places.{Square, run-inside, BlockSides, sides-few, cell, within-or, covered, by-size, quarter, size-sides, size-blocks}
+
+-- ---- a number taken into 0..255, from below and then from above
+abbrev pub noLess : ℤ → ℤ
+noLess v = cond (ltZ v (pos 0)) (pos 0) v
+
+abbrev pub noMore : ℤ → ℤ
+noMore v = cond (ltZ (pos 255) v) (pos 255) v
+
+pub no-less-in : {l h v : ℤ} → pos 0 ≤ℤ h → In l h v → In (pos 0) h (noLess v)
+no-less-in {l} {h} {v} p i =
+    cond-at (ltZ v (pos 0)) (In (pos 0) h) (λ e. record { low = ≤ℤ-refl (pos 0); high = p }) (λ e. record { low = nlt-le v (pos 0) e; high = i .high })
+
+pub clipped-so : (v : ℤ) → noMore (noLess v) ≡ clampZ (pos 0) (pos 255) v
+clipped-so v = rw (clamp-tests (pos 0) (pos 255) v) (go (ltZ v (pos 0)))
+  where
+    go : (b : Bool) → noMore (cond b (pos 0) v) ≡ cond b (pos 0) (noMore v)
+    go true = refl
+    go false = refl
+
+-- ---- a sub-block by the place of its first sample, in rows of w
+-- b copied there
+unfoldable pub blockCopied : List ℕ → (w at : ℕ) (b : List ℕ) → List ℕ
+blockCopied p w at b = row (row (row (row p at 0) (at + w) 4) (at + 2 * w) 8) (at + 3 * w) 12
+  where
+    row : List ℕ → (at from : ℕ) → List ℕ
+    row q at from = placed q at (λ k. getD b (from + k) 0) 4
+
+-- r added to four samples, and four rows to four rows
+unfoldable pub rowAdded : List ℕ → (at : ℕ) (r : List ℤ) → List ℕ
+rowAdded p at r = placed p at (λ k. clipZ (pos (getD p (at + k) 0) +ℤ getD r k (pos 0))) 4
+
+abbrev pub blockAdded : List ℕ → (w at : ℕ) (a b c d : List ℤ) → List ℕ
+blockAdded p w at a b c d = rowAdded (rowAdded (rowAdded (rowAdded p at a) (at + w) b) (at + 2 * w) c) (at + 3 * w) d
+
+-- the residual of block i, of sixteen blocks by position; and that of a block with nothing but its first coefficient
+abbrev pub laneAdded : List ℕ → (w at : ℕ) (r : List ℤ) (i : ℕ) → List ℕ
+laneAdded p w at r i = blockAdded p w at (laneRow r i) (laneRow r (i + 64)) (laneRow r (i + 128)) (laneRow r (i + 192))
+
+abbrev pub meanOf : (dc : ℤ) → ℤ
+meanOf dc = shrZ (dc +ℤ pos 4) 8
+
+abbrev pub meanAdded : List ℕ → (w at : ℕ) (dc : ℤ) → List ℕ
+meanAdded p w at dc = let v = replicate 4 (meanOf dc) in blockAdded p w at v v v v
+
+abbrev pub Residual : ℤ → Type 0
+Residual r = In (negsuc 150000) (pos 150001) r
+
+-- ---- what is known of the residuals of n sub-blocks
+-- the first n coefficients of sub-block i but the first are 0
+abbrev pub PlainBlock : (n : ℕ) (c : List ℤ) (i : ℕ) → Type 0
+PlainBlock n c i = (k : ℕ) → 0 < k → k < n → getD c (16 * i + k) (pos 0) ≡ pos 0
+
+pub record Coded (c : List ℤ) (coded : List Bool) (n : ℕ) : Type 0 where
+  pub plain : (i : ℕ) → i < n → getD coded i false ≡ false → PlainBlock 16 c i
+
+-- those that are coded stand in r
+pub record Ready (c : List ℤ) (coded : List Bool) (r : List ℤ) (n : ℕ) : Type 0 where
+  pub few : n ≤ 16
+  pub long : 16 * n ≤ length c
+  pub fit : Each (negsuc 32767) (pos 32767) c
+  pub near : Each (negsuc 150000) (pos 150001) r
+  pub plain : (i : ℕ) → i < n → getD coded i false ≡ false → PlainBlock 16 c i
+  pub lane : (i k : ℕ) → i < n → k < 16 → getD coded i false ≡ true → getD r (16 * k + i) (pos 0) ≡ getD (blockResidual c i) k (pos 0)
+
+-- ---- what stands in the sub-block at column x, row y
+unfoldable pub standing : List ℕ → (w x y : ℕ) → List ℕ
+standing p w x y = build 16 (λ k. sampleAt p w (x + k % 4) (y + k / 4))
+
+abbrev pub standRule : (w x y m : ℕ) → List ℕ → ℕ → List ℕ
+standRule w x y m q i = standing q w (x + cellColumn m i) (y + cellRow m i)
+
+-- ---- stores
+pub placed-four : (p : List ℕ) (at : ℕ) (f : ℕ → ℕ) → set (set (set (set p at (f 0)) (at + 1) (f 1)) (at + 2) (f 2)) (at + 3) (f 3) ≡ placed p at f 4
+placed-four p at f =
+    let one : List ℕ → ℕ → List ℕ = λ q n. set q (at + n) (f n) in
+    let first : set p at (f 0) ≡ placed p at f 1 = rw (placed-none p at f, add-zero) at (placed-next p at f 0) in
+    ap (λ (q : List ℕ). one (one (one q 1) 2) 3) first ∙ ap (λ (q : List ℕ). one (one q 2) 3) (placed-next p at f 1)
+    ∙ ap (λ (q : List ℕ). one q 3) (placed-next p at f 2) ∙ placed-next p at f 3
+
+pub copied-four : (p : List ℕ) (at : ℕ) (b : List ℕ) (from : ℕ)
+    → set (set (set (set p at (getD b from 0)) (at + 1) (getD b (from + 1) 0)) (at + 2) (getD b (from + 2) 0)) (at + 3) (getD b (from + 3) 0)
+    ≡ placed p at (λ k. getD b (from + k) 0) 4
+copied-four p at b from = rw add-zero at (placed-four p at (λ k. getD b (from + k) 0))
+
+pub rows-copied : (p : List ℕ) (w at : ℕ) (b : List ℕ) {q r s t : List ℕ}
+    → q ≡ placed p at (λ k. getD b (0 + k) 0) 4 → r ≡ placed q (at + w) (λ k. getD b (4 + k) 0) 4
+    → s ≡ placed r (at + 2 * w) (λ k. getD b (8 + k) 0) 4 → t ≡ placed s (at + 3 * w) (λ k. getD b (12 + k) 0) 4 → t ≡ blockCopied p w at b
+unfolding blockCopied
+rows-copied p w at b e f g h = h ∙ rw (g, f, e)
+
+-- ---- rows from the place of the first
+module _ (w x y at : ℕ) (e : at ≡ y * w + x) where
+  row-at : (j : ℕ) → at + j * w ≡ (y + j) * w + x
+  row-at j = omega (arith, add-mul y j w)
+
+  row-1 : at + w ≡ (y + 1) * w + x
+  row-1 = omega (arith, row-at 1, one-mul w)
+
+  row-0 : at ≡ (y + 0) * w + x
+  row-0 = rw add-zero e
+
+  pub block-copied : (p b : List ℕ) → blockCopied p w at b ≡ painted p w x y b
+  unfolding blockCopied rowsPainted copied
+  block-copied p b = rw (row-at 3, row-at 2, row-1, row-0)
+
+-- a row of a square: there is room for it, and it is the next
+module _ (p : List ℕ) (w x y n : ℕ) (f : ℕ → ℕ → ℕ) (j : ℕ) {q : List ℕ} {at : ℕ} (e : q ≡ rowsPlaced p w x y n f j) (a : at ≡ (y + j) * w + x) where
+  pub row-room : Square (length p) w x y n → j < n → at + n ≤ length q
+  row-room s h = rw (e, length-rows, a) (run-inside {y = y + j} {h = y + n} x n (omega arith) (s .columns) (s .rows))
+
+  pub row-turn : {g : ℕ → ℕ} {r : List ℕ} → r ≡ placed q at g n → ((k : ℕ) → k < n → g k ≡ f j k) → r ≡ rowsPlaced p w x y n f (j + 1)
+  row-turn {g} d h = d ∙ placed-same q at g (f j) n h ∙ rw (e, a) (rows-next p w x y n f j)
+
+-- ---- a square in a large mode, from what is put for each
+module _ (p : List ℕ) (w x y n mode : ℕ) {e : Edge} {q : List ℕ} (d : e ≡ edgeOf p w x y n) where
+  pub predicted-mean : {dc : ℕ} → n ≤ 16 → mode ≡ 0 → dc ≡ dcOf n e → q ≡ rowsPlaced p w x y n (λ j k. getD (replicate 16 dc) k 0) n
+      → q ≡ rowsPlaced p w x y n (largeAt mode (dcOf n (edgeOf p w x y n)) (edgeOf p w x y n)) n
+  predicted-mean {dc} h m c g = g ∙ rows-same p w x y n _ (λ j k. dc) n (λ j k a b. getD-replicate 16 k dc 0 (omega arith)) ∙ rw (m, c, d)
+
+  pub predicted-tm : mode ≡ 1 → q ≡ rowsPlaced p w x y n (λ j k. tmOne (getD (e .left) j 0) (getD (e .above) k 0) (e .corner)) n
+      → q ≡ rowsPlaced p w x y n (largeAt mode (dcOf n (edgeOf p w x y n)) (edgeOf p w x y n)) n
+  predicted-tm m g = g ∙ rw (m, d)
+
+  pub predicted-above : mode ≡ 2 → q ≡ rowsPlaced p w x y n (λ j k. getD (e .above) k 0) n
+      → q ≡ rowsPlaced p w x y n (largeAt mode (dcOf n (edgeOf p w x y n)) (edgeOf p w x y n)) n
+  predicted-above m g = g ∙ rw (m, d)
+
+  pub predicted-left : mode ≡ 3 → q ≡ rowsPlaced p w x y n (λ j k. getD (e .left) j 0) n
+      → q ≡ rowsPlaced p w x y n (largeAt mode (dcOf n (edgeOf p w x y n)) (edgeOf p w x y n)) n
+  predicted-left m g = g ∙ rw (m, d)
+
+-- ---- a row added, store by store
+module _ (p : List ℕ) (at : ℕ) (r : List ℤ) where
+  pub length-added : length (rowAdded p at r) ≡ length p
+  unfolding rowAdded
+  length-added = length-placed p at _ 4
+
+  pub added-four : {a b c d : ℕ} → a ≡ clipZ (pos (getD p at 0) +ℤ getD r 0 (pos 0)) → b ≡ clipZ (pos (getD p (at + 1) 0) +ℤ getD r 1 (pos 0))
+      → c ≡ clipZ (pos (getD p (at + 2) 0) +ℤ getD r 2 (pos 0)) → d ≡ clipZ (pos (getD p (at + 3) 0) +ℤ getD r 3 (pos 0))
+      → set (set (set (set p at a) (at + 1) b) (at + 2) c) (at + 3) d ≡ rowAdded p at r
+  unfolding rowAdded
+  added-four e f g h = rw (e, f, g, h) (rw add-zero at (placed-four p at (λ k. clipZ (pos (getD p (at + k) 0) +ℤ getD r k (pos 0)))))
+
+-- the same length after it
+pub kept : (p : List ℕ) (at : ℕ) (r : List ℤ) {n : ℕ} {q : List ℕ} → length p ≡ n → q ≡ rowAdded p at r → length q ≡ n
+kept p at r l e = ap length e ∙ length-added p at r ∙ l
+
+-- four rows of it
+pub rows-added : (p : List ℕ) (w at : ℕ) {q r s t : List ℕ} {a b c d a′ b′ c′ d′ : List ℤ}
+    → q ≡ rowAdded p at a → r ≡ rowAdded q (at + w) b → s ≡ rowAdded r (at + 2 * w) c → t ≡ rowAdded s (at + 3 * w) d
+    → a ≡ a′ → b ≡ b′ → c ≡ c′ → d ≡ d′ → t ≡ blockAdded p w at a′ b′ c′ d′
+rows-added p w at e f g h i j k l = h ∙ rw (g, f, e, i, j, k, l)
+
+pub lane-near : (r : List ℤ) (from : ℕ) → Each (negsuc 150000) (pos 150001) r → Each (negsuc 150000) (pos 150001) (laneRow r from)
+lane-near r from e = each-∷ (e .at from) (each-∷ (e .at (from + 16)) (each-∷ (e .at (from + 32)) (each-∷ (e .at (from + 48)) (each-[] tt))))
+
+pub same-near : {v : ℤ} → Residual v → Each (negsuc 150000) (pos 150001) (replicate 4 v)
+same-near i = each-∷ i (each-∷ i (each-∷ i (each-∷ i (each-[] tt))))
+
+-- nothing added
+module _ (p : List ℕ) (b : Bytes p) where
+  placed-self : (at n : ℕ) → placed p at (λ k. getD p (at + k) 0) n ≡ p
+  unfolding placed
+  placed-self at zero = refl
+  placed-self at (suc n) = rw (placed-self at n) (set-getD p (at + n) 0)
+
+  row-none : (at : ℕ) → rowAdded p at (replicate 4 (pos 0)) ≡ p
+  unfolding rowAdded
+  row-none at = placed-same p at _ _ 4 (λ k h. same (at + k) k) ∙ placed-self at 4
+    where
+      same : (i k : ℕ) → clipZ (pos (getD p i 0) +ℤ getD (replicate 4 (pos 0)) k (pos 0)) ≡ getD p i 0
+      same i k = rw (getD-constant 4 k (pos 0), add-zero) (upTo-same (omega (arith, b i)))
+
+  pub mean-none : (w at : ℕ) {dc : ℤ} → dc ≡ pos 0 → p ≡ meanAdded p w at dc
+  mean-none w at e =
+      sym (ap (meanAdded p w at) e ∙ ap (λ (q : List ℕ). row (row (row q (at + w)) (at + 2 * w)) (at + 3 * w)) (row-none at)
+      ∙ ap (λ (q : List ℕ). row (row q (at + 2 * w)) (at + 3 * w)) (row-none (at + w)) ∙ ap (λ (q : List ℕ). row q (at + 3 * w)) (row-none (at + 2 * w)) ∙ row-none (at + 3 * w))
+    where
+      row : List ℕ → ℕ → List ℕ
+      row q i = rowAdded q i (replicate 4 (pos 0))
+
+-- ---- four rows added are the sum of what stands there and the residual
+module _ (p : List ℕ) (w x y : ℕ) (z : List ℤ) where
+  abbrev summed : (j k : ℕ) → ℕ
+  summed j k = clipZ (pos (sampleAt p w (x + k) (y + j)) +ℤ getD z (4 * j + k) (pos 0))
+
+  -- a row r of it
+  next-row : (j : ℕ) {q : List ℕ} {at : ℕ} (r : List ℤ) → x + 4 ≤ w → q ≡ rowsPlaced p w x y 4 summed j → at ≡ (y + j) * w + x
+      → ((k : ℕ) → k < 4 → getD r k (pos 0) ≡ getD z (4 * j + k) (pos 0)) → rowAdded q at r ≡ rowsPlaced p w x y 4 summed (j + 1)
+  unfolding rowAdded
+  next-row j {q} {at} r l e a h = row-turn p w x y 4 summed j e a refl same
+    where
+      same : (k : ℕ) → k < 4 → clipZ (pos (getD q (at + k) 0) +ℤ getD r k (pos 0)) ≡ summed j k
+      same k g =
+          ap₂ (λ (s : ℕ) (v : ℤ). clipZ (pos s +ℤ v))
+          (let i : at + k ≡ (y + j) * w + (x + k) = omega arith in ap₂ (λ (l : List ℕ) (n : ℕ). getD l n 0) e i ∙ rows-off p w x y 4 summed j (x + k) (y + j) l (omega arith) (inr (inr (omega arith))))
+          (h k g)
+
+  summed-is : (j k : ℕ) → j < 4 → k < 4 → summed j k ≡ getD (summedOf (standing p w x y) z) (4 * j + k) 0
+  unfolding summedOf standing
+  summed-is j k h g =
+      let a : (4 * j + k) % 4 ≡ k = omega arith in
+      let b : (4 * j + k) / 4 ≡ j = omega arith in
+      rw (getD-build 16 (λ i. clipZ (pos (getD (build 16 (λ i. sampleAt p w (x + i % 4) (y + i / 4))) i 0) +ℤ getD z i (pos 0))) (4 * j + k) 0 (omega arith), getD-build 16 (λ i. sampleAt p w (x + i % 4) (y + i / 4)) (4 * j + k) 0 (omega arith), a, b)
+
+  pub block-added : {at : ℕ} (a b c d : List ℤ) → x + 4 ≤ w → at ≡ y * w + x
+      → ((k : ℕ) → k < 4 → getD a k (pos 0) ≡ getD z (0 + k) (pos 0)) → ((k : ℕ) → k < 4 → getD b k (pos 0) ≡ getD z (4 + k) (pos 0))
+      → ((k : ℕ) → k < 4 → getD c k (pos 0) ≡ getD z (8 + k) (pos 0)) → ((k : ℕ) → k < 4 → getD d k (pos 0) ≡ getD z (12 + k) (pos 0))
+      → blockAdded p w at a b c d ≡ painted p w x y (summedOf (standing p w x y) z)
+  block-added {at} a b c d l e f g h i =
+      next-row 3 d l (next-row 2 c l (next-row 1 b l (next-row 0 a l (sym (rows-none p w x y 4 summed)) (row-0 w x y at e) f) (row-1 w x y at e) g) (row-at w x y at e 2) h) (row-at w x y at e 3) i
+      ∙ rows-same p w x y 4 _ _ 4 summed-is ∙ sym (painted-rows p w x y (summedOf (standing p w x y) z))
+
+-- ---- a sub-block's residual added is the sub-block painted over what stands there
+lane-at : (r : List ℤ) (from k : ℕ) → k < 4 → getD (laneRow r from) k (pos 0) ≡ getD r (from + 16 * k) (pos 0)
+lane-at r from = below-four (λ k. getD (laneRow r from) k (pos 0) ≡ getD r (from + 16 * k) (pos 0)) (rw add-zero) refl refl refl
+
+module _ {c : List ℤ} {coded : List Bool} {r : List ℤ} {n : ℕ} (ready : Ready c coded r n) (p : List ℕ) (w x y i : ℕ) {at : ℕ} (h : i < n) (l : x + 4 ≤ w) (e : at ≡ y * w + x) where
+  coded-added : getD coded i false ≡ true → laneAdded p w at r i ≡ painted p w x y (summedOf (standing p w x y) (blockResidual c i))
+  coded-added b = block-added p w x y (blockResidual c i) _ _ _ _ l e (row 0 i (omega arith)) (row 4 (i + 64) (omega arith)) (row 8 (i + 128) (omega arith)) (row 12 (i + 192) (omega arith))
+    where
+      row : (f m : ℕ) → (m ≡ 16 * f + i) × (f ≤ 12) → (k : ℕ) → k < 4 → getD (laneRow r m) k (pos 0) ≡ getD (blockResidual c i) (f + k) (pos 0)
+      row f m a k g =
+          let q : m + 16 * k ≡ 16 * (f + k) + i = omega arith in
+          lane-at r m k g ∙ ap (λ (j : ℕ). getD r j (pos 0)) q ∙ ready .lane i (f + k) h (omega arith) b
+
+  plain-residual : PlainBlock 16 c i → blockResidual c i ≡ replicate 16 (meanOf (getD c (16 * i) (pos 0)))
+  unfolding blockResidual
+  plain-residual q =
+      let m : 16 * i + 16 ≤ length c = omega (arith, ready .long) in
+      shortcut false (record { zero = λ k a b. block-at c i m k (pos 0) b ∙ q k a b }) ∙ ap (λ (v : ℤ). replicate 16 (meanOf v)) (block-at c i m 0 (pos 0) (omega arith) ∙ ap (λ (j : ℕ). getD c j (pos 0)) (add-zero (16 * i)))
+
+  plain-added : getD coded i false ≡ false → meanAdded p w at (getD c (16 * i) (pos 0)) ≡ painted p w x y (summedOf (standing p w x y) (blockResidual c i))
+  plain-added b =
+      let v = meanOf (getD c (16 * i) (pos 0)) in
+      let row : (f : ℕ) → f ≤ 12 → (k : ℕ) → k < 4 → getD (replicate 4 v) k (pos 0) ≡ getD (blockResidual c i) (f + k) (pos 0) =
+      λ f a k g. getD-replicate 4 k v (pos 0) g ∙ sym (ap (λ (z : List ℤ). getD z (f + k) (pos 0)) (plain-residual (ready .plain i h b)) ∙ getD-replicate 16 (f + k) v (pos 0) (omega arith)) in
+      block-added p w x y (blockResidual c i) _ _ _ _ l e (row 0 (omega arith)) (row 4 (omega arith)) (row 8 (omega arith)) (row 12 (omega arith))
+
+  pub added-block : {b : Bool} {dc : ℤ} → b ≡ getD coded i false → dc ≡ getD c (16 * i) (pos 0)
+      → cond b (laneAdded p w at r i) (meanAdded p w at dc) ≡ blockPainted p w x y (standing p w x y) c i
+  unfolding blockPainted
+  added-block {b} f g = rw (f, g) (by (getD coded i false) refl)
+    where
+      by : (b : Bool) → getD coded i false ≡ b → cond b (laneAdded p w at r i) (meanAdded p w at (getD c (16 * i) (pos 0))) ≡ painted p w x y (summedOf (standing p w x y) (blockResidual c i))
+      by true a = coded-added a
+      by false a = plain-added a
+
+-- ---- two planes are equal where their samples are
+ext-samples : (p q : List ℕ) (w : ℕ) → 0 < w → length p ≡ length q → ((c r : ℕ) → c < w → sampleAt p w c r ≡ sampleAt q w c r) → p ≡ q
+ext-samples p q w h e f =
+    ext-getD 0 p q e (λ i g. let z = div-add-mod' i w in ap (λ (k : ℕ). getD p k 0) (sym z) ∙ f (i % w) (i / w) (mod-lt i h) ∙ ap (λ (k : ℕ). getD q k 0) z)
+
+-- ---- a sub-block put into the plane, then painted over
+module _ (p : List ℕ) (w x y : ℕ) (s : Square (length p) w x y 4) where
+  standing-painted : (b : List ℕ) → length b ≡ 16 → standing (painted p w x y b) w x y ≡ b
+  unfolding standing
+  standing-painted b l =
+      sym (built b 16 _ 0 l (λ k h.
+      let z : k ≡ 4 * (k / 4) + k % 4 = omega arith in
+      ap (λ (j : ℕ). getD b j 0) z ∙ sym (ap (λ (q : List ℕ). sampleAt q w (x + k % 4) (y + k / 4)) (painted-rows p w x y b)
+      ∙ rows-in p w x y 4 (λ j k. getD b (4 * j + k) 0) 4 (k / 4) (k % 4) (s .columns) (s .rows) (omega arith) (omega arith))))
+
+  painted-over : (a b : List ℕ) → painted (painted p w x y a) w x y b ≡ painted p w x y b
+  painted-over a b =
+      let q = painted p w x y a in
+      let t : Square (length q) w x y 4 = rw (length-painted p w x y a) s in
+      ext-samples _ _ w (omega (arith, s .columns)) (length-painted q w x y b ∙ length-painted p w x y a ∙ sym (length-painted p w x y b))
+      (λ c r h. elim (within-or x y c r) [
+        | inl k ↦ painted-in q w x y b c r t k ∙ sym (painted-in p w x y b c r s k)
+        | inr k ↦ painted-off q w x y b c r (s .columns) h k ∙ painted-off p w x y a c r (s .columns) h k ∙ sym (painted-off p w x y b c r (s .columns) h k)
+      ])
+
+  pub painted-then : (pred : List ℕ) (c : List ℤ) (i : ℕ) → length pred ≡ 16
+      → blockPainted (painted p w x y pred) w x y (standing (painted p w x y pred) w x y) c i ≡ blockPainted p w x y pred c i
+  unfolding blockPainted
+  painted-then pred c i l = rw (standing-painted pred l) (painted-over pred (summedOf pred (blockResidual c i)))
+
+-- ---- a square put into the plane, then painted over
+module _ (p : List ℕ) (w x y m mode dc : ℕ) (e : Edge) (cs : List ℤ) (s : BlockSides m) (t : Square (length p) w x y (4 * m)) where
+  abbrev put : List ℕ
+  put = rowsPlaced p w x y (4 * m) (largeAt mode dc e) (4 * m)
+
+  put-square : Square (length put) w x y (4 * m)
+  put-square = rw (length-rows p w x y (4 * m) (largeAt mode dc e) (4 * m)) t
+
+  -- what is predicted for sub-block i stands there until it is painted
+  stands : (i : ℕ) → i < m * m → standRule w x y m (blocksPainted (standRule w x y m) put w x y m cs i) i ≡ largeRule m mode dc e p i
+  unfolding standing largeOf
+  stands i h = build-same 16 _ _ go
+    where
+      go : (k : ℕ) → k < 16 → sampleAt (blocksPainted (standRule w x y m) put w x y m cs i) w (x + cellColumn m i + k % 4) (y + cellRow m i + k / 4) ≡ largeAt mode dc e (cellRow m i + k / 4) (cellColumn m i + k % 4)
+      go k l =
+          let d = cell s h in
+          blocks-yet (standRule w x y m) put w x y m cs i i (x + cellColumn m i + k % 4) (y + cellRow m i + k / 4) s put-square (omega arith) h (omega (arith, d .inside, t .columns))
+          (record { left = omega arith; right = omega arith; top = omega arith; bottom = omega arith })
+          ∙ ap₂ (λ (a b : ℕ). sampleAt put w a b) (add-assoc x (cellColumn m i) (k % 4)) (add-assoc y (cellRow m i) (k / 4))
+          ∙ rows-in p w x y (4 * m) (largeAt mode dc e) (4 * m) (cellRow m i + k / 4) (cellColumn m i + k % 4) (t .columns) (t .rows) (omega (arith, d .above)) (omega (arith, d .inside))
+
+  pub put-then : blocksPainted (standRule w x y m) put w x y m cs (m * m) ≡ blocksPainted (largeRule m mode dc e) p w x y m cs (m * m)
+  put-then =
+      ext-samples _ _ w (omega (arith, t .columns, sides-few s)) (length-blocks _ put w x y m cs (m * m) ∙ length-rows p w x y (4 * m) _ (4 * m) ∙ sym (length-blocks _ p w x y m cs (m * m)))
+      (λ c r h. elim (covered x y c r s) [
+        | inl k ↦
+            blocks-in (standRule w x y m) put w x y m cs s put-square (k .block) c r (k .among) (k .within) (m * m) (k .among) (omega arith)
+            ∙ ap (λ (pred : List ℕ). getD (summedOf pred (blockResidual cs (k .block))) (4 * (r - (y + cellRow m (k .block))) + (c - (x + cellColumn m (k .block)))) 0) (stands (k .block) (k .among))
+            ∙ sym (blocks-in (largeRule m mode dc e) p w x y m cs s t (k .block) c r (k .among) (k .within) (m * m) (k .among) (omega arith))
+        | inr k ↦
+            blocks-off (standRule w x y m) put w x y m cs (m * m) c r s put-square (omega arith) h k
+            ∙ rows-off p w x y (4 * m) (largeAt mode dc e) (4 * m) c r (t .columns) h k
+            ∙ sym (blocks-off (largeRule m mode dc e) p w x y m cs (m * m) c r s t (omega arith) h k)
+      ])
+
+pub small-at-long : (p : List ℕ) (w x y : ℕ) (last : Bool) (right : List ℕ) (mode : ℕ) → mode < 10 → length (smallAt p w x y last right mode) ≡ 16
+unfolding smallAt
+small-at-long p w x y last right mode h = small-long mode _ h
+
+-- ---- a square in a large mode, put and then added
+pub square-put : (p : List ℕ) (w x y n mode : ℕ) (cs : List ℤ) {q q′ : List ℕ} → Size n → Square (length p) w x y n
+    → q ≡ rowsPlaced p w x y n (largeAt mode (dcOf n (edgeOf p w x y n)) (edgeOf p w x y n)) n
+    → q′ ≡ blocksPainted (standRule w x y (n / 4)) q w x y (n / 4) cs (n / 4 * (n / 4))
+    → q′ ≡ squarePainted p w x y n false mode [] cs
+square-put p w x y n mode cs {q} {q′} s t e f =
+    let E = edgeOf p w x y n in
+    let m = n / 4 in
+    let z = quarter s in
+    let e′ : q ≡ rowsPlaced p w x y (4 * m) (largeAt mode (dcOf n E) E) (4 * m) = subst (λ (k : ℕ). q ≡ rowsPlaced p w x y k (largeAt mode (dcOf n E) E) k) (sym z) e in
+    f ∙ ap (λ (v : List ℕ). blocksPainted (standRule w x y m) v w x y m cs (m * m)) e′
+    ∙ put-then p w x y m mode (dcOf n E) E cs (size-sides s) (subst (Square (length p) w x y) (sym z) t)
+    ∙ square-large p w x y n false mode [] cs refl refl refl
+
+-- ---- the residuals of a square of n by n
+pub square-known : {n l : ℕ} → Size n → l ≡ n * n → (knownLength l ≡ true) × (l / 16 ≡ n / 4 * (n / 4)) × (l / 16 ≤ 16)
+square-known {n} {l} s e =
+    by-size (λ (n : ℕ). l ≡ n * n → (knownLength l ≡ true) × (l / 16 ≡ n / 4 * (n / 4)) × (l / 16 ≤ 16))
+    (λ h. (rw h, omega arith, omega arith)) (λ h. (rw h, omega arith, omega arith)) s e
+
+pub square-ready : {n : ℕ} (c : List ℤ) (coded : List Bool) (before : List ℤ) {b : Bool} {v : List ℤ} → Size n → length c ≡ n * n → Coded c coded (length c / 16)
+    → record { fit = b; values = v } ≡ residualsOf c coded before → b ≡ true → Ready c coded v (n / 4 * (n / 4))
+unfolding blockResidual blockOf
+square-ready {n} c coded before {b} {v} s l d e t =
+    let k = square-known s l in
+    let m = n / 4 * (n / 4) in
+    let z : 16 * m ≡ length c = sym (l ∙ size-blocks s) in
+    record {
+      few = omega arith;
+      long = omega arith;
+      fit = each-fit c (sym (residuals-fit c coded before e (k .0)) ∙ t);
+      near = residuals-in c coded before e t;
+      plain = λ i h. d .plain i (omega arith);
+      lane = λ i j h g q. residuals-at c coded before e t i j (omega arith) (omega arith) g q ∙ ap (λ (x : List ℤ). getD (samplesOf false x) j (pos 0)) (sym (block-built c i (omega arith)));
+    }

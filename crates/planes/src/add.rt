@@ -1,0 +1,111 @@
+// The residual, added to what stands in the plane (RFC 6386, section 14.5).
+ghost use mathlib.Core.Path.{_≡_};
+ghost use mathlib.Core.Bool.{cond};
+ghost use Prim.Native.Nat.{_+_, _<_, _≤_};
+ghost use lib.IntN.{pos, negsuc, _+ℤ_};
+ghost use lib.ListN.{length};
+ghost use Rattle.numbers.specs.Clamp.{clipZ};
+ghost use Rattle.numbers.specs.In.{In, Each};
+ghost use Rattle.transform.specs.LanesLaws.{laneRow};
+ghost use Rattle.planes.specs.Steps.{noLess, noMore, rowAdded, laneAdded, meanOf, meanAdded, Residual};
+ghost use Rattle.planes.specs.Places.{Block};
+
+// v as a sample. One test after the other, so that the compiler can take several samples at once.
+fn no_less(v: i32) -> i32
+    ensures { λ r. ⌜ r ≡ noLess v ⌝ }
+{
+    if v < 0 { 0 } else { v }
+}
+
+fn no_more(v: i32) -> i32
+    ensures { λ r. ⌜ r ≡ noMore v ⌝ }
+{
+    if 255 < v { 255 } else { v }
+}
+
+pub(crate) fn clipped(v: i32) -> u8
+    ensures { λ r. ⌜ r ≡ clipZ v ⌝ }
+{
+    no_more(no_less(v)) as u8
+}
+
+// A sample, and its residual.
+fn sum(p: u8, r: i32) -> u8
+    requires { ⌜ Residual r ⌝ }
+    ensures { λ q. ⌜ q ≡ clipZ (pos p +ℤ r) ⌝ }
+{
+    clipped(p as i32 + r)
+}
+
+// Four of them, side by side.
+fn add_row(p: &mut [u8], at: usize, r: [i32; 4])
+    requires { ⌜ at + 4 ≤ length (now p) ⌝ }
+    requires { ⌜ Each (negsuc 150000) (pos 150001) r ⌝ }
+    ensures { λ _. ⌜ now (p .exit) ≡ rowAdded (now (p .entry)) at r ⌝ }
+{
+    let w = sum(p[at], r[0]);
+    let x = sum(p[at + 1], r[1]);
+    let y = sum(p[at + 2], r[2]);
+    let z = sum(p[at + 3], r[3]);
+    p[at] = w;
+    p[at + 1] = x;
+    p[at + 2] = y;
+    p[at + 3] = z;
+}
+
+// A row of the residual of a block, of sixteen blocks by position.
+fn lane_row(r: &[i32; 256], from: usize) -> [i32; 4]
+    requires { ⌜ from + 48 < 256 ⌝ }
+    ensures { λ q. ⌜ q ≡ laneRow (now (r .entry)) from ⌝ }
+{
+    [r[from], r[from + 16], r[from + 32], r[from + 48]]
+}
+
+// The residual of block i.
+fn add_lane(p: &mut [u8], w: usize, at: usize, r: &[i32; 256], i: usize)
+    requires { ⌜ Block (length (now p)) w at ⌝ }
+    requires { ⌜ i < 16 ⌝ }
+    requires { ⌜ Each (negsuc 150000) (pos 150001) (now r) ⌝ }
+    ensures { λ _. ⌜ now (p .exit) ≡ laneAdded (now (p .entry)) w at (now (r .entry)) i ⌝ }
+{
+    add_row(&mut p[..], at, lane_row(r, i));
+    add_row(&mut p[..], at + w, lane_row(r, i + 64));
+    add_row(&mut p[..], at + 2 * w, lane_row(r, i + 128));
+    add_row(&mut p[..], at + 3 * w, lane_row(r, i + 192));
+}
+
+// The residual of a block whose coefficients but the first are 0: the same for each sample.
+fn mean(dc: i32) -> i32
+    requires { ⌜ In (negsuc 32767) (pos 32767) dc ⌝ }
+    ensures { λ r. ⌜ (r ≡ meanOf dc) × Residual r ⌝ }
+{
+    (dc + 4) >> 3
+}
+
+fn add_mean(p: &mut [u8], w: usize, at: usize, dc: i32)
+    requires { ⌜ Block (length (now p)) w at ⌝ }
+    requires { ⌜ In (negsuc 32767) (pos 32767) dc ⌝ }
+    ensures { λ _. ⌜ now (p .exit) ≡ meanAdded (now (p .entry)) w at dc ⌝ }
+{
+    let v = [mean(dc); 4];
+    add_row(&mut p[..], at, v);
+    add_row(&mut p[..], at + w, v);
+    add_row(&mut p[..], at + 2 * w, v);
+    add_row(&mut p[..], at + 3 * w, v);
+}
+
+// The residual of block i, whose first coefficient is dc: out of r where it is coded. Where there is none, nothing is touched.
+pub(crate) fn add(p: &mut [u8], w: usize, at: usize, coded: bool, r: &[i32; 256], i: usize, dc: i32)
+    requires { ⌜ Block (length (now p)) w at ⌝ }
+    requires { ⌜ i < 16 ⌝ }
+    requires { ⌜ Each (negsuc 150000) (pos 150001) (now r) ⌝ }
+    requires { ⌜ In (negsuc 32767) (pos 32767) dc ⌝ }
+    ensures { λ _. ⌜ now (p .exit)
+        ≡ cond coded (laneAdded (now (p .entry)) w at (now (r .entry)) i) (meanAdded (now (p .entry)) w at dc) ⌝ }
+{
+    if coded {
+        add_lane(p, w, at, r, i);
+    } else if dc != 0 {
+        add_mean(p, w, at, dc);
+    }
+}

@@ -1,0 +1,17 @@
+-- `lane` meets its contract, row by row.
+use borrow.Author.Needs.{needs}
+use Rattle.transform.specs.LanesLaws.{lane-rows}
+use Rattle.transform.proofs.lanes.lane.Statement.{statement}
+use Rattle.transform.proofs.lanes.lane.Tie as tie
+
+returns : tie.Need-returns
+returns c =
+    let b = c .before in
+    let a = b .before in
+    lane-rows _ _ (a .before .lane-row .ensures) (a .lane-row2 .ensures) (b .lane-row3 .ensures) (c .lane-row4 .ensures)
+
+pub lane-spec : {M : Type 1} → statement M
+lane-spec =
+    tie.close
+    (tie.spec (λ c κs. search needs) (λ c. search needs) (λ c κs. search needs) (λ c. search needs) (λ c κs. search needs) (λ c. search needs)
+    (λ c κs. search needs) returns)
