@@ -1,6 +1,6 @@
 #!/usr/bin/env bash
 # Counts instructions a luma sample: bench/run.sh [ARCHIVE]. Prints markdown tables: the three bench tiles beside libwebp 1.2.4
-# (scalar, its loop filter bypassed and on, all in this run), and the growth with macroblocks and with bytes.
+# (scalar and SSE4.1, its loop filter bypassed and on, all in this run), and the growth with macroblocks and with bytes.
 # Counted by qemu's plugin insncount.c, which counts the same everywhere. A count is of some decodes more less that of one,
 # so starting the program and reading the file is not in it.
 set -eu
@@ -19,8 +19,8 @@ qemu="qemu-x86_64"
 gcc -shared -fPIC -O2 -o $out/insncount.so bench/insncount.c
 $X86CC -O2 -Iinclude -o $out/bench examples/c/bench.c "$ARCHIVE"
 
-# libwebp from Debian's source, its decoder alone. With HAVE_CONFIG_H and an empty config.h no SIMD code is chosen.
-if [ ! -f $out/libwebpdec.a ]; then
+# libwebp from Debian's source, its decoder alone, twice: without SIMD (an empty config.h chooses none) and with its SSE2 and SSE4.1 code.
+if [ ! -d $out/$webp ]; then
     tar=libwebp_1.2.4.orig.tar.gz
     # the machine's own package sources, asked for the source
     lists=$PWD/$out/apt
@@ -31,16 +31,23 @@ if [ ! -f $out/libwebpdec.a ]; then
     [ -f $out/$tar ] || { sources update && (cd $out && sources source --download-only libwebp); } >$out/apt.log 2>&1 || { cat $out/apt.log >&2; exit 1; }
     echo "7bf5a8a28cc69bcfa8cb214f2c3095703c6b73ac5fba4d5480c205331d9494df  $out/$tar" | sha256sum -c --quiet
     tar -xzf $out/$tar -C $out
-    : >$out/$webp/src/webp/config.h
-    rm -rf $out/o
-    mkdir $out/o
-    for f in $out/$webp/src/dec/*.c $out/$webp/src/utils/*.c \
-        $out/$webp/src/dsp/{alpha_processing,cpu,dec,dec_clip_tables,filters,lossless,rescaler,upsampling,yuv}.c; do
-        $X86CC -O3 -DHAVE_CONFIG_H -I$out/$webp -c -o $out/o/"$(basename "$f" .c)".o "$f"
-    done
-    ar rcs $out/libwebpdec.a $out/o/*.o
 fi
-$X86CC -O2 -I$out/$webp -o $out/webp bench/webp.c $out/libwebpdec.a -lm -lpthread
+# libwebp NAME CONFIG [FLAG]: bench/webp.c over it, built so
+libwebp() {
+    local o=$out/o-$1 f
+    [ -x $out/"$1" ] && return
+    rm -rf "$o"
+    mkdir -p "$o/src/webp"
+    printf "$2" >"$o/src/webp/config.h"
+    for f in $out/$webp/src/{dec,utils}/*.c $out/$webp/src/dsp/{alpha_processing,cpu,dec,dec_clip_tables,filters,lossless,rescaler,upsampling,yuv}*.c; do
+        case $f in *_neon.c | *_mips*.c | *_msa.c) continue ;; esac
+        $X86CC -O3 -DHAVE_CONFIG_H ${3:+"$3"} -I"$o" -I$out/$webp -c -o "$o/$(basename "$f" .c).o" "$f"
+    done
+    $X86CC -O2 -I$out/$webp -o $out/"$1" bench/webp.c "$o"/*.o -lm -lpthread
+}
+rm -f $out/$webp/src/webp/config.h
+libwebp webp ''
+libwebp webp-sse '#define WEBP_HAVE_SSE2 1\n#define WEBP_HAVE_SSE41 1\n' -msse4.1
 
 # count PROGRAM FILE TIMES [deblock]: instructions of so many decodes
 count() {
@@ -59,16 +66,19 @@ beside() {
     shift
     echo "$heading"
     echo
-    echo "| tile | bytes | hookbarley | libwebp 1.2.4 scalar | ratio |"
-    echo "|---|---|---|---|---|"
+    echo "| tile | bytes | hookbarley | libwebp 1.2.4 scalar | ratio | libwebp 1.2.4 SSE4.1 | ratio |"
+    echo "|---|---|---|---|---|---|---|"
     for q in 50 75 90; do
         f=bench/tile-q$q
         ours=$($qemu $out/bench $f.case 1 "$@")
-        theirs=$($qemu $out/webp $f.webp 1 "$@")
-        [ "$ours" = "$theirs" ] || { echo "tile-q$q: $ours, libwebp $theirs" >&2; exit 1; }
+        for theirs in webp webp-sse; do
+            line=$($qemu $out/$theirs $f.webp 1 "$@")
+            [ "$ours" = "$line" ] || { echo "tile-q$q: $ours, $theirs $line" >&2; exit 1; }
+        done
         a=$(count $out/bench $f.case 10 "$@")
         b=$(count $out/webp $f.webp 10 "$@")
-        echo "| tile-q$q | $(($(stat -c %s $f.case) - 2210)) | $(div "$a" 655360 1) | $(div "$b" 655360 1) | $(div "$a" "$b" 2) |"
+        c=$(count $out/webp-sse $f.webp 10 "$@")
+        echo "| tile-q$q | $(($(stat -c %s $f.case) - 2210)) | $(div "$a" 655360 1) | $(div "$b" 655360 1) | $(div "$a" "$b" 2) | $(div "$c" 655360 1) | $(div "$a" "$c" 2) |"
     done
     echo
 }
@@ -93,7 +103,7 @@ echo
 echo "Stack, bytes:"
 echo
 $X86CC -O2 -Wall -Iinclude -o $out/stack bench/stack.c "$ARCHIVE" -lpthread
-$out/stack bench/tile-q90.case | sed 's/^/- /'
+$qemu $out/stack bench/tile-q90.case | sed 's/^/- /'
 echo
 
 $X86CC -O2 -Iinclude -o $out/needed bench/needed.c "$ARCHIVE"
