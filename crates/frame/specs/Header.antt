@@ -41,8 +41,8 @@ signed n = do
     done (record { sign = sign; size = size }))
 
 -- four of them, one for each segment
-unfoldable pub four : ℕ → Reading Four
-four n = do
+unfoldable pub fourSigned : ℕ → Reading Four
+fourSigned n = do
   a ← signed n
   b ← signed n
   c ← signed n
@@ -61,8 +61,8 @@ noFeatures = record { absolute = 0; quantizers = noFour; levels = noFour }
 unfoldable pub features : Reading Features
 features = do
   absolute ← literal 1  -- segment_feature_mode
-  quantizers ← four 7  -- quantizer_update
-  levels ← four 6  -- loop_filter_update
+  quantizers ← fourSigned 7  -- quantizer_update
+  levels ← fourSigned 6  -- loop_filter_update
   done (record { absolute = absolute; quantizers = quantizers; levels = levels })
 
 -- a probability of the map's tree: 255 where it is not given
@@ -109,8 +109,8 @@ noDeltas = record { intra = noValue; small = noValue }
 -- all eight are read; a key frame uses the first of each four, that of the intra frame and that of B_PRED
 unfoldable pub deltas : Reading Deltas
 deltas = do
-  frames ← four 6  -- ref_frame_delta_update_flag
-  modes ← four 6  -- mb_mode_delta_update_flag
+  frames ← fourSigned 6  -- ref_frame_delta_update_flag
+  modes ← fourSigned 6  -- mb_mode_delta_update_flag
   done (record { intra = frames .a; small = modes .a })
 
 -- mode_ref_lf_delta_update, then the deltas where it is 1

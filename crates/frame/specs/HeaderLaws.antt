@@ -20,7 +20,7 @@ use Rattle.reader.specs.ReadingLaws.{within-bind, within-more, within-weaken, w
 use Rattle.reader.specs.ExtraLaws.{extra-within}
 use Rattle.frame.specs.Fine.{Small, FineFour, FineThree, FineFeatures, FineSegments, FineDeltas, FineFilter, FineQuantizers, FineTaken}
 use Rattle.frame.specs.Tables.{defaultProbs, updateProbs}
-use Rattle.frame.specs.Header.{literal, when, noValue, signed, four, noFour, noFeatures, features, mapProb, noProbs, mapProbs, noSegments, update, segments, noDeltas, deltas, deltasUpdate, filter, quantizers, chosen, prob, probsFrom, probs, header}
+use Rattle.frame.specs.Header.{literal, when, noValue, signed, fourSigned, noFour, noFeatures, features, mapProb, noProbs, mapProbs, noSegments, update, segments, noDeltas, deltas, deltasUpdate, filter, quantizers, chosen, prob, probsFrom, probs, header}
 
 -- ---- what a flag announces, in reading without a stop
 module _ {A : Type 0} (a : A) (m : Reading A) {s : List ℕ} {r : Reader} where
@@ -58,8 +58,8 @@ signed-within n h =
     within-bind {k = 1} (byte-within n h) (λ size l.
     within-bind {k = 0} (byte-within 1 (lit≤ tt)) (λ sign t. ends l))))
 
-four-within : (n : ℕ) → n ≤ 8 → Within FineFour (1 + (n + 1) + (1 + (n + 1) + (1 + (n + 1) + (1 + (n + 1) + 0)))) (four n)
-unfolding four
+four-within : (n : ℕ) → n ≤ 8 → Within FineFour (1 + (n + 1) + (1 + (n + 1) + (1 + (n + 1) + (1 + (n + 1) + 0)))) (fourSigned n)
+unfolding fourSigned
 four-within n h =
     within-bind {k = 1 + (n + 1) + (1 + (n + 1) + (1 + (n + 1) + 0))} (signed-within n h) (λ x p.
     within-bind {k = 1 + (n + 1) + (1 + (n + 1) + 0)} (signed-within n h) (λ y q.

@@ -28,12 +28,12 @@ pub record Passes (b : List ℕ) (t : Taken) : Type 0 where
   pub height : Covers (t .answer .shown .height) (t .answer .tile .height)
 
 -- a refusal gives its number and zeros, and the number is 12, 13 or 14
-pub record Refused (t : Taken) : Type 0 where
+pub record FrameRefused (t : Taken) : Type 0 where
   pub number : (t .answer .number ≡ 12) ⊎ (t .answer .number ≡ 13) ⊎ (t .answer .number ≡ 14)
   pub zeros : t ≡ nothingTaken (t .answer .number)
 
 -- with the entries lent: the number may be 9 too, and the entries are as they were
-pub record Kept (old : List ℤ) (t : Taken) : Type 0 where
+pub record FrameKept (old : List ℤ) (t : Taken) : Type 0 where
   pub number : (t .answer .number ≡ 9) ⊎ (t .answer .number ≡ 12) ⊎ (t .answer .number ≡ 13) ⊎ (t .answer .number ≡ 14)
   pub zeros : t .answer ≡ refusedAnswer (t .answer .number)
   pub unchanged : t .header ≡ old

@@ -30,7 +30,7 @@ use Rattle.frame.specs.PlacesLaws.{span-is}
 use Rattle.frame.specs.EntriesLaws.{entries-length, entries-each}
 use Rattle.frame.specs.Take.{nothingTaken, firstOf, sizesPlace, tileOf, wholeOf, partitionsPlaced, codedOf, givenHeader, takenOf, intoOf}
 use Rattle.frame.specs.TakeLaws.{take-tag, take-first, take-short, take-coded}
-use Rattle.frame.specs.Passes.{Covers, Passes, Refused, Kept}
+use Rattle.frame.specs.Passes.{Covers, Passes, FrameRefused, FrameKept}
 
 -- ---- every way through the call: a refusal, or the whole with what was tried on the way
 abbrev Number : ℕ → Type 0
@@ -136,25 +136,25 @@ taken-is-fine b y z = go (way b) z
     go (refused n k) e = absurd (⊎-elim (λ p. omega (arith, p, e)) (λ q. ⊎-elim (λ p. omega (arith, p, e)) (λ p. omega (arith, p, e)) q) k)
     go (whole h r g l f i) e = whole-passes b y h r g l f i
 
-pub taken-or-refused : (b : List ℕ) → (takenOf b .answer .number ≡ 0) ⊎ Refused (takenOf b)
+pub taken-or-refused : (b : List ℕ) → (takenOf b .answer .number ≡ 0) ⊎ FrameRefused (takenOf b)
 unfolding nothingTaken wholeOf
 taken-or-refused b = go (way b)
   where
-    go : {t : Taken} → Way b t → (t .answer .number ≡ 0) ⊎ Refused t
+    go : {t : Taken} → Way b t → (t .answer .number ≡ 0) ⊎ FrameRefused t
     go (refused n k) = inr (record { number = k; zeros = refl })
     go (whole h r g l f i) = inl refl
 
 -- the same of the call that is lent the entries
-pub into-or-kept : (b : List ℕ) (old : List ℤ) → ((takenOf b .answer .number ≡ 0) × (intoOf b old ≡ takenOf b)) ⊎ Kept old (intoOf b old)
+pub into-or-kept : (b : List ℕ) (old : List ℤ) → ((takenOf b .answer .number ≡ 0) × (intoOf b old ≡ takenOf b)) ⊎ FrameKept old (intoOf b old)
 unfolding intoOf nothingTaken
 into-or-kept b old = long (eqb (length old) 1096) refl
   where
-    taken : eqb (length old) 1096 ≡ true → (v : Bool) → eqb (takenOf b .answer .number) 0 ≡ v → (takenOf b .answer .number ≡ 0) ⊎ Refused (takenOf b) → ((takenOf b .answer .number ≡ 0) × (intoOf b old ≡ takenOf b)) ⊎ Kept old (intoOf b old)
+    taken : eqb (length old) 1096 ≡ true → (v : Bool) → eqb (takenOf b .answer .number) 0 ≡ v → (takenOf b .answer .number ≡ 0) ⊎ FrameRefused (takenOf b) → ((takenOf b .answer .number ≡ 0) × (intoOf b old ≡ takenOf b)) ⊎ FrameKept old (intoOf b old)
     taken e true f w = inl (eqb-true _ _ f, rw (e, f, intoOf))
     taken e false f (inl z) = absurd (never (eq-eqb _ _ z) f)
     taken e false f (inr r) = inr (rw (e, f, intoOf) (record { number = inr (r .number); zeros = ap (λ (t : Taken). t .answer) (r .zeros); unchanged = refl }))
 
-    long : (v : Bool) → eqb (length old) 1096 ≡ v → ((takenOf b .answer .number ≡ 0) × (intoOf b old ≡ takenOf b)) ⊎ Kept old (intoOf b old)
+    long : (v : Bool) → eqb (length old) 1096 ≡ v → ((takenOf b .answer .number ≡ 0) × (intoOf b old ≡ takenOf b)) ⊎ FrameKept old (intoOf b old)
     long true e = taken e (eqb (takenOf b .answer .number) 0) refl (taken-or-refused b)
     long false e = inr (rw (e, intoOf) (record { number = inl refl; zeros = refl; unchanged = refl }))
 

@@ -10,7 +10,7 @@ use reader::extra::extra_bits;
 ghost use mathlib.Core.Path.{_≡_};
 ghost use Prim.Native.Nat.{_≤_};
 ghost use Rattle.reader.specs.Boolean.{noReader};
-ghost use Rattle.frame.specs.Header.{literal, signed, four};
+ghost use Rattle.frame.specs.Header.{literal, signed, fourSigned};
 ghost use Rattle.reader.specs.Reads.{Reads};
 
 // No reader: what stands for a byte that was missing.
@@ -72,7 +72,7 @@ pub(crate) fn signed(s: &[u8], r: Reader, n: usize) -> GotSigned
 // Four of them.
 pub(crate) fn four(s: &[u8], r: Reader, n: usize) -> GotFour
     requires { ⌜ n ≤ 8 ⌝ }
-    ensures { λ q. ⌜ Reads (four n) (now (s .entry)) r (q .value) (q .next) ⌝ }
+    ensures { λ q. ⌜ Reads (fourSigned n) (now (s .entry)) r (q .value) (q .next) ⌝ }
 {
     let qa = signed(s, r, n);
     let qb = signed(s, qa.next, n);

@@ -12,13 +12,13 @@ use Rattle.header.specs.declared.levels.Level.the-variants as L
 use Rattle.header.specs.Own.{segmentedOf}
 
 -- where deltas are on: that of intra frames, and that of small modes
-abbrev pub deltas : List ℤ → Bool → ℤ
-deltas h true = entry h intraDelta +ℤ entry h smallDelta
-deltas h false = entry h intraDelta
+abbrev pub levelDeltas : List ℤ → Bool → ℤ
+levelDeltas h true = entry h intraDelta +ℤ entry h smallDelta
+levelDeltas h false = entry h intraDelta
 
 -- what is added to the level: nothing where deltas are off
 unfoldable pub deltaOf : List ℤ → Bool → ℤ
-deltaOf h small = elim (presentAt h deltasOn) [ true ↦ deltas h small | false ↦ pos 0 ]
+deltaOf h small = elim (presentAt h deltasOn) [ true ↦ levelDeltas h small | false ↦ pos 0 ]
 
 -- the frame's level or the segment's own; clamped to 0..63, and again after the deltas
 unfoldable pub levelOf : List ℤ → ℕ → Bool → ℕ

@@ -17,7 +17,7 @@ use Rattle.header.specs.Header.{presentAt, headerOf}
 use Rattle.header.specs.declared.levels.Level.{Level}
 use Rattle.header.specs.declared.levels.Level.the-variants as L
 use Rattle.header.specs.Own.{segmentedOf}
-use Rattle.header.specs.Levels.{deltas, deltaOf, levelOf, levelAnswer}
+use Rattle.header.specs.Levels.{levelDeltas, deltaOf, levelOf, levelAnswer}
 
 pub level-in : (h : List ℤ) (segment : ℕ) (small : Bool) → levelOf h segment small ≤ 63
 unfolding levelOf
@@ -32,7 +32,7 @@ module _ (h : List ℤ) (small : Bool) where
   unfolding deltaOf
   delta-off e = rw (e, deltaOf)
 
-  pub delta-on : presentAt h deltasOn ≡ true → deltaOf h small ≡ deltas h small
+  pub delta-on : presentAt h deltasOn ≡ true → deltaOf h small ≡ levelDeltas h small
   unfolding deltaOf
   delta-on e = rw (e, deltaOf)
 
@@ -56,7 +56,7 @@ pub delta-in : (h : List ℤ) (small : Bool) → Each (negsuc 254) (pos 255) h �
 unfolding deltaOf
 delta-in h small e = go (presentAt h deltasOn) small
   where
-    go : (on small : Bool) → In (negsuc 509) (pos 510) (elim on [ true ↦ deltas h small | false ↦ pos 0 ])
+    go : (on small : Bool) → In (negsuc 509) (pos 510) (elim on [ true ↦ levelDeltas h small | false ↦ pos 0 ])
     go true true = In-wider (inside (know-add (plainly (e .at intraDelta)) (plainly (e .at smallDelta)))) tt
     go true false = In-wider (e .at intraDelta) tt
     go false s = In-wider (inside (num (pos 0))) tt

@@ -1,4 +1,4 @@
-use Rattle.frame.specs.Header.{four}
+use Rattle.frame.specs.Header.{fourSigned}
 use Rattle.reader.specs.ReadsLaws.{reads-then, reads-done}
 use borrow.Author.Needs.{needs}
 use Rattle.frame.proofs.literal.four.Statement.{statement}
@@ -17,7 +17,7 @@ signed-requires-4 : tie.Need-signed-requires-4
 signed-requires-4 c κs = search needs
 
 returns : tie.Need-returns
-unfolding four
+unfolding fourSigned
 returns c = reads-then _ (c .before .before .before .before .before .before .before .before .signed .ensures) (reads-then _ (c .before .before .before .before .before .before .before .signed2 .ensures) (reads-then _ (c .before .before .before .before .before .before .signed3 .ensures) (reads-then _ (c .before .before .before .before .before .signed4 .ensures) (reads-done _ _ _))))
 
 pub four-spec : {M : Type 1} → statement M

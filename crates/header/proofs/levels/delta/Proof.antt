@@ -4,7 +4,7 @@ use mir.Syntax.{w32}
 use borrow.Author.Tests.{not-true, not-false}
 use Rattle.numbers.specs.Eval.{Var, v, _⊕_, fits, is}
 use Rattle.numbers.specs.Hand.{known, there}
-use Rattle.header.specs.Levels.{deltas}
+use Rattle.header.specs.Levels.{levelDeltas}
 use Rattle.header.specs.LevelsLaws.{delta-off, delta-on}
 use Rattle.header.proofs.Machine.{machine, said}
 use borrow.Author.Needs.{needs}
@@ -37,13 +37,13 @@ add-result : tie.Need-add-result
 add-result c = fits w32 (ρ (c .before .before .before .before .before .before)) (v 0 ⊕ v 1) tt
 
 returns-2 : tie.Need-returns-2
-returns-2 c = is w32 (ρ (c .before .before .before .before .before .before)) (v 0 ⊕ v 1) tt ∙ sym (delta-on _ _ (said _ 20 (c .before .before .before .before .before .before .pre .1) (c .before .before .before .before .present .ensures) (not-false _ (c .before .before .before .if1 .left))) ∙ ap (deltas _) (c .before .before .if2 .taken))
+returns-2 c = is w32 (ρ (c .before .before .before .before .before .before)) (v 0 ⊕ v 1) tt ∙ sym (delta-on _ _ (said _ 20 (c .before .before .before .before .before .before .pre .1) (c .before .before .before .before .present .ensures) (not-false _ (c .before .before .before .if1 .left))) ∙ ap (levelDeltas _) (c .before .before .if2 .taken))
 
 shared-slice-copy-out-result-3 : tie.Need-shared-slice-copy-out-result-3
 shared-slice-copy-out-result-3 c = search needs
 
 returns-3 : tie.Need-returns-3
-returns-3 c = machine _ 22 (c .before .before .before .before .before .pre .1) ∙ sym (delta-on _ _ (said _ 20 (c .before .before .before .before .before .pre .1) (c .before .before .before .present .ensures) (not-false _ (c .before .before .if1 .left))) ∙ ap (deltas _) (c .before .if2 .left))
+returns-3 c = machine _ 22 (c .before .before .before .before .before .pre .1) ∙ sym (delta-on _ _ (said _ 20 (c .before .before .before .before .before .pre .1) (c .before .before .before .present .ensures) (not-false _ (c .before .before .if1 .left))) ∙ ap (levelDeltas _) (c .before .if2 .left))
 
 pub delta-spec : {M : Type 1} → statement M
 delta-spec =
