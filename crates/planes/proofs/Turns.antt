@@ -7,6 +7,7 @@ use native.Mathlib.Numerals.{add-one}
 use lib.Dec.{eqb}
 use lib.IntN.{ℤ, pos}
 use lib.ListN.{length, getD}
+use Rattle.numbers.specs.Lists.{Bytes}
 use Rattle.numbers.specs.Tables.{allBelow}
 use Rattle.numbers.specs.Tests.{both-true, both-false}
 use Rattle.numbers.specs.declared.Checked.the-variants.{Done, Refused}
@@ -21,23 +22,23 @@ use Rattle.planes.specs.Steps.{laneAdded, meanAdded, Ready, standing, st
 module _ {c : List ℤ} {coded : List Bool} {r : List ℤ} {n : ℕ} (ready : Ready c coded r n) (w x y m i : ℕ) (h : i < n) {s : Spot} (a : Sub w x y m i s) (l : s .x + 4 ≤ w)
     {b : Bool} {dc : ℤ} (f : b ≡ getD coded i false) (g : dc ≡ getD c (16 * i) (pos 0)) where
   -- one added to what stands there
-  added-sub : (q : List ℕ) {q′ : List ℕ} → q′ ≡ cond b (laneAdded q w (s .at) r i) (meanAdded q w (s .at) dc) → q′ ≡ blockPainted q w (s .x) (s .y) (standing q w (s .x) (s .y)) c i
-  added-sub q d = d ∙ added-block ready q w (s .x) (s .y) i h l (a .at) f g
+  added-sub : (q : List ℕ) → Bytes q → {q′ : List ℕ} → q′ ≡ cond b (laneAdded q w (s .at) r i) (meanAdded q w (s .at) dc) → q′ ≡ blockPainted q w (s .x) (s .y) (standing q w (s .x) (s .y)) c i
+  added-sub q b d = d ∙ added-block ready q b w (s .x) (s .y) i h l (a .at) f g
 
-  pub large-turn : (p : List ℕ) {q q′ : List ℕ} → q ≡ blocksPainted (standRule w x y m) p w x y m c i → q′ ≡ cond b (laneAdded q w (s .at) r i) (meanAdded q w (s .at) dc)
+  pub large-turn : (p : List ℕ) {q q′ : List ℕ} → q ≡ blocksPainted (standRule w x y m) p w x y m c i → Bytes q → q′ ≡ cond b (laneAdded q w (s .at) r i) (meanAdded q w (s .at) dc)
       → q′ ≡ blocksPainted (standRule w x y m) p w x y m c (i + 1)
-  large-turn p {q} e d = added-sub q d ∙ rw (a .across, a .down) (blocks-next (standRule w x y m) p w x y m c i e)
+  large-turn p {q} e o d = added-sub q o d ∙ rw (a .across, a .down) (blocks-next (standRule w x y m) p w x y m c i e)
 
 module _ {c : List ℤ} {coded : List Bool} {r : List ℤ} {n : ℕ} (ready : Ready c coded r n) (w x y i : ℕ) (h : i < n) {s : Spot} (a : Sub w x y 4 i s)
     {b : Bool} {dc : ℤ} (f : b ≡ getD coded i false) (g : dc ≡ getD c (16 * i) (pos 0)) (right modes : List ℕ) where
   -- one predicted, and added
   pub small-turn : (p : List ℕ) {q q′ q″ : List ℕ} → q ≡ blocksPainted (smallRule w x y right modes) p w x y 4 c i → Lies (length q) w s → getD modes i 0 < 10
       → q′ ≡ painted q w (s .x) (s .y) (smallAt q w (s .x) (s .y) (eqb (i % 4) 3) right (getD modes i 0))
-      → q″ ≡ cond b (laneAdded q′ w (s .at) r i) (meanAdded q′ w (s .at) dc)
+      → Bytes q′ → q″ ≡ cond b (laneAdded q′ w (s .at) r i) (meanAdded q′ w (s .at) dc)
       → q″ ≡ blocksPainted (smallRule w x y right modes) p w x y 4 c (i + 1)
-  small-turn p {q} {q′} e t k d o =
+  small-turn p {q} {q′} e t k d v o =
       let pred = smallAt q w (s .x) (s .y) (eqb (i % 4) 3) right (getD modes i 0) in
-      added-sub ready w x y 4 i h a (t .square .columns) f g q′ o
+      added-sub ready w x y 4 i h a (t .square .columns) f g q′ v o
       ∙ ap (λ (v : List ℕ). blockPainted v w (s .x) (s .y) (standing v w (s .x) (s .y)) c i) d
       ∙ painted-then q w (s .x) (s .y) (t .square) pred c i (small-at-long q w (s .x) (s .y) (eqb (i % 4) 3) right (getD modes i 0) k)
       ∙ rw (a .across, a .down) (blocks-next (smallRule w x y right modes) p w x y 4 c i e)

@@ -10,13 +10,13 @@ use native.Mathlib.Omega.{arith}
 use lib.IntN.{ℤ, pos, negsuc, _+ℤ_}
 use lib.ListN.{length, getD, set, replicate, getD-replicate}
 use lib.Seq.{set-getD, ext-getD}
-use lib.Signed.{_≤ℤ_, ltZ, ≤ℤ-refl, shrZ}
+use lib.Signed.{_≤ℤ_, ltZ, leZ-yes, ≤ℤ-refl, shrZ}
 use Rattle.numbers.specs.Bounds.{each-[], each-∷}
-use Rattle.numbers.specs.Clamp.{clampZ, clipZ}
-use Rattle.numbers.specs.ClampLaws.{clamp-tests, upTo-same}
+use Rattle.numbers.specs.Clamp.{clampZ, clipZ, signedTo}
+use Rattle.numbers.specs.ClampLaws.{clamp-tests, clamp-cases, clamp-low, clamp-high, upTo-is, upTo-same}
 use Rattle.numbers.specs.In.{In, Each}
 use Rattle.numbers.specs.Lists.{build, built, build-same, getD-build, getD-constant}
-use Rattle.numbers.specs.Parts.{nlt-le}
+use Rattle.numbers.specs.Parts.{up, nlt-le, of-le, add-parts, lt-parts}
 use Rattle.numbers.specs.Runs.{placed, placed-none, placed-next, placed-same, length-placed, copied}
 use Rattle.numbers.specs.Tests.{cond-at}
 use Rattle.transform.specs.Transform.{samplesOf}
@@ -84,14 +84,14 @@ PlainBlock n c i = (k : ℕ) → 0 < k → k < n → getD c (16 * i + k) (pos 0)
 pub record Coded (c : List ℤ) (coded : List Bool) (n : ℕ) : Type 0 where
   pub plain : (i : ℕ) → i < n → getD coded i false ≡ false → PlainBlock 16 c i
 
--- those that are coded stand in r
+-- those that are coded stand in r, in 16 bits
 pub record Ready (c : List ℤ) (coded : List Bool) (r : List ℤ) (n : ℕ) : Type 0 where
   pub few : n ≤ 16
   pub long : 16 * n ≤ length c
   pub fit : Each (negsuc 32767) (pos 32767) c
   pub near : Each (negsuc 150000) (pos 150001) r
   pub plain : (i : ℕ) → i < n → getD coded i false ≡ false → PlainBlock 16 c i
-  pub lane : (i k : ℕ) → i < n → k < 16 → getD coded i false ≡ true → getD r (16 * k + i) (pos 0) ≡ getD (blockResidual c i) k (pos 0)
+  pub lane : (i k : ℕ) → i < n → k < 16 → getD coded i false ≡ true → getD r (16 * k + i) (pos 0) ≡ signedTo 32767 (getD (blockResidual c i) k (pos 0))
 
 -- ---- what stands in the sub-block at column x, row y
 unfoldable pub standing : List ℕ → (w x y : ℕ) → List ℕ
@@ -242,18 +242,54 @@ module _ (p : List ℕ) (w x y : ℕ) (z : List ℤ) where
       next-row 3 d l (next-row 2 c l (next-row 1 b l (next-row 0 a l (sym (rows-none p w x y 4 summed)) (row-0 w x y at e) f) (row-1 w x y at e) g) (row-at w x y at e 2) h) (row-at w x y at e 3) i
       ∙ rows-same p w x y 4 _ _ 4 summed-is ∙ sym (painted-rows p w x y (summedOf (standing p w x y) z))
 
+-- a residual in 16 bits gives the same samples
+clip-low : {v : ℤ} → v ≤ℤ pos 0 → clipZ v ≡ 0
+clip-low {v} h = ap up (upTo-is 255 v ∙ clamp-low (leZ-yes tt) h)
+
+clip-high : {v : ℤ} → pos 255 ≤ℤ v → clipZ v ≡ 255
+clip-high {v} h = ap up (upTo-is 255 v ∙ clamp-high (leZ-yes tt) h)
+
+clip-near : (s : ℕ) (v : ℤ) → s < 256 → clipZ (pos s +ℤ signedTo 32767 v) ≡ clipZ (pos s +ℤ v)
+clip-near s v h = clamp-cases (negsuc 32767) (pos 32767) v (λ (z : ℤ). clipZ (pos s +ℤ z) ≡ clipZ (pos s +ℤ v)) low high (λ e f. refl)
+  where
+    low : ltZ v (negsuc 32767) ≡ true → clipZ (pos s +ℤ negsuc 32767) ≡ clipZ (pos s +ℤ v)
+    low e =
+        let a = add-parts (pos s) (negsuc 32767) in
+        let b = add-parts (pos s) v in
+        let l = lt-parts v (negsuc 32767) e in
+        clip-low {v = pos s +ℤ negsuc 32767} (of-le (omega arith)) ∙ sym (clip-low {v = pos s +ℤ v} (of-le (omega arith)))
+
+    high : ltZ v (negsuc 32767) ≡ false → ltZ (pos 32767) v ≡ true → clipZ (pos s +ℤ pos 32767) ≡ clipZ (pos s +ℤ v)
+    high e f =
+        let a = add-parts (pos s) (pos 32767) in
+        let b = add-parts (pos s) v in
+        let l = lt-parts (pos 32767) v f in
+        clip-high {v = pos s +ℤ pos 32767} (of-le (omega arith)) ∙ sym (clip-high {v = pos s +ℤ v} (of-le (omega arith)))
+
+module _ (p : List ℕ) (w x y : ℕ) (b : Bytes p) (z : List ℤ) where
+  pub summed-near : summedOf (standing p w x y) (build 16 (λ k. signedTo 32767 (getD z k (pos 0)))) ≡ summedOf (standing p w x y) z
+  unfolding summedOf standing
+  summed-near = build-same 16 _ _ (λ k h.
+      ap₂ (λ (s : ℕ) (v : ℤ). clipZ (pos s +ℤ v)) refl (getD-build 16 _ k (pos 0) h)
+      ∙ clip-near (getD (build 16 (λ i. sampleAt p w (x + i % 4) (y + i / 4))) k 0) (getD z k (pos 0)) (rw (getD-build 16 (λ i. sampleAt p w (x + i % 4) (y + i / 4)) k 0 h) (b _)))
+
 -- ---- a sub-block's residual added is the sub-block painted over what stands there
 lane-at : (r : List ℤ) (from k : ℕ) → k < 4 → getD (laneRow r from) k (pos 0) ≡ getD r (from + 16 * k) (pos 0)
 lane-at r from = below-four (λ k. getD (laneRow r from) k (pos 0) ≡ getD r (from + 16 * k) (pos 0)) (rw add-zero) refl refl refl
 
-module _ {c : List ℤ} {coded : List Bool} {r : List ℤ} {n : ℕ} (ready : Ready c coded r n) (p : List ℕ) (w x y i : ℕ) {at : ℕ} (h : i < n) (l : x + 4 ≤ w) (e : at ≡ y * w + x) where
+module _ {c : List ℤ} {coded : List Bool} {r : List ℤ} {n : ℕ} (ready : Ready c coded r n) (p : List ℕ) (bytes : Bytes p) (w x y i : ℕ) {at : ℕ} (h : i < n) (l : x + 4 ≤ w) (e : at ≡ y * w + x) where
   coded-added : getD coded i false ≡ true → laneAdded p w at r i ≡ painted p w x y (summedOf (standing p w x y) (blockResidual c i))
-  coded-added b = block-added p w x y (blockResidual c i) _ _ _ _ l e (row 0 i (omega arith)) (row 4 (i + 64) (omega arith)) (row 8 (i + 128) (omega arith)) (row 12 (i + 192) (omega arith))
+  coded-added b =
+      block-added p w x y near _ _ _ _ l e (row 0 i (omega arith)) (row 4 (i + 64) (omega arith)) (row 8 (i + 128) (omega arith)) (row 12 (i + 192) (omega arith))
+      ∙ ap (painted p w x y) (summed-near p w x y bytes (blockResidual c i))
     where
-      row : (f m : ℕ) → (m ≡ 16 * f + i) × (f ≤ 12) → (k : ℕ) → k < 4 → getD (laneRow r m) k (pos 0) ≡ getD (blockResidual c i) (f + k) (pos 0)
+      near : List ℤ
+      near = build 16 (λ k. signedTo 32767 (getD (blockResidual c i) k (pos 0)))
+
+      row : (f m : ℕ) → (m ≡ 16 * f + i) × (f ≤ 12) → (k : ℕ) → k < 4 → getD (laneRow r m) k (pos 0) ≡ getD near (f + k) (pos 0)
       row f m a k g =
           let q : m + 16 * k ≡ 16 * (f + k) + i = omega arith in
-          lane-at r m k g ∙ ap (λ (j : ℕ). getD r j (pos 0)) q ∙ ready .lane i (f + k) h (omega arith) b
+          lane-at r m k g ∙ ap (λ (j : ℕ). getD r j (pos 0)) q ∙ ready .lane i (f + k) h (omega arith) b ∙ sym (getD-build 16 _ (f + k) (pos 0) (omega arith))
 
   plain-residual : PlainBlock 16 c i → blockResidual c i ≡ replicate 16 (meanOf (getD c (16 * i) (pos 0)))
   unfolding blockResidual
@@ -379,5 +415,5 @@ square-ready {n} c coded before {b} {v} s l d e t =
       fit = each-fit c (sym (residuals-fit c coded before e (k .0)) ∙ t);
       near = residuals-in c coded before e t;
       plain = λ i h. d .plain i (omega arith);
-      lane = λ i j h g q. residuals-at c coded before e t i j (omega arith) (omega arith) g q ∙ ap (λ (x : List ℤ). getD (samplesOf false x) j (pos 0)) (sym (block-built c i (omega arith)));
+      lane = λ i j h g q. residuals-at c coded before e t i j (omega arith) (omega arith) g q ∙ ap (λ (x : List ℤ). signedTo 32767 (getD (samplesOf false x) j (pos 0))) (sym (block-built c i (omega arith)));
     }

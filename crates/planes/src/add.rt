@@ -6,6 +6,7 @@ ghost use lib.IntN.{pos, negsuc, _+ℤ_};
 ghost use lib.ListN.{length};
 ghost use Rattle.numbers.specs.Clamp.{clipZ};
 ghost use Rattle.numbers.specs.In.{In, Each};
+ghost use Rattle.numbers.specs.Lists.{Bytes};
 ghost use Rattle.transform.specs.LanesLaws.{laneRow};
 ghost use Rattle.planes.specs.Steps.{noLess, noMore, rowAdded, laneAdded, meanOf, meanAdded, Residual};
 ghost use Rattle.planes.specs.Places.{Block};
@@ -54,15 +55,20 @@ fn add_row(p: &mut [u8], at: usize, r: [i32; 4])
 }
 
 // A row of the residual of a block, of sixteen blocks by position.
-fn lane_row(r: &[i32; 256], from: usize) -> [i32; 4]
+fn lane_row(r: &[i16; 256], from: usize) -> [i32; 4]
     requires { ⌜ from + 48 < 256 ⌝ }
     ensures { λ q. ⌜ q ≡ laneRow (now (r .entry)) from ⌝ }
 {
-    [r[from], r[from + 16], r[from + 32], r[from + 48]]
+    [
+        r[from] as i32,
+        r[from + 16] as i32,
+        r[from + 32] as i32,
+        r[from + 48] as i32,
+    ]
 }
 
 // The residual of block i.
-fn add_lane(p: &mut [u8], w: usize, at: usize, r: &[i32; 256], i: usize)
+fn add_lane(p: &mut [u8], w: usize, at: usize, r: &[i16; 256], i: usize)
     requires { ⌜ Block (length (now p)) w at ⌝ }
     requires { ⌜ i < 16 ⌝ }
     requires { ⌜ Each (negsuc 150000) (pos 150001) (now r) ⌝ }
@@ -95,13 +101,14 @@ fn add_mean(p: &mut [u8], w: usize, at: usize, dc: i32)
 }
 
 // The residual of block i, whose first coefficient is dc: out of r where it is coded. Where there is none, nothing is touched.
-pub(crate) fn add(p: &mut [u8], w: usize, at: usize, coded: bool, r: &[i32; 256], i: usize, dc: i32)
+pub(crate) fn add(p: &mut [u8], w: usize, at: usize, coded: bool, r: &[i16; 256], i: usize, dc: i32)
     requires { ⌜ Block (length (now p)) w at ⌝ }
     requires { ⌜ i < 16 ⌝ }
     requires { ⌜ Each (negsuc 150000) (pos 150001) (now r) ⌝ }
     requires { ⌜ In (negsuc 32767) (pos 32767) dc ⌝ }
     ensures { λ _. ⌜ now (p .exit)
         ≡ cond coded (laneAdded (now (p .entry)) w at (now (r .entry)) i) (meanAdded (now (p .entry)) w at dc) ⌝ }
+    ensures { λ _. ⌜ Bytes (now (p .entry)) ⌝ }
 {
     if coded {
         add_lane(p, w, at, r, i);

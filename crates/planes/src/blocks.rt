@@ -42,7 +42,7 @@ pub(crate) fn coded_blocks(c: &[i32], n: usize) -> [bool; 16]
 }
 
 // Where their residuals go.
-pub(crate) fn no_values() -> [i32; 256] {
+pub(crate) fn no_values() -> [i16; 256] {
     [0; 256]
 }
 
@@ -70,7 +70,7 @@ fn add_blocks(
     y: usize,
     m: usize,
     coded: [bool; 16],
-    r: &[i32; 256],
+    r: &[i16; 256],
     c: &[i32],
 )
     requires { ⌜ Square (length (now p)) w x y (4 * m) ⌝ }
@@ -105,7 +105,7 @@ fn small_blocks(
     right: [u8; 4],
     modes: &[u8; 16],
     coded: [bool; 16],
-    r: &[i32; 256],
+    r: &[i16; 256],
     c: &[i32],
 )
     requires { ⌜ Square (length (now p)) w x y 16 ⌝ }
@@ -129,7 +129,7 @@ pub(crate) fn small_square(
     y: usize,
     modes: &[u8; 16],
     coded: [bool; 16],
-    r: &[i32; 256],
+    r: &[i16; 256],
     c: &[i32],
 )
     requires { ⌜ Square (length (now p)) w x y 16 ⌝ }
@@ -151,7 +151,7 @@ pub(crate) fn large_square(
     size: usize,
     mode: u8,
     coded: [bool; 16],
-    r: &[i32; 256],
+    r: &[i16; 256],
     c: &[i32],
 )
     requires { ⌜ Square (length (now p)) w x y size ⌝ }

@@ -6,6 +6,7 @@ use Prim.Native.Nat.{ℕ, _+_, _*_, _/_, _%_}
 use lib.Dec.{eqb, ltb}
 use lib.IntN.{ℤ, pos}
 use lib.ListN.{length, getD}
+use Rattle.numbers.specs.Clamp.{signedTo}
 use Rattle.numbers.specs.Lists.{build}
 use Rattle.numbers.specs.Tables.{allBelow}
 use Rattle.transform.specs.Transform.{at, samplesOf, fits16}
@@ -30,9 +31,9 @@ eachFits16 c = allBelow (length c) (λ k. fits16 (at c k))
 unfoldable pub residualsFit : List ℤ → Bool
 residualsFit c = knownLength (length c) && eachFits16 c
 
--- number k of block i of the residual: 0 where the block is not asked for
+-- number k of block i of the residual, in 16 bits: what lies beyond them is the nearest there; 0 where the block is not asked for
 abbrev pub residualOf : (c : List ℤ) (coded : List Bool) (i k : ℕ) → ℤ
-residualOf c coded i k = cond (ltb i (length c / 16) && getD coded i false) (at (samplesOf false (blockOf c i)) k) (pos 0)
+residualOf c coded i k = cond (ltb i (length c / 16) && getD coded i false) (signedTo 32767 (at (samplesOf false (blockOf c i)) k)) (pos 0)
 
 -- ---- the public call
 -- whether the coefficients are as they must be, and the residuals

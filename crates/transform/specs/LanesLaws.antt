@@ -8,17 +8,21 @@ use native.Mathlib.Decide.{ℕ-discrete}
 use native.Mathlib.Numerals.{add-one}
 use native.Mathlib.Omega.{arith}
 use borrow.Author.Tests.{eqb-true, ne-eqb, lt-ltb, le-ltb}
-use lib.Dec.{ltb}
+use lib.Dec.{ltb, lit≤}
 use lib.IntN.{ℤ, pos, negsuc}
 use lib.ListN.{length, getD, set, length-set, replicate, length-replicate, List·getD-eq-default}
 use lib.Seq.{getD-set-same, getD-set-other}
+use lib.Signed.{leZ, leZ-yes}
+use Rattle.numbers.specs.Clamp.{signedTo}
+use Rattle.numbers.specs.ClampLaws.{clamp-in, clamp-same}
 use Rattle.numbers.specs.In.{In, Each}
+use Rattle.numbers.specs.Order.{In-wider}
 use Rattle.numbers.specs.Lists.{build, built, set-keeps, build-listed, build-same, getD-build, getD-constant, constant, _∷≡_}
-use Rattle.numbers.specs.Tables.{all-below}
-use Rattle.numbers.specs.Tests.{lt-or, eq-or, never, both-right, both-false, cond-at}
+use Rattle.numbers.specs.Tables.{allBelow, all-below}
+use Rattle.numbers.specs.Tests.{lt-or, eq-or, never, both-false, cond-at}
 use Rattle.transform.specs.Transform.{Grid, at, cell, gridOf, verticalPass, horizontalPass, resultOf, resultsOf, samplesOf, fits16}
 use Rattle.transform.specs.TransformBounds.{numeral-in}
-use Rattle.transform.specs.TransformLaws.{CoefficientsIn, fits-in, each-build, samples-in, shortcut}
+use Rattle.transform.specs.TransformLaws.{CoefficientsIn, range-in, in-range, below-all, each-build, SmallIn, small-samples-in, shortcut}
 use Rattle.transform.specs.Lanes.{blockOf, laneOf, knownLength, eachFits16, residualsFit, residualOf, Residuals, residualsOf}
 
 -- how long the coefficients of 4 or of 16 blocks are
@@ -39,10 +43,21 @@ laneRow t from = at t from ∷ at t (from + 16) ∷ at t (from + 32) ∷ at t (f
 unfoldable pub cleared : List ℤ
 cleared = replicate 256 (pos 0)
 
+-- number k of block i: its coefficient, and its residual
+abbrev pub coefficientAt : List ℤ → (i k : ℕ) → ℤ
+coefficientAt c i k = at c (16 * i + k)
+
+abbrev pub aloneAt : List ℤ → (i k : ℕ) → ℤ
+aloneAt c i k = signedTo 32767 (at (samplesOf false (blockOf c i)) k)
+
 -- the first n blocks in their places, those that are coded
-unfoldable pub spreadTo : (c : List ℤ) (coded : List Bool) (n : ℕ) → List ℤ
-spreadTo c coded zero = cleared
-spreadTo c coded (suc i) = cond (getD coded i false) (laned (spreadTo c coded i) i (λ k. at c (16 * i + k)) 16) (spreadTo c coded i)
+unfoldable pub spreadTo : (f : ℕ → ℕ → ℤ) (coded : List Bool) (n : ℕ) → List ℤ
+spreadTo f coded zero = cleared
+spreadTo f coded (suc i) = cond (getD coded i false) (laned (spreadTo f coded i) i (f i) 16) (spreadTo f coded i)
+
+-- how many are transformed
+abbrev pub lanesOf : ℕ → ℕ
+lanesOf n = cond (ltb n 8) 8 16
 
 -- the first n blocks transformed
 unfoldable pub turnedTo : List ℤ → (n : ℕ) → List ℤ
@@ -113,9 +128,9 @@ module _ (t : List ℤ) where
   turned-yet zero i k l h = refl
   turned-yet (suc n) i k l h = laned-other (turnedTo t n) n _ 16 i k (omega arith) h (λ e. omega arith) ∙ turned-yet n i k (omega arith) h
 
-  pub turned-fits : (i : ℕ) → i < 16 → Each (negsuc 32767) (pos 32767) t → CoefficientsIn (laneOf (turnedTo t i) i)
+  pub turned-small : (i : ℕ) → i < 16 → Each (negsuc 2047) (pos 2047) t → SmallIn (laneOf (turnedTo t i) i)
   unfolding laneOf
-  turned-fits i h e = record { fit = λ k l. rw (getD-build 16 _ k (pos 0) l, turned-yet i i k (omega arith) h) (e .at (16 * k + i)) }
+  turned-small i h e = record { small = λ k l. rw (getD-build 16 _ k (pos 0) l, turned-yet i i k (omega arith) h) (e .at (16 * k + i)) }
 
   yet : (m : ℕ) → m < 16 → laneOf (turnedTo t m) m ≡ laneOf t m
   unfolding laneOf
@@ -172,61 +187,86 @@ turned-cleared (suc n) =
     (zeros _ (length-laned cleared n _ 16 ∙ length-cleared) (laned-keeps (λ x. x ≡ pos 0) cleared n _ 16 (zero-lane n) cleared-at))
 
 -- ---- blocks put into their places one after the other
-module _ (c : List ℤ) (coded : List Bool) where
-  pub spread-none : spreadTo c coded 0 ≡ cleared
+module _ (f : ℕ → ℕ → ℤ) (coded : List Bool) where
+  pub spread-none : spreadTo f coded 0 ≡ cleared
   unfolding spreadTo
   spread-none = refl
 
-  pub spread-coded : (i : ℕ) {q : List ℤ} → q ≡ spreadTo c coded i → getD coded i false ≡ true → laned q i (λ k. at c (16 * i + k)) 16 ≡ spreadTo c coded (i + 1)
+  pub spread-coded : (i : ℕ) {q : List ℤ} → q ≡ spreadTo f coded i → getD coded i false ≡ true → laned q i (f i) 16 ≡ spreadTo f coded (i + 1)
   unfolding spreadTo
   spread-coded i e h = rw (add-one, h, e)
 
-  pub spread-other : (i : ℕ) {q : List ℤ} → q ≡ spreadTo c coded i → getD coded i false ≡ false → q ≡ spreadTo c coded (i + 1)
+  pub spread-other : (i : ℕ) {q : List ℤ} → q ≡ spreadTo f coded i → getD coded i false ≡ false → q ≡ spreadTo f coded (i + 1)
   unfolding spreadTo
   spread-other i e h = rw (add-one, h, e)
 
-  pub spread-fits : Each (negsuc 32767) (pos 32767) c → (n : ℕ) → Each (negsuc 32767) (pos 32767) (spreadTo c coded n)
+  pub spread-in-bounds : {l h : ℤ} → In l h (pos 0) → ((i k : ℕ) → In l h (f i k)) → (n : ℕ) → Each l h (spreadTo f coded n)
   unfolding spreadTo
-  spread-fits e zero = record { at = λ j. rw (cleared-at j) (numeral-in (pos 0) tt) }
-  spread-fits e (suc n) =
-      let q = spreadTo c coded n in
-      cond-at (getD coded n false) (Each (negsuc 32767) (pos 32767))
-      (λ h. record { at = laned-keeps (In (negsuc 32767) (pos 32767)) q n _ 16 (λ k. e .at (16 * n + k)) (spread-fits e n .at) }) (λ h. spread-fits e n)
+  spread-in-bounds z e zero = record { at = λ j. rw (cleared-at j) z }
+  spread-in-bounds {l} {h} z e (suc n) =
+      let q = spreadTo f coded n in
+      cond-at (getD coded n false) (Each l h)
+      (λ g. record { at = laned-keeps (In l h) q n _ 16 (e n) (spread-in-bounds z e n .at) }) (λ g. spread-in-bounds z e n)
 
-  length-spread : (n : ℕ) → length (spreadTo c coded n) ≡ 256
+  length-spread : (n : ℕ) → length (spreadTo f coded n) ≡ 256
   unfolding spreadTo
   length-spread zero = length-cleared
-  length-spread (suc n) = cond-at (getD coded n false) (λ (l : List ℤ). length l ≡ 256) (λ h. length-laned (spreadTo c coded n) n _ 16 ∙ length-spread n) (λ h. length-spread n)
+  length-spread (suc n) = cond-at (getD coded n false) (λ (l : List ℤ). length l ≡ 256) (λ h. length-laned (spreadTo f coded n) n _ 16 ∙ length-spread n) (λ h. length-spread n)
 
-  -- number k of block i: its coefficient where it is coded, and 0 where it is not or not among them
-  spread-in : (n i k : ℕ) → i < n → n ≤ 16 → k < 16 → getD coded i false ≡ true → at (spreadTo c coded n) (16 * k + i) ≡ at c (16 * i + k)
+  -- number k of block i: its own where it is coded, and 0 where it is not or not among them
+  spread-in : (n i k : ℕ) → i < n → n ≤ 16 → k < 16 → getD coded i false ≡ true → at (spreadTo f coded n) (16 * k + i) ≡ f i k
   unfolding spreadTo
   spread-in zero i k l h g e = absurd (omega arith)
   spread-in (suc n) i k l h g e = elim (ℕ-discrete i n) [
-    | yes z ↦ rw (← z, e) (laned-in (spreadTo c coded i) i _ 16 k (omega (arith, length-spread i)) g)
+    | yes z ↦ rw (← z, e) (laned-in (spreadTo f coded i) i _ 16 k (omega (arith, length-spread i)) g)
     | no z ↦
-        cond-at (getD coded n false) (λ t. at t (16 * k + i) ≡ at c (16 * i + k))
-        (λ q. laned-other (spreadTo c coded n) n _ 16 i k (omega arith) (omega arith) z ∙ spread-in n i k (omega arith) (omega arith) g e)
+        cond-at (getD coded n false) (λ t. at t (16 * k + i) ≡ f i k)
+        (λ q. laned-other (spreadTo f coded n) n _ 16 i k (omega arith) (omega arith) z ∙ spread-in n i k (omega arith) (omega arith) g e)
         (λ q. spread-in n i k (omega arith) (omega arith) g e)
   ]
 
-  spread-off : (n i k : ℕ) → i < 16 → n ≤ 16 → (i < n → getD coded i false ≡ false) → at (spreadTo c coded n) (16 * k + i) ≡ pos 0
+  spread-off : (n i k : ℕ) → i < 16 → n ≤ 16 → (i < n → getD coded i false ≡ false) → at (spreadTo f coded n) (16 * k + i) ≡ pos 0
   unfolding spreadTo
   spread-off zero i k l h e = cleared-at (16 * k + i)
   spread-off (suc n) i k l h e =
       cond-at (getD coded n false) (λ t. at t (16 * k + i) ≡ pos 0)
-      (λ q. laned-other (spreadTo c coded n) n _ 16 i k (omega arith) l (λ z. never q (rw z at (e (omega arith)))) ∙ spread-off n i k l (omega arith) (λ r. e (omega arith)))
+      (λ q. laned-other (spreadTo f coded n) n _ 16 i k (omega arith) l (λ z. never q (rw z at (e (omega arith)))) ∙ spread-off n i k l (omega arith) (λ r. e (omega arith)))
       (λ q. spread-off n i k l (omega arith) (λ r. e (omega arith)))
 
--- ---- the public call
-pub each-fit : (c : List ℤ) → eachFits16 c ≡ true → Each (negsuc 32767) (pos 32767) c
-each-fit c e = record { at = go }
+-- ---- the two tests of all coefficients
+-- -2048..2047: then the transform stays within 16 bits
+abbrev pub isSmall : ℤ → Bool
+isSmall z = leZ (negsuc 2047) z && leZ z (pos 2047)
+
+abbrev pub eachSmall : List ℤ → Bool
+eachSmall c = allBelow (length c) (λ k. isSmall (at c k))
+
+-- one more
+pub within-next : (l h : ℤ) (c : List ℤ) (n : ℕ) {x : ℤ} {f : Bool} → x ≡ at c n → f ≡ allBelow n (λ i. leZ l (at c i) && leZ (at c i) h)
+    → (leZ l x && leZ x h) && f ≡ allBelow (n + 1) (λ i. leZ l (at c i) && leZ (at c i) h)
+within-next l h c n e g = rw (e, g, add-one)
+
+each-within : (l h : ℤ) → In l h (pos 0) → (c : List ℤ) → allBelow (length c) (λ k. leZ l (at c k) && leZ (at c k) h) ≡ true → Each l h c
+each-within l h z c e = record { at = go }
   where
-    go : (k : ℕ) → In (negsuc 32767) (pos 32767) (at c k)
+    go : (k : ℕ) → In l h (at c k)
     go k = elim (lt-or k (length c)) [
-      | inl h ↦ fits-in (at c k) (all-below (λ i. fits16 (at c i)) (length c) e k h)
-      | inr h ↦ rw (List·getD-eq-default c (pos 0) h) (numeral-in (pos 0) tt)
+      | inl p ↦ range-in l h (at c k) (all-below (λ i. leZ l (at c i) && leZ (at c i) h) (length c) e k p)
+      | inr p ↦ rw (List·getD-eq-default c (pos 0) p) z
     ]
+
+pub each-fit : (c : List ℤ) → eachFits16 c ≡ true → Each (negsuc 32767) (pos 32767) c
+each-fit c = each-within (negsuc 32767) (pos 32767) (numeral-in (pos 0) tt) c
+
+pub each-small : (c : List ℤ) → eachSmall c ≡ true → Each (negsuc 2047) (pos 2047) c
+each-small c = each-within (negsuc 2047) (pos 2047) (numeral-in (pos 0) tt) c
+
+pub block-fits : {c : List ℤ} → Each (negsuc 32767) (pos 32767) c → (i : ℕ) → CoefficientsIn (blockOf c i)
+unfolding blockOf
+block-fits {c} e i = record { fit = λ k l. rw (getD-build 16 (λ j. at c (16 * i + j)) k (pos 0) l) (e .at (16 * i + k)) }
+
+pub small-fit : (c : List ℤ) → eachSmall c ≡ true → eachFits16 c ≡ true
+small-fit c e = below-all (λ k. fits16 (at c k)) (length c) (λ k h. in-range {l = negsuc 32767} {h = pos 32767} {z = at c k} (In-wider (each-small c e .at k) tt))
 
 pub known-blocks : (n : ℕ) → knownLength n ≡ true → Blocks n
 known-blocks n e = elim (eq-or n 64) [
@@ -237,27 +277,63 @@ known-blocks n e = elim (eq-or n 64) [
 pub whole-blocks : {n : ℕ} → Blocks n → (16 * (n / 16) ≡ n) × (n / 16 ≤ 16)
 whole-blocks b = ⊎-elim (λ e. (omega arith, omega arith)) (λ e. (omega arith, omega arith)) b
 
+-- ---- what the loops leave
+pub lanes-few : (n : ℕ) → lanesOf n ≤ 16
+lanes-few n = cond-at (ltb n 8) (λ (m : ℕ). m ≤ 16) (λ e. lit≤ tt) (λ e. lit≤ tt)
+
+pub lanes-enough : {n : ℕ} → Blocks n → (n / 16 ≤ lanesOf (n / 16)) × (lanesOf (n / 16) ≤ 16)
+lanes-enough b = ⊎-elim (λ e. rw e (lit≤ tt, lit≤ tt)) (λ e. rw e (lit≤ tt, lit≤ tt)) b
+
 module _ (c : List ℤ) (coded : List Bool) where
-  -- number k of block i of what the loops leave
-  left-at : (i k : ℕ) → i < 16 → k < 16 → length c / 16 ≤ 16
-      → at (turnedTo (spreadTo c coded (length c / 16)) (length c / 16)) (16 * k + i) ≡ residualOf c coded i k
+  -- a block of zeros, and one that is coded
+  lane-none : (n i k : ℕ) → i < 16 → n ≤ 16 → (i < n → getD coded i false ≡ false) → at (samplesOf false (laneOf (spreadTo (coefficientAt c) coded n) i)) k ≡ pos 0
+  unfolding laneOf
+  lane-none n i k h l e =
+      ap (λ (x : List ℤ). at x k) (zero-block _ (λ j q. getD-build 16 _ j (pos 0) q ∙ spread-off (coefficientAt c) coded n i j h l e)) ∙ getD-constant 16 k (pos 0)
+
+  lane-either : (n i k : ℕ) → i < n → n ≤ 16 → (b : Bool) → getD coded i false ≡ b
+      → at (samplesOf false (laneOf (spreadTo (coefficientAt c) coded n) i)) k ≡ cond b (at (samplesOf false (blockOf c i)) k) (pos 0)
   unfolding laneOf blockOf
-  left-at i k h g l =
+  lane-either n i k p l true e = ap (λ (x : List ℤ). at (samplesOf false x) k) (build-same 16 _ _ (λ j q. spread-in (coefficientAt c) coded n i j p l q e))
+  lane-either n i k p l false e = lane-none n i k (omega arith) l (λ z. e)
+
+  -- number k of block i where m blocks were transformed: those from n on are zeros
+  turned-at : (m i k : ℕ) → length c / 16 ≤ m → m ≤ 16 → i < 16 → k < 16
+      → at (turnedTo (spreadTo (coefficientAt c) coded (length c / 16)) m) (16 * k + i)
+      ≡ cond (ltb i (length c / 16) && getD coded i false) (at (samplesOf false (blockOf c i)) k) (pos 0)
+  turned-at m i k l r h g =
       let n = length c / 16 in
-      let t = spreadTo c coded n in
+      let t = spreadTo (coefficientAt c) coded n in
+      let w = length-spread (coefficientAt c) coded n in
       elim (lt-or i n) [
-        | inl p ↦
-            turned-in t (length-spread c coded n) n i k p l g
-            ∙ rw (lt-ltb i n p) (by i k n p l g (getD coded i false) refl)
-        | inr p ↦ turned-yet t n i k p h ∙ spread-off c coded n i k h l (λ q. absurd (omega arith)) ∙ rw (le-ltb i n p)
+        | inl p ↦ turned-in t w m i k (omega arith) r g ∙ rw (lt-ltb i n p) (lane-either n i k p (omega arith) (getD coded i false) refl)
+        | inr p ↦
+            elim (lt-or i m) [
+              | inl q ↦ turned-in t w m i k q r g ∙ lane-none n i k h (omega arith) (λ z. absurd (omega arith)) ∙ rw (le-ltb i n p)
+              | inr q ↦ turned-yet t m i k q h ∙ spread-off (coefficientAt c) coded n i k h (omega arith) (λ z. absurd (omega arith)) ∙ rw (le-ltb i n p)
+            ]
+      ]
+
+  -- small coefficients: no result leaves 16 bits
+  together-at : Each (negsuc 2047) (pos 2047) c → (m i k : ℕ) → length c / 16 ≤ m → m ≤ 16 → i < 16 → k < 16
+      → at (turnedTo (spreadTo (coefficientAt c) coded (length c / 16)) m) (16 * k + i) ≡ residualOf c coded i k
+  unfolding blockOf
+  together-at e m i k l r h g =
+      let small : SmallIn (blockOf c i) = record { small = λ j q. rw (getD-build 16 (λ x. at c (16 * i + x)) j (pos 0) q) (e .at (16 * i + j)) } in
+      turned-at m i k l r h g
+      ∙ ap (λ (z : ℤ). cond (ltb i (length c / 16) && getD coded i false) z (pos 0)) (sym (clamp-same (small-samples-in small .at k)))
+
+  alone-at : (i k : ℕ) → length c / 16 ≤ 16 → i < 16 → k < 16 → at (spreadTo (aloneAt c) coded (length c / 16)) (16 * k + i) ≡ residualOf c coded i k
+  alone-at i k l h g =
+      let n = length c / 16 in
+      elim (lt-or i n) [
+        | inl p ↦ rw (lt-ltb i n p) (by n p l (getD coded i false) refl)
+        | inr p ↦ spread-off (aloneAt c) coded n i k h l (λ z. absurd (omega arith)) ∙ rw (le-ltb i n p)
       ]
     where
-      by : (i k n : ℕ) → i < n → n ≤ 16 → k < 16 → (b : Bool) → getD coded i false ≡ b
-          → at (samplesOf false (laneOf (spreadTo c coded n) i)) k ≡ cond b (at (samplesOf false (blockOf c i)) k) (pos 0)
-      by i k n p l g true e = ap (λ (x : List ℤ). at (samplesOf false x) k) (build-same 16 _ _ (λ j q. spread-in c coded n i j p l q e))
-      by i k n p l g false e =
-          ap (λ (x : List ℤ). at x k) (zero-block _ (λ j q. getD-build 16 _ j (pos 0) q ∙ spread-off c coded n i j (omega arith) l (λ r. e)))
-          ∙ getD-constant 16 k (pos 0)
+      by : (n : ℕ) → i < n → n ≤ 16 → (b : Bool) → getD coded i false ≡ b → at (spreadTo (aloneAt c) coded n) (16 * k + i) ≡ cond b (aloneAt c i k) (pos 0)
+      by n p l true e = spread-in (aloneAt c) coded n i k p l g e
+      by n p l false e = spread-off (aloneAt c) coded n i k (omega arith) l (λ z. e)
 
   module _ (before : List ℤ) where
     pub refused-length : knownLength (length c) ≡ false → record { fit = false; values = before } ≡ residualsOf c coded before
@@ -268,15 +344,26 @@ module _ (c : List ℤ) (coded : List Bool) where
     unfolding residualsOf residualsFit
     refused-fit e = rw (both-false (knownLength (length c)) e)
 
-    pub residuals-done : {q : List ℤ} → knownLength (length c) ≡ true → eachFits16 c ≡ true → q ≡ turnedTo (spreadTo c coded (length c / 16)) (length c / 16)
-        → record { fit = true; values = q } ≡ residualsOf c coded before
+    residuals-done : {q : List ℤ} → knownLength (length c) ≡ true → eachFits16 c ≡ true → length q ≡ 256
+        → ((i k : ℕ) → i < 16 → k < 16 → at q (16 * k + i) ≡ residualOf c coded i k) → record { fit = true; values = q } ≡ residualsOf c coded before
     unfolding residualsOf residualsFit
-    residuals-done d e f =
-        let l = whole-blocks (known-blocks (length c) d) .1 in
-        rw (d, e, f)
-        (ap (λ (q : List ℤ). record { fit = true; values = q })
-        (built _ 256 _ (pos 0) (length-turned _ _ ∙ length-spread c coded _)
-        (λ j h. let z : j ≡ 16 * (j / 16) + j % 16 = omega arith in ap (at (turnedTo (spreadTo c coded (length c / 16)) (length c / 16))) z ∙ left-at (j % 16) (j / 16) (omega arith) (omega arith) l)))
+    residuals-done {q} d e l f =
+        rw (d, e)
+        (ap (λ (v : List ℤ). record { fit = true; values = v })
+        (built q 256 _ (pos 0) l (λ j h. let z : j ≡ 16 * (j / 16) + j % 16 = omega arith in ap (at q) z ∙ f (j % 16) (j / 16) (omega arith) (omega arith))))
+
+    pub done-together : {q : List ℤ} → knownLength (length c) ≡ true → eachSmall c ≡ true → q ≡ turnedTo (spreadTo (coefficientAt c) coded (length c / 16)) (lanesOf (length c / 16))
+        → record { fit = true; values = q } ≡ residualsOf c coded before
+    done-together d e f =
+        let r = lanes-enough (known-blocks (length c) d) in
+        residuals-done d (small-fit c e) (ap length f ∙ length-turned _ _ ∙ length-spread (coefficientAt c) coded _)
+        (λ i k h g. ap (λ (q : List ℤ). at q (16 * k + i)) f ∙ together-at (each-small c e) (lanesOf (length c / 16)) i k (r .0) (r .1) h g)
+
+    pub done-alone : {q : List ℤ} → knownLength (length c) ≡ true → eachFits16 c ≡ true → q ≡ spreadTo (aloneAt c) coded (length c / 16)
+        → record { fit = true; values = q } ≡ residualsOf c coded before
+    done-alone d e f =
+        residuals-done d e (ap length f ∙ length-spread (aloneAt c) coded _)
+        (λ i k h g. ap (λ (q : List ℤ). at q (16 * k + i)) f ∙ alone-at i k (whole-blocks (known-blocks (length c) d) .1) h g)
 
 -- ---- what callers cite: of an answer and the values that it leaves
 module _ (c : List ℤ) (coded : List Bool) (before : List ℤ) {b : Bool} {v : List ℤ} (e : record { fit = b; values = v } ≡ residualsOf c coded before) where
@@ -296,8 +383,8 @@ module _ (c : List ℤ) (coded : List Bool) (before : List ℤ) {b : Bool} {v : 
   unfolding residualsFit
   residuals-fit k = both .0 ∙ rw k
 
-  -- and where each does, number k of block i is its residual
-  pub residuals-at : b ≡ true → (i k : ℕ) → i < length c / 16 → i < 16 → k < 16 → getD coded i false ≡ true → at v (16 * k + i) ≡ at (samplesOf false (blockOf c i)) k
+  -- and where each does, number k of block i is its residual, in 16 bits
+  pub residuals-at : b ≡ true → (i k : ℕ) → i < length c / 16 → i < 16 → k < 16 → getD coded i false ≡ true → at v (16 * k + i) ≡ signedTo 32767 (at (samplesOf false (blockOf c i)) k)
   residuals-at t i k l h g q =
       let m : (16 * k + i) % 16 ≡ i = omega arith in
       let d : (16 * k + i) / 16 ≡ k = omega arith in
@@ -305,10 +392,7 @@ module _ (c : List ℤ) (coded : List Bool) (before : List ℤ) {b : Bool} {v : 
 
   -- near 0
   pub residuals-in : b ≡ true → Each (negsuc 150000) (pos 150001) v
-  unfolding residualsFit blockOf
   residuals-in t =
-      let fit = each-fit c (both-right (knownLength (length c)) (eachFits16 c) (sym (both .0) ∙ t)) in
-      let block : (i : ℕ) → CoefficientsIn (blockOf c i) = λ i. record { fit = λ k l. rw (getD-build 16 (λ j. at c (16 * i + j)) k (pos 0) l) (fit .at (16 * i + k)) } in
       rw (both .1 t)
       (each-build 256 _ (numeral-in (pos 0) tt)
-      (λ j. cond-at (ltb (j % 16) (length c / 16) && getD coded (j % 16) false) (In (negsuc 150000) (pos 150001)) (λ h. samples-in false (block (j % 16)) .at (j / 16)) (λ h. numeral-in (pos 0) tt)))
+      (λ j. cond-at (ltb (j % 16) (length c / 16) && getD coded (j % 16) false) (In (negsuc 150000) (pos 150001)) (λ h. In-wider (clamp-in (leZ-yes tt) _) tt) (λ h. numeral-in (pos 0) tt)))

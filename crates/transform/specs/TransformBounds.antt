@@ -2,8 +2,8 @@
 use mathlib.Core.Path.{_≡_, refl}
 use mathlib.Core.Bool.{Bool, true, false, _&&_}
 use mathlib.Core.List.{List, [], _∷_}
-use Prim.Native.Nat.{ℕ, suc, _+_, _*_, _≤_}
-use native.Mathlib.Nat.{mul-zero, mul-le-mul-right}
+use Prim.Native.Nat.{ℕ, suc, _+_, _*_, _/_, _≤_}
+use native.Mathlib.Nat.{mul-zero, mul-le-mul-left, mul-le-mul-right}
 use native.Mathlib.Omega.{arith}
 use lib.Dec.{T, lit<, lit≤}
 use lib.IntN.{ℤ, pos, negsuc, negℤ, _+ℤ_, _-ℤ_, _*ℤ_}
@@ -74,6 +74,25 @@ scaled-in k {n} (negsuc a) h i =
     let z = mul-zero k in
     near-of n (shrZ (pos k *ℤ negsuc a) 65536) (omega arith) (omega arith)
 
+-- and, where that is not near enough, no further than the product itself
+pub scaled-near : (k : ℕ) {n : ℕ} (x : ℤ) → Near n x → Near (k * n / 65536 + 1) (scaledOf (pos k) x)
+unfolding scaledOf
+scaled-near k {n} (pos a) i =
+    let p = near-parts n (pos a) i in
+    let s = shr-parts 65536 (pos k *ℤ pos a) (lit< tt) in
+    let h : a ≤ n = omega arith in
+    let m : k * a ≤ k * n = mul-le-mul-left k h in
+    near-of (k * n / 65536 + 1) (shrZ (pos k *ℤ pos a) 65536) (omega arith) (omega arith)
+scaled-near k {n} (negsuc a) i =
+    let p = near-parts n (negsuc a) i in
+    let s = shr-parts 65536 (pos k *ℤ negsuc a) (lit< tt) in
+    let h : suc a ≤ n = omega arith in
+    let m : k * suc a ≤ k * n = mul-le-mul-left k h in
+    let u = up-times k (negsuc a) in
+    let d = dn-times k (negsuc a) in
+    let z = mul-zero k in
+    near-of (k * n / 65536 + 1) (shrZ (pos k *ℤ negsuc a) 65536) (omega arith) (omega arith)
+
 -- ---- a line: six times as far, and 8
 line-in : {m n : ℕ} {a b c d : ℤ} → m ≤ n → Near m a → Near m b → Near m c → Near m d → Each (negℤ (pos n)) (pos n) (a ∷ b ∷ c ∷ d ∷ [])
 line-in {m} {n} h a b c d =
@@ -96,6 +115,18 @@ pass-in false {n} i a b c d =
     let c1 = near-sub (near-sub (scaled-in 35468 _ (lit≤ tt) b) (scaled-in 20091 _ (lit≤ tt) d)) d in
     let d1 = near-add (near-add (scaled-in 20091 _ (lit≤ tt) b) b) (scaled-in 35468 _ (lit≤ tt) d) in
     line-in (omega arith) (near-add a1 d1) (near-add b1 c1) (near-sub b1 c1) (near-sub a1 d1)
+
+-- a line of the DCT, nearer
+pub dct-in : {n m : ℕ} {bias a b c d : ℤ} → 3 * n + 6 + 35468 * n / 65536 + 20091 * n / 65536 ≤ m
+    → In (pos 0) (pos 4) bias → Near n a → Near n b → Near n c → Near n d → Each (negℤ (pos m)) (pos m) (passOf false bias a b c d)
+unfolding passOf
+dct-in {n} {m} h i a b c d =
+    let e = In-wider {l′ = negsuc 3} {h′ = pos 4} i tt in
+    let a1 = near-add (near-add a c) e in
+    let b1 = near-add (near-sub a c) e in
+    let c1 = near-sub (near-sub (scaled-near 35468 _ b) (scaled-near 20091 _ d)) d in
+    let d1 = near-add (near-add (scaled-near 20091 _ b) b) (scaled-near 35468 _ d) in
+    line-in {m = m} (omega arith) (near-more (omega arith) (near-add a1 d1)) (near-more (omega arith) (near-add b1 c1)) (near-more (omega arith) (near-sub b1 c1)) (near-more (omega arith) (near-sub a1 d1))
 
 -- ---- a grid
 module _ {l h : ℤ} (z : In l h (pos 0)) where
@@ -128,6 +159,24 @@ vertical-in walsh e =
 pub horizontal-in : (walsh : Bool) {g : Grid} → Each2 (negsuc 199999) (pos 200000) g → Each2 (negsuc 1200007) (pos 1200008) (horizontalPass walsh g)
 unfolding horizontalPass
 horizontal-in walsh e = rows-in walsh (bias-in walsh) e
+
+-- small numbers go no further than 8000 in the first pass of the DCT, those no further than 32000 in the second, and a result is an eighth
+dct-rows-in : {n m : ℕ} {bias : ℤ} {g : Grid} → 3 * n + 6 + 35468 * n / 65536 + 20091 * n / 65536 ≤ m → In (pos 0) (pos 4) bias
+    → Each2 (negℤ (pos n)) (pos n) g → Each2 (negℤ (pos m)) (pos m) (rowsOf false bias g)
+unfolding rowsOf
+dct-rows-in {n} {m} {bias} {g} h i e =
+    lines-in (near-zero m) (λ y. lineOf false bias (getD g y [])) (λ y. dct-in h i (e .at y 0) (e .at y 1) (e .at y 2) (e .at y 3))
+
+pub small-vertical-in : {g : Grid} → Each2 (negsuc 2047) (pos 2047) g → Each2 (negsuc 7999) (pos 8000) (verticalPass false g)
+unfolding verticalPass
+small-vertical-in e = transpose-in (near-zero 8000) (dct-rows-in {n = 2048} {m = 8000} (lit≤ tt) (numeral-in (pos 0) tt) (transpose-in (near-zero 2048) (each2-wider e tt)))
+
+pub small-horizontal-in : {g : Grid} → Each2 (negsuc 7999) (pos 8000) g → Each2 (negsuc 31999) (pos 32000) (horizontalPass false g)
+unfolding horizontalPass
+small-horizontal-in e = dct-rows-in {n = 8000} {m = 32000} (lit≤ tt) (bias-in false) e
+
+pub small-result-in : {z : ℤ} → In (negsuc 31999) (pos 32000) z → In (negsuc 32767) (pos 32767) (resultOf false z)
+small-result-in i = In-wider (inside (know w64 (known (plainly i) ∷ []) (shr (v 0) 3) tt)) tt
 
 -- a division rounds down below 0 too: -1 leaves -1
 pub rounds-down : (walsh : Bool) → resultOf walsh (negsuc 0) ≡ negsuc 0

@@ -6,11 +6,11 @@ use mathlib.Core.Logic.{inl, inr}
 use Prim.Native.Nat.{ℕ, zero, suc, _+_, _*_, _/_, _%_, _<_}
 use native.Mathlib.Omega.{arith}
 use lib.Dec.{T, ltb, lit<}
-use lib.IntN.{ℤ, pos, negsuc, _+ℤ_, _*ℤ_, +ℤ-idr}
+use lib.IntN.{ℤ, pos, negsuc, _+ℤ_, _-ℤ_, _*ℤ_, +ℤ-idr}
 use lib.ListN.{length, replicate}
 use lib.Signed.{leZ, shrZ}
 use Rattle.numbers.specs.In.{In, Each, Each2}
-use Rattle.numbers.specs.Parts.{of-le, le-true, true-le, add-parts, up-times, dn-times, shr-parts}
+use Rattle.numbers.specs.Parts.{of-le, le-true, true-le, add-parts, sub-parts-ℤ, up-times, dn-times, shr-parts}
 use Rattle.numbers.specs.Floor.{floor-is}
 use Rattle.numbers.specs.Bounds.{each-[], each-∷, each2-[], each2-∷}
 use Rattle.numbers.specs.Lists.{build, build-listed, length-build, getD-build, getD-build-past, getD-constant, _∷≡_}
@@ -19,7 +19,7 @@ use Rattle.numbers.specs.Tests.{lt-or, both-true, both-left, both-right, cond-a
 use Rattle.numbers.specs.WrapLaws.{wrap-in}
 use Rattle.transform.specs.declared.Transformed.{Transformed}
 use Rattle.transform.specs.Transform.{Grid, at, cell, four, gridRow, gridOf, transposeOf, scaledOf, passOf, rowsOf, verticalPass, biasOf, horizontalPass, resultOf, resultsOf, samplesOf, fits16, blockFits, transformOf}
-use Rattle.transform.specs.TransformBounds.{numeral-in, vertical-in, horizontal-in, result-in}
+use Rattle.transform.specs.TransformBounds.{numeral-in, vertical-in, horizontal-in, result-in, small-vertical-in, small-horizontal-in, small-result-in}
 
 -- ---- the scaled products
 pub by-fours : (x : ℤ) → shrZ (pos 8867 *ℤ x) 16384 ≡ scaledOf (pos 35468) x
@@ -54,6 +54,24 @@ by-halves x =
     let d = dn-times 65536 q in
     sym (floor-is 65536 {z = pos 20091 *ℤ x} {q = q} (lit< tt) (record { low = of-le (omega arith); high = of-le (omega arith) }))
 
+pub by-rest : (x : ℤ) → x +ℤ shrZ (pos 0 -ℤ pos 30068 *ℤ x) 65536 ≡ scaledOf (pos 35468) x
+unfolding scaledOf
+by-rest x =
+    let t = pos 0 -ℤ pos 30068 *ℤ x in
+    let h = shrZ t 65536 in
+    let q = x +ℤ h in
+    let a = shr-parts 65536 t (lit< tt) in
+    let b = sub-parts-ℤ (pos 0) (pos 30068 *ℤ x) in
+    let s = add-parts x h in
+    let m = add-parts (pos 65536 *ℤ q) (pos 65535) in
+    let u1 = up-times 30068 x in
+    let d1 = dn-times 30068 x in
+    let u2 = up-times 35468 x in
+    let d2 = dn-times 35468 x in
+    let u = up-times 65536 q in
+    let d = dn-times 65536 q in
+    sym (floor-is 65536 {z = pos 35468 *ℤ x} {q = q} (lit< tt) (record { low = of-le (omega arith); high = of-le (omega arith) }))
+
 -- ---- the grid
 pub below-four : (P : ℕ → Type 0) → P 0 → P 1 → P 2 → P 3 → (k : ℕ) → k < 4 → P k
 below-four P a b c d zero h = a
@@ -73,13 +91,17 @@ transpose-at g =
 pub record CoefficientsIn (c : List ℤ) : Type 0 where
   pub fit : (k : ℕ) → k < 16 → In (negsuc 32767) (pos 32767) (at c k)
 
-pub fits-in : (z : ℤ) → fits16 z ≡ true → In (negsuc 32767) (pos 32767) z
-fits-in z e =
-    let l = leZ (negsuc 32767) z in
-    let h = leZ z (pos 32767) in
-    record { low = true-le (negsuc 32767) z (both-left l h e); high = true-le z (pos 32767) (both-right l h e) }
+-- what both tests say
+pub range-in : (l h z : ℤ) → leZ l z && leZ z h ≡ true → In l h z
+range-in l h z e = record { low = true-le l z (both-left (leZ l z) (leZ z h) e); high = true-le z h (both-right (leZ l z) (leZ z h) e) }
 
-below-all : (f : ℕ → Bool) (n : ℕ) → ((i : ℕ) → i < n → f i ≡ true) → allBelow n f ≡ true
+pub in-range : {l h z : ℤ} → In l h z → leZ l z && leZ z h ≡ true
+in-range i = both-true (le-true (i .low)) (le-true (i .high))
+
+pub fits-in : (z : ℤ) → fits16 z ≡ true → In (negsuc 32767) (pos 32767) z
+fits-in z e = range-in (negsuc 32767) (pos 32767) z e
+
+pub below-all : (f : ℕ → Bool) (n : ℕ) → ((i : ℕ) → i < n → f i ≡ true) → allBelow n f ≡ true
 below-all f zero h = refl
 below-all f (suc n) h = both-true (h n (omega arith)) (below-all f n (λ i l. h i (omega arith)))
 
@@ -91,14 +113,17 @@ pub fit-good : {c : List ℤ} → CoefficientsIn c → blockFits c ≡ true
 unfolding blockFits
 fit-good {c} f = below-all (λ i. fits16 (at c i)) 16 (λ i h. both-true (le-true (f .fit i h .low)) (le-true (f .fit i h .high)))
 
-pub grid-in : {c : List ℤ} → CoefficientsIn c → Each2 (negsuc 32767) (pos 32767) (gridOf c)
+grid-within : {l h : ℤ} → T (leZ l (pos 0) && leZ (pos 0) h) → (c : List ℤ) → ((k : ℕ) → k < 16 → In l h (at c k)) → Each2 l h (gridOf c)
 unfolding gridOf
-grid-in {c} f = each2-∷ (row 0 (lit< tt)) (each2-∷ (row 1 (lit< tt)) (each2-∷ (row 2 (lit< tt)) (each2-∷ (row 3 (lit< tt)) (each2-[] tt))))
+grid-within {l} {h} t c f = each2-∷ (row 0 (lit< tt)) (each2-∷ (row 1 (lit< tt)) (each2-∷ (row 2 (lit< tt)) (each2-∷ (row 3 (lit< tt)) (each2-[] t))))
   where
-    row : (y : ℕ) → y < 4 → Each (negsuc 32767) (pos 32767) (gridRow c (4 * y))
-    row y h =
-        let n : (x : ℕ) → x < 4 → In (negsuc 32767) (pos 32767) (at c (4 * y + x)) = λ x l. f .fit (4 * y + x) (omega arith) in
-        each-∷ (n 0 (lit< tt)) (each-∷ (n 1 (lit< tt)) (each-∷ (n 2 (lit< tt)) (each-∷ (n 3 (lit< tt)) (each-[] tt))))
+    row : (y : ℕ) → y < 4 → Each l h (gridRow c (4 * y))
+    row y p =
+        let n : (x : ℕ) → x < 4 → In l h (at c (4 * y + x)) = λ x q. f (4 * y + x) (omega arith) in
+        each-∷ (n 0 (lit< tt)) (each-∷ (n 1 (lit< tt)) (each-∷ (n 2 (lit< tt)) (each-∷ (n 3 (lit< tt)) (each-[] t))))
+
+pub grid-in : {c : List ℤ} → CoefficientsIn c → Each2 (negsuc 32767) (pos 32767) (gridOf c)
+grid-in {c} f = grid-within tt c (f .fit)
 
 -- ---- the answer: the results where all fit, else a refusal
 pub transform-good : {c : List ℤ} (walsh : Bool) → CoefficientsIn c → transformOf c walsh ≡ record { number = 0; samples = samplesOf walsh c }
@@ -124,6 +149,23 @@ unfolding samplesOf resultsOf
 samples-in walsh f =
     let e = horizontal-in walsh (vertical-in walsh (grid-in f)) in
     each-build 16 _ (numeral-in (pos 0) tt) (λ k. result-in walsh (e .at (k / 4) (k % 4)))
+
+-- small coefficients, whose transform stays within 16 bits
+pub record SmallIn (c : List ℤ) : Type 0 where
+  pub small : (k : ℕ) → k < 16 → In (negsuc 2047) (pos 2047) (at c k)
+
+pub small-samples-in : {c : List ℤ} → SmallIn c → Each (negsuc 32767) (pos 32767) (samplesOf false c)
+unfolding samplesOf resultsOf
+small-samples-in {c} f =
+    let e = small-horizontal-in (small-vertical-in (grid-within tt _ (f .small))) in
+    each-build 16 _ (numeral-in (pos 0) tt) (λ k. small-result-in (e .at (k / 4) (k % 4)))
+
+module _ {cs : List ℤ} {g : Grid} (f : SmallIn cs) (a : g ≡ gridOf cs) where
+  pub first-asks : Each2 (negsuc 2047) (pos 2047) g
+  first-asks = rw a (grid-within tt _ (f .small))
+
+  pub second-asks : {u : Grid} → u ≡ verticalPass false g → Each2 (negsuc 7999) (pos 8000) u
+  second-asks b = rw b (small-vertical-in first-asks)
 
 -- what each stage of the code requires, from what the stages before it answered
 module _ (w : Bool) {cs : List ℤ} {g : Grid} (f : CoefficientsIn cs) (a : g ≡ gridOf cs) where

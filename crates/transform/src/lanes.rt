@@ -1,19 +1,20 @@
-// The residuals of a square of 4 or 16 blocks at once (RFC 6386, section 14.4). Number k of block i stands at place 16 * k + i, so that the
-// compiler can take several blocks together.
-use crate::Grid;
-use crate::horizontal;
-use crate::result;
-use crate::vertical;
+// The residuals of a square of 4 or 16 blocks (RFC 6386, section 14.4), all at once where each coefficient leaves room for sixteen bits. Number
+// k of block i stands at place 16 * k + i, so that the compiler can take eight blocks together.
+use crate::samples;
+use crate::short::Short;
+use crate::short::first_pass;
+use crate::short::second_pass;
 ghost use mathlib.Core.Path.{_≡_};
 ghost use mathlib.Core.Bool.{true, false};
 ghost use Prim.Native.Nat.{_+_, _*_, _/_, _%_, _<_, _≤_};
 ghost use lib.IntN.{pos, negsuc};
 ghost use lib.ListN.{length};
-ghost use Rattle.numbers.specs.In.{Each, Each2};
+ghost use Rattle.numbers.specs.Clamp.{signedTo};
+ghost use Rattle.numbers.specs.In.{Each};
 ghost use Rattle.numbers.specs.Tables.{allBelow};
-ghost use Rattle.transform.specs.Transform.{at, cell, gridOf, resultOf, fits16};
-ghost use Rattle.transform.specs.Lanes.{laneOf, knownLength, Residuals, residualsOf};
-ghost use Rattle.transform.specs.LanesLaws.{cleared, laned, laneRow, spreadTo, turnedTo, Blocks};
+ghost use Rattle.transform.specs.Transform.{at, cell, gridOf, resultOf};
+ghost use Rattle.transform.specs.Lanes.{blockOf, laneOf, knownLength, eachFits16, Residuals, residualsOf};
+ghost use Rattle.transform.specs.LanesLaws.{isSmall, cleared, laned, laneRow, coefficientAt, aloneAt, spreadTo, lanesOf, turnedTo, Blocks};
 
 // Whether so many coefficients are those of 4 or of 16 blocks.
 fn known_length(len: usize) -> bool
@@ -22,48 +23,49 @@ fn known_length(len: usize) -> bool
     (len == 64) | (len == 256)
 }
 
-// Whether 64 more fit 16 bits, behind those that were looked at before.
-fn more_fit(c: &[i32], from: usize, before: bool) -> bool
+// Whether 64 more are small, behind those that were looked at before.
+fn more_small(c: &[i32], from: usize, before: bool) -> bool
     requires { ⌜ from + 64 ≤ length (now c) ⌝ }
-    requires { ⌜ before ≡ allBelow from (λ k. fits16 (at (now c) k)) ⌝ }
-    ensures { λ r. ⌜ r ≡ allBelow (from + 64) (λ k. fits16 (at (now (c .entry)) k)) ⌝ }
+    requires { ⌜ before ≡ allBelow from (λ k. isSmall (at (now c) k)) ⌝ }
+    ensures { λ r. ⌜ r ≡ allBelow (from + 64) (λ k. isSmall (at (now (c .entry)) k)) ⌝ }
 {
-    let mut fit = before;
+    let mut small = before;
     for k in 0..64usize {
         let x = c[from + k];
-        fit = (-32768 <= x) & (x <= 32767) & fit;
+        small = (-2048 <= x) & (x <= 2047) & small;
     }
-    fit
+    small
 }
 
-fn each_fits(c: &[i32]) -> bool
+fn each_small(c: &[i32]) -> bool
     requires { ⌜ Blocks (length (now c)) ⌝ }
-    ensures { λ r. ⌜ r ≡ allBelow (length (now (c .entry))) (λ k. fits16 (at (now (c .entry)) k)) ⌝ }
+    ensures { λ r. ⌜ r ≡ allBelow (length (now (c .entry))) (λ k. isSmall (at (now (c .entry)) k)) ⌝ }
 {
-    let mut fit = true;
+    let mut small = true;
     for i in 0..c.len() / 64 {
-        fit = more_fit(c, 64 * i, fit);
+        small = more_small(c, 64 * i, small);
     }
-    fit
+    small
 }
 
-fn clear(t: &mut [i32; 256])
+fn clear(t: &mut [i16; 256])
     ensures { λ _. ⌜ now (t .exit) ≡ cleared ⌝ }
 {
     *t = [0; 256];
 }
 
 // The coefficients of block i into their places.
-fn spread(c: &[i32], i: usize, t: &mut [i32; 256])
+fn spread(c: &[i32], i: usize, t: &mut [i16; 256])
     requires { ⌜ (16 * i + 16 ≤ length (now c)) × (i < 16) ⌝ }
-    ensures { λ _. ⌜ now (t .exit) ≡ laned (now (t .entry)) i (λ k. at (now (c .entry)) (16 * i + k)) 16 ⌝ }
+    requires { ⌜ Each (negsuc 2047) (pos 2047) (now c) ⌝ }
+    ensures { λ _. ⌜ now (t .exit) ≡ laned (now (t .entry)) i (coefficientAt (now (c .entry)) i) 16 ⌝ }
 {
     for k in 0..16usize {
-        t[16 * k + i] = c[16 * i + k];
+        t[16 * k + i] = c[16 * i + k] as i16;
     }
 }
 
-fn lane_row(t: &[i32; 256], from: usize) -> [i32; 4]
+fn lane_row(t: &[i16; 256], from: usize) -> [i16; 4]
     requires { ⌜ from + 48 < 256 ⌝ }
     ensures { λ r. ⌜ r ≡ laneRow (now (t .entry)) from ⌝ }
 {
@@ -71,7 +73,7 @@ fn lane_row(t: &[i32; 256], from: usize) -> [i32; 4]
 }
 
 // Block i out of them.
-fn lane(t: &[i32; 256], i: usize) -> Grid
+fn lane(t: &[i16; 256], i: usize) -> Short
     requires { ⌜ i < 16 ⌝ }
     ensures { λ r. ⌜ r ≡ gridOf (laneOf (now (t .entry)) i) ⌝ }
 {
@@ -83,35 +85,40 @@ fn lane(t: &[i32; 256], i: usize) -> Grid
     ]
 }
 
-// The results of block i into the places of its coefficients.
-fn put_lane(t: &mut [i32; 256], i: usize, g: Grid)
+// The results of block i into the places of its coefficients: an eighth of what the passes leave, rounded down.
+fn put_lane(t: &mut [i16; 256], i: usize, g: Short)
     requires { ⌜ i < 16 ⌝ }
-    requires { ⌜ Each2 (negsuc 1200007) (pos 1200008) g ⌝ }
     ensures { λ _. ⌜ now (t .exit) ≡ laned (now (t .entry)) i (λ k. resultOf false (cell g (k / 4) (k % 4))) 16 ⌝ }
 {
     for k in 0..16usize {
-        t[16 * k + i] = result(g[k / 4][k % 4], false);
+        t[16 * k + i] = g[k / 4][k % 4] >> 3;
     }
 }
 
 // Each of the first n blocks through the transform.
-fn turn(t: &mut [i32; 256], n: usize)
+fn turn(t: &mut [i16; 256], n: usize)
     requires { ⌜ n ≤ 16 ⌝ }
-    requires { ⌜ Each (negsuc 32767) (pos 32767) (now t) ⌝ }
+    requires { ⌜ Each (negsuc 2047) (pos 2047) (now t) ⌝ }
     ensures { λ _. ⌜ now (t .exit) ≡ turnedTo (now (t .entry)) n ⌝ }
 {
     for i in 0..n {
-        put_lane(t, i, horizontal(vertical(lane(t, i), false), false));
+        put_lane(t, i, second_pass(first_pass(lane(t, i))));
     }
 }
 
-// The residuals of n blocks, of those that are coded. The others stay 0, and where none is coded there is nothing to transform.
-fn fill(c: &[i32], n: usize, coded: [bool; 16], t: &mut [i32; 256])
-    requires { ⌜ (16 * n ≡ length (now c)) × (n ≤ 16) ⌝ }
-    requires { ⌜ Each (negsuc 32767) (pos 32767) (now c) ⌝ }
-    ensures { λ _. ⌜ now (t .exit) ≡ turnedTo (spreadTo (now (c .entry)) coded n) n ⌝ }
+// As many blocks as the compiler takes at once, or twice as many.
+fn lanes(n: usize) -> usize
+    ensures { λ r. ⌜ r ≡ lanesOf n ⌝ }
 {
-    clear(t);
+    if n < 8 { 8 } else { 16 }
+}
+
+// The residuals of n blocks, of those that are coded. The others stay 0, and where none is coded there is nothing to transform.
+fn fill(c: &[i32], n: usize, coded: [bool; 16], t: &mut [i16; 256])
+    requires { ⌜ (16 * n ≡ length (now c)) × (n ≤ 16) × (now t ≡ cleared) ⌝ }
+    requires { ⌜ Each (negsuc 2047) (pos 2047) (now c) ⌝ }
+    ensures { λ _. ⌜ now (t .exit) ≡ turnedTo (spreadTo (coefficientAt (now (c .entry))) coded n) (lanesOf n) ⌝ }
+{
     let mut any = false;
     for i in 0..n {
         if coded[i] {
@@ -120,22 +127,101 @@ fn fill(c: &[i32], n: usize, coded: [bool; 16], t: &mut [i32; 256])
         }
     }
     if any {
-        turn(t, n);
+        turn(t, lanes(n));
     }
+}
+
+// ---- where a coefficient is not small: one block after the other. No encoder makes such a square.
+fn block(c: &[i32], i: usize) -> [i32; 16]
+    requires { ⌜ (16 * i + 16 ≤ length (now c)) × (i < 16) ⌝ }
+    ensures { λ r. ⌜ r ≡ blockOf (now (c .entry)) i ⌝ }
+{
+    let mut b = [0; 16];
+    for k in 0..16usize {
+        b[k] = c[16 * i + k];
+    }
+    b
+}
+
+// v taken into sixteen bits by its nearest: added to a sample and clipped, both give the same.
+fn nearest(v: i32) -> i16
+    ensures { λ r. ⌜ r ≡ signedTo 32767 v ⌝ }
+{
+    if v < -32768 {
+        return -32768;
+    }
+    if 32767 < v {
+        return 32767;
+    }
+    v as i16
+}
+
+// The residual of block i into its places.
+fn put_alone(c: &[i32], i: usize, t: &mut [i16; 256])
+    requires { ⌜ (16 * i + 16 ≤ length (now c)) × (i < 16) ⌝ }
+    requires { ⌜ Each (negsuc 32767) (pos 32767) (now c) ⌝ }
+    ensures { λ _. ⌜ now (t .exit) ≡ laned (now (t .entry)) i (aloneAt (now (c .entry)) i) 16 ⌝ }
+{
+    let b = block(c, i);
+    let s = samples(&b, false, false);
+    for k in 0..16usize {
+        t[16 * k + i] = nearest(s[k]);
+    }
+}
+
+fn fill_alone(c: &[i32], n: usize, coded: [bool; 16], t: &mut [i16; 256])
+    requires { ⌜ (16 * n ≡ length (now c)) × (n ≤ 16) × (now t ≡ cleared) ⌝ }
+    requires { ⌜ Each (negsuc 32767) (pos 32767) (now c) ⌝ }
+    ensures { λ _. ⌜ now (t .exit) ≡ spreadTo (aloneAt (now (c .entry))) coded n ⌝ }
+{
+    for i in 0..n {
+        if coded[i] {
+            put_alone(c, i, t);
+        }
+    }
+}
+
+// Whether each fits 16 bits.
+fn each_fits(c: &[i32]) -> bool
+    ensures { λ r. ⌜ r ≡ eachFits16 (now (c .entry)) ⌝ }
+{
+    let mut fit = true;
+    for k in 0..c.len() {
+        let x = c[k];
+        fit = (-32768 <= x) & (x <= 32767) & fit;
+    }
+    fit
+}
+
+// The same, where it is known whether each is small: then it fits.
+fn fits(c: &[i32], small: bool) -> bool
+    requires { ⌜ (small ≡ true → eachFits16 (now c) ≡ true) ⌝ }
+    ensures { λ r. ⌜ r ≡ eachFits16 (now (c .entry)) ⌝ }
+{
+    if small {
+        return true;
+    }
+    each_fits(c)
 }
 
 // Sixteen coefficients for each block, in order; `coded` says which blocks are asked for. False, and `values` as it was, where there are
 // not 4 or 16 blocks or a coefficient does not fit 16 bits.
-pub fn residuals(c: &[i32], coded: [bool; 16], values: &mut [i32; 256]) -> bool
+pub fn residuals(c: &[i32], coded: [bool; 16], values: &mut [i16; 256]) -> bool
     ensures { λ r. ⌜ _≡_ {A = Residuals} (record { fit = r; values = now (values .exit) })
         (residualsOf (now (c .entry)) coded (now (values .entry))) ⌝ }
 {
     if !known_length(c.len()) {
         return false;
     }
-    if !each_fits(c) {
+    let small = each_small(c);
+    if !fits(c, small) {
         return false;
     }
-    fill(c, c.len() / 16, coded, values);
+    clear(values);
+    if small {
+        fill(c, c.len() / 16, coded, values);
+    } else {
+        fill_alone(c, c.len() / 16, coded, values);
+    }
     true
 }

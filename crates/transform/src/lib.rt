@@ -1,6 +1,7 @@
 // The two inverse transforms of a block of 4 by 4 coefficients: RFC 6386 section 14.3 (Walsh-Hadamard) and section 14.4 (DCT).
 // A block is handed from pass to pass as four rows of four numbers.
 pub mod lanes;
+mod short;
 
 ghost use mathlib.Core.Path.{_≡_};
 ghost use mathlib.Core.Bool.{true, false};
@@ -13,7 +14,7 @@ ghost use Rattle.transform.specs.Transform.{scaledOf, lineOf, transposeO
 ghost use Rattle.transform.specs.Transform.{resultOf, resultsOf, samplesOf, blockFits, transformOf};
 ghost use Rattle.transform.specs.TransformLaws.{CoefficientsIn, PlainTo};
 
-pub(crate) type Grid = [[i32; 4]; 4];
+type Grid = [[i32; 4]; 4];
 
 // 0 and the sixteen results, row by row; or 8 and sixteen zeros, where a coefficient does not fit 16 bits.
 pub struct Transformed {
@@ -129,7 +130,7 @@ fn wrapped(v: i32) -> i32
 }
 
 // A result: an eighth of what the passes leave, rounded down; a Walsh result in 16 bits.
-pub(crate) fn result(v: i32, walsh: bool) -> i32
+fn result(v: i32, walsh: bool) -> i32
     requires { ⌜ In (negsuc 1200007) (pos 1200008) v ⌝ }
     ensures { λ r. ⌜ r ≡ resultOf walsh v ⌝ }
 {
@@ -159,7 +160,7 @@ fn bias(walsh: bool) -> i32
 
 // The first pass, over the columns. The four lines stand here and in `horizontal` once more: a function for them, called twice, would be
 // more than the compiler draws into the transform.
-pub(crate) fn vertical(g: Grid, walsh: bool) -> Grid
+fn vertical(g: Grid, walsh: bool) -> Grid
     requires { ⌜ Each2 (negsuc 32767) (pos 32767) g ⌝ }
     ensures { λ r. ⌜ r ≡ verticalPass walsh g ⌝ }
 {
@@ -173,7 +174,7 @@ pub(crate) fn vertical(g: Grid, walsh: bool) -> Grid
 }
 
 // The second pass, over the rows.
-pub(crate) fn horizontal(g: Grid, walsh: bool) -> Grid
+fn horizontal(g: Grid, walsh: bool) -> Grid
     requires { ⌜ Each2 (negsuc 199999) (pos 200000) g ⌝ }
     ensures { λ r. ⌜ r ≡ horizontalPass walsh g ⌝ }
 {
@@ -215,7 +216,7 @@ fn look(c: &[i32; 16]) -> Seen
 }
 
 // The results of coefficients that fit. Each way names its transform by a constant, so that the compiler can join the passes.
-fn samples(c: &[i32; 16], walsh: bool, plain: bool) -> [i32; 16]
+pub(crate) fn samples(c: &[i32; 16], walsh: bool, plain: bool) -> [i32; 16]
     requires { ⌜ CoefficientsIn (now c) ⌝ }
     requires { ⌜ (plain ≡ true → PlainTo 16 (now c)) ⌝ }
     ensures { λ r. ⌜ r ≡ samplesOf walsh (now (c .entry)) ⌝ }

@@ -37,7 +37,7 @@ loop-again c =
     let t = d .before .before .before in
     let l = t .before .before .loop in
     let s = t .before .before .before .before in
-    (omega (arith, t .before .loop-test), large-turn (s .pre .1 .1) _ _ _ _ (l .i) (omega (arith, t .before .loop-test)) (t .sub-block .ensures) (lies t .square .columns) refl (there w32 (s .pre .1 .1 .fit .at (16 * l .i)) tt .eq) _ (l .inv .1) (d .add .ensures))
+    (omega (arith, t .before .loop-test), large-turn (s .pre .1 .1) _ _ _ _ (l .i) (omega (arith, t .before .loop-test)) (t .sub-block .ensures) (lies t .square .columns) refl (there w32 (s .pre .1 .1 .fit .at (16 * l .i)) tt .eq) _ (l .inv .1) (d .add .ensures .1) (d .add .ensures .0))
 
 returns : tie.Need-returns Inv-loop μ-loop
 returns c =

@@ -51,7 +51,7 @@ loop-again c =
     let l = t .before .before .loop in (
       omega arith,
       small-turn (s .pre .1 .1) _ _ _ (l .i) (omega arith) (t .sub-block .ensures) refl (there w32 (s .pre .1 .1 .fit .at (16 * l .i)) tt .eq) (s .args .right) (s .args .modes .now) _
-          (l .inv .1) (lies t) (s .pre .1 .0 (l .i) (omega arith)) (d .predict-small .ensures) (n .add .ensures),
+          (l .inv .1) (lies t) (s .pre .1 .0 (l .i) (omega arith)) (d .predict-small .ensures) (n .add .ensures .1) (n .add .ensures .0),
     )
 
 returns : tie.Need-returns Inv-loop μ-loop

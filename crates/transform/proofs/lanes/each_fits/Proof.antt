@@ -1,39 +1,31 @@
--- `each_fits` meets its contract: 64 a turn.
-use mathlib.Core.Logic.{⊎-elim}
-use mathlib.Core.Path.{_≡_, refl, ap, _∙_}
-use Prim.Native.Nat.{ℕ, _+_, _*_, _-_, _/_, _≤_}
+-- `each_fits` meets its contract: one more a turn.
+use mathlib.Core.Path.{_≡_, refl}
+use Prim.Native.Nat.{ℕ, _-_, _≤_}
 use native.Mathlib.Omega.{arith}
+use lib.IntN.{pos, negsuc}
 use lib.ListN.{length}
+use mir.Syntax.{w32}
+use Rattle.numbers.specs.Hand.{back}
 use Rattle.numbers.specs.Tables.{allBelow}
 use Rattle.transform.specs.Transform.{at, fits16}
-use Rattle.transform.specs.LanesLaws.{Blocks}
+use Rattle.transform.specs.LanesLaws.{within-next}
 use Rattle.transform.proofs.lanes.each_fits.Statement.{statement}
 use Rattle.transform.proofs.lanes.each_fits.Tie as tie
 
 abbrev Inv-loop : tie.InvT-loop
-Inv-loop c fit₀ i₀ i-end fit i = (i ≤ length c / 64) × (fit ≡ allBelow (64 * i) (λ (k : ℕ). fits16 (at c k)))
+Inv-loop c fit₀ k₀ k-end fit k = (k ≤ length c) × (fit ≡ allBelow k (λ (i : ℕ). fits16 (at c i)))
 
 abbrev μ-loop : tie.MeasureT-loop
-μ-loop c fit₀ i₀ i-end fit i = length c / 64 - i
-
-whole : {n : ℕ} → Blocks n → 64 * (n / 64) ≡ n
-whole b = ⊎-elim (λ e. omega arith) (λ e. omega arith) b
+μ-loop c fit₀ k₀ k-end fit k = length c - k
 
 loop-again : tie.Need-loop-again Inv-loop μ-loop
 loop-again c =
-    let a = c .before .before .before .args in
     let l = c .before .before .loop in
-    let e : 64 * l .i + 64 ≡ 64 * (l .i + 1) = omega arith in
-    (omega arith, c .more-fit .ensures ∙ ap (λ (n : ℕ). allBelow n (λ (k : ℕ). fits16 (at (a .c .now) k))) e)
+    (omega arith, within-next (negsuc 32767) (pos 32767) (c .before .before .before .args .c .now) (l .k) (back w32 (c .x .given)) (l .inv .1))
 
 returns : tie.Need-returns Inv-loop μ-loop
-returns c =
-    let s = c .before .before in
-    let e : 64 * c .before .loop .i ≡ length (s .args .c .now) = omega (arith, whole (s .pre)) in
-    rw e at (c .before .loop .inv .1)
+returns c = let e : c .before .loop .k ≡ length (c .before .before .args .c .now) = omega arith in rw e at (c .before .loop .inv .1)
 
 pub each-fits-spec : {M : Type 1} → statement M
 each-fits-spec =
-    tie.close
-    (tie.spec Inv-loop μ-loop (λ c. (omega arith, refl)) (λ c. omega arith) (λ c κs. (omega arith, c .before .loop .inv .1))
-    (λ c. omega arith) (λ c. omega arith) loop-again returns)
+    tie.close (tie.spec Inv-loop μ-loop (λ c. (omega arith, refl)) (λ c. omega arith) (λ c. omega arith) (λ c. omega arith) (λ c. omega arith) loop-again returns)

@@ -1,7 +1,7 @@
 -- `lane_row` meets its contract: what is read fits its type.
 use mathlib.Core.Path.{refl}
 use borrow.Author.Needs.{needs}
-use mir.Syntax.{w32}
+use mir.Syntax.{w16}
 use Rattle.numbers.specs.Hand.{back}
 use Rattle.numbers.specs.Lists.{_∷≡_}
 use Rattle.transform.proofs.lanes.lane_row.Statement.{statement}
@@ -11,7 +11,7 @@ returns : tie.Need-returns
 returns c =
     let b = c .before in
     let a = b .before in
-    back w32 (a .before .t6 .given) ∷≡ back w32 (a .t11 .given) ∷≡ back w32 (b .t16 .given) ∷≡ back w32 (c .t21 .given) ∷≡ refl
+    back w16 (a .before .t6 .given) ∷≡ back w16 (a .t11 .given) ∷≡ back w16 (b .t16 .given) ∷≡ back w16 (c .t21 .given) ∷≡ refl
 
 pub lane-row-spec : {M : Type 1} → statement M
 lane-row-spec =
