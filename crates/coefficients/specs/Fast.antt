@@ -1,19 +1,16 @@
 -- A block over a wide reader: what its calls promise. Its sixteen numbers stand in a longer list, from a place on.
-use Prim.Native.Nat.{ℕ, _+_, _-_}
+use Prim.Native.Nat.{ℕ, _+_}
 use mathlib.Core.Bool.{Bool, true, false, _&&_}
 use mathlib.Core.List.{List, [], _∷_}
 use mathlib.Core.Path.{_≡_}
 use lib.Dec.{leb}
 use lib.IntN.{ℤ, pos}
 use lib.ListN.{getD}
-use Rattle.numbers.specs.Flags.{bitOf}
 use Rattle.numbers.specs.Lists.{build}
 use Rattle.numbers.specs.Runs.{placed}
 use Rattle.reader.specs.Reading.{Reading}
 use Rattle.wide.specs.Counted.{counted}
-use Rattle.wide.specs.Wide as wide
 use Rattle.wide.specs.WideRuns.{WideReads}
-use Rattle.wide.specs.declared.wide.Bit.{Bit}
 use Rattle.wide.specs.declared.wide.Wide.{Wide}
 use Rattle.coefficients.specs.Block.{Coefficients, blockArguments}
 use Rattle.coefficients.specs.declared.fast.WideBlock.{WideBlock}
@@ -26,18 +23,10 @@ sixteenAt l at = build 16 (λ j. getD l (at + j) (pos 0))
 abbrev pub stored : List ℤ → (at : ℕ) → (c : List ℤ) → List ℤ
 stored l at c = placed l at (λ j. getD c j (pos 0)) 16
 
--- ---- one token: whether the block goes on, which after a zero is not asked
-abbrev pub startedOf : List ℕ → Wide → (prob : ℕ) → (zero : Bool) → Bit
-startedOf s w prob true = record { on = true; next = wide.fillOf s w }
-startedOf s w prob false = wide.wideBitOf (wide.fillOf s w) prob
-
 -- ---- the symbols of M-103
--- of a token: as many as its leaf is deep in coeff_tree; after a zero, whose node 0 is not asked, one fewer
+-- of a token: as many as its leaf is deep in coeff_tree
 unfoldable pub depths : List ℕ
 depths = 1 ∷ 2 ∷ 3 ∷ 5 ∷ 6 ∷ 6 ∷ 6 ∷ 6 ∷ 7 ∷ 7 ∷ 7 ∷ 7 ∷ []
-
-abbrev pub tokenCost : (zero : Bool) → ℕ → ℕ
-tokenCost zero t = getD depths t 0 - bitOf zero
 
 -- of a token's number: its extra bits
 unfoldable pub extras : List ℕ

@@ -26,24 +26,28 @@ use Rattle.numbers.specs.Wrap.{wrapZ}
 use Rattle.numbers.specs.WrapLaws.{wrap-is}
 use Rattle.reader.specs.BooleanLaws.{Bytes}
 use Rattle.reader.specs.Extra.{extra}
-use Rattle.reader.specs.Reading.{Reading, done, symbol, _>>=_}
-use Rattle.reader.specs.Token.{tokenTree, tokenStart, token, elevenAt}
+use Rattle.reader.specs.Reading.{Reading, done, ask, symbol, _>>=_}
+use Rattle.reader.specs.Token.{tokenTree, token, elevenAt}
 use Rattle.reader.specs.TokenLaws.{eleven-at}
-use Rattle.reader.specs.Trees.{walk}
+use Rattle.reader.specs.Trees.{branchAt, follow, walk}
+use Rattle.reader.specs.declared.trees.Branch.{Branch}
+use Rattle.reader.specs.declared.trees.Branch.the-variants as B
 use Rattle.reader.specs.declared.boolean.Reader.{Reader}
-use Rattle.wide.specs.Counted.{counted, Costs, paid, costs}
+use Rattle.wide.specs.Counted.{counted, Costs, paid}
 use Rattle.wide.specs.CountedLaws.{costs-then, costs-extra, costs-walk, depthsOf}
 use Rattle.wide.specs.Padded.{runPadded}
 use Rattle.wide.specs.Wide as wide
 use Rattle.wide.specs.WideLaws.{Sim}
-use Rattle.wide.specs.WideRuns.{WideReads, Gave, Going, going-start, going-fill, going-bit, going-done, going-call, going-as, going-weaken, going-cost, going-told, reads-then, walking-start, walking-fill, walking-node, walking-leaf, walking-last}
+use Rattle.wide.specs.WideRuns.{WideReads, Going, going-start, going-fill, going-bit, going-as, going-weaken, going-cost, going-told, reads-then, walk-asks}
 use Rattle.wide.specs.declared.wide.Bit.{Bit}
 use Rattle.wide.specs.declared.wide.Wide.{Wide}
-use Rattle.coefficients.specs.Fast.{sixteenAt, stored, startedOf, depths, tokenCost, extras, Coded, CodedWhere, roomOf}
+use Rattle.coefficients.specs.Fast.{sixteenAt, stored, depths, extras, Coded, CodedWhere, roomOf}
 use Rattle.coefficients.specs.BlockLaws.{SixteenBits}
-use Rattle.coefficients.specs.BlockSteps.{zigzag-below, arguments-fact}
+use Rattle.coefficients.specs.BlockSteps.{zigzag-below, context-more, arguments-fact}
 use Rattle.coefficients.specs.Block.{categories, category, magnitude, signOf, signedValue, bands, zigzag, probabilityPlace, probabilitiesAt, quantizerAt, contextAfter, Coefficients, blockFrom, block, blockArguments}
+use Rattle.coefficients.specs.declared.fast.Number.{Number}
 use Rattle.coefficients.specs.declared.fast.WideBlock.{WideBlock}
+use Rattle.coefficients.specs.declared.fast.Zeros.{Zeros}
 
 -- ---- sixteen numbers in a longer list
 same-list : (l m : List ℤ) → length l ≡ length m → ((i : ℕ) → i < length m → getD l i (pos 0) ≡ getD m i (pos 0)) → l ≡ m
@@ -198,21 +202,6 @@ module _ (s : List ℕ) (w : Wide) (g : List ℤ → Reading Coefficients) (at :
   coded-read e h = rw e at h
 
 -- ---- what symbols cost
-depths-some : allBelow 12 (λ t. leb 1 (getD depths t 0)) ≡ true
-unfolding depths
-depths-some = refl
-
-depth-some : (t : ℕ) → t < 12 → 1 ≤ getD depths t 0
-depth-some t h = leb-true _ _ (all-below (λ t. leb 1 (getD depths t 0)) 12 depths-some t h)
-
-depths-walked : (z : Bool) → depthsOf 7 (tokenCost z) tokenTree 0 (tokenStart z) ≡ true
-unfolding depths
-depths-walked true = refl
-depths-walked false = refl
-
-token-costs : (ps : List ℕ) (z : Bool) → Costs (tokenCost z) 0 (token ps z)
-token-costs ps z = costs-walk 7 32 (tokenCost z) ps tokenTree 0 (tokenStart z) (lit≤ tt) (depths-walked z)
-
 extras-none : allBelow 6 (λ t. eqb (getD extras t 0) 0) ≡ true
 unfolding extras
 extras-none = refl
@@ -232,24 +221,11 @@ magnitude-costs t h =
     rw (le-ltb t 6 k, magnitude) (costs-then (costs-extra (getD categories (t - 6) [])) (λ v. paid f)))
     (lt-or t 6)
 
-signed-costs : (t q : ℕ) → t < 12 → Costs (λ (v : ℤ). suc (getD extras t 0)) 0 (signedValue t q)
-unfolding signedValue
-signed-costs t q h = costs-then (magnitude-costs t h) (λ v. costs (λ b. paid refl))
-
--- ---- one token, once it is known whether the block goes on
+-- ---- the first of eleven probabilities
 first-of : (table : List ℕ) (at : ℕ) → getD (elevenAt table at) 0 0 ≡ getD table at 0
 first-of table at = eleven-at table at 0 (lit< tt) ∙ ap (λ (i : ℕ). getD table i 0) (add-zero at)
 
-module _ (s table : List ℕ) (at : ℕ) {w : Wide} {q : Bit} (y : Bytes s) (h : getD table at 0 < 256) where
-  pub token-goes : (z : Bool) {t : ℕ} {x : Wide} → q ≡ startedOf s w (getD table at 0) z → q .on ≡ true → ((m : ℕ) → WideReads s 15 4 (walk (suc (suc (suc (suc (suc (suc m)))))) (elevenAt table at) tokenTree 1) (q .next) t x) → WideReads s 0 8 (token (elevenAt table at) z) w t x
-  token-goes true o i f r v l b = walking-last (walking-fill 4 (walking-start 32 1 r v l b) (ap (λ (z : Bit). z .next) o)) (f 26) (lit≤ tt) (lit≤ tt)
-  token-goes false o i f r v l b = walking-last (walking-node 24 31 y h (first-of table at) (walking-fill 4 (walking-start 32 0 r v l b) refl) o i refl) (f 25) (lit≤ tt) (lit≤ tt)
-
-  pub token-ends : (z : Bool) → q ≡ startedOf s w (getD table at 0) z → q .on ≡ false → WideReads s 0 8 (token (elevenAt table at) z) w 0 (q .next)
-  token-ends true o i r v l b = absurd (never (ap (λ (z : Bit). z .on) o) i)
-  token-ends false o i r v l b = walking-leaf 24 31 y h (first-of table at) (walking-fill 4 (walking-start 32 0 r v l b) refl) o i refl refl
-
--- ---- a number and its sign
+-- ---- a number
 pub reads-category : (s ps : List ℕ) {v : ℕ} {w q : Wide} (base : ℕ) → WideReads s 0 64 (extra ps) w v q → WideReads s 0 64 (category base ps) w (base + v) q
 reads-category s ps base h = reads-then s 0 64 (extra ps) (λ v. base + v) h
 
@@ -257,13 +233,23 @@ pub magnitude-small : (t : ℕ) → t < 6 → done (t - 1) ≡ magnitude t
 unfolding magnitude
 magnitude-small t h = rw (lt-ltb t 6 h, magnitude)
 
-pub reads-signed : {s : List ℕ} {v : ℕ} {w x f : Wide} {g : Bit} {z : ℤ} (t q : ℕ) → Bytes s → WideReads s 0 64 (magnitude t) w v x → f ≡ wide.fillOf s x → g ≡ wide.wideBitOf f 128 → z ≡ wrapZ (signOf (g .on) (v * q)) → WideReads s 0 68 (signedValue t q) w z (g .next)
-unfolding signedValue
-reads-signed {v} {g} t q y h e o u r m l b =
-    let k : ℕ → Reading ℤ = (λ v. symbol 128 >>= (λ negative. done (wrapZ (signOf negative (v * q))))) in
-    going-done (going-bit 24 y (lit< tt) (going-fill 0 (going-call 4 64 (magnitude t) k (going-start (magnitude t >>= k) r m l b) h (omega arith) (omega arith)) e) o refl) u
+-- ---- a walk of coeff_tree and what follows it, counted, one node at a time
+module _ {A : Type 0} {s : List ℕ} {E : (A × ℕ) × Reader} {lim n p : ℕ} {w : Wide} {q : Bit} {b : Bool} (ps : List ℕ) (i k m c : ℕ) (f : ℕ → Reading A) (y : Bytes s) (h : p < 256) (e : getD ps i 0 ≡ p) (a : Going s E lim (suc k + 7) n (counted c (walk (suc m) ps tokenTree i >>= f)) w) (o : q ≡ wide.wideBitOf w p) (v : q .on ≡ b) where
+  stepped : Going s E lim (suc k) n (counted (suc c) (follow (walk m ps tokenTree) (branchAt tokenTree i b) >>= f)) (q .next)
+  unfolding counted
+  stepped = going-bit k y h (going-as (ap (λ (g : Reading ℕ). counted c (g >>= f)) (walk-asks m ps tokenTree i ∙ ap (λ (z : ℕ). ask z (λ b. follow (walk m ps tokenTree) (branchAt tokenTree i b))) e)) a) o v
 
--- ---- a block
+  step-node : {j : ℕ} → branchAt tokenTree i b ≡ B.Node j → Going s E lim (suc k) n (counted (suc c) (walk m ps tokenTree j >>= f)) (q .next)
+  step-node g = going-as (ap (λ (x : Branch). counted (suc c) (follow (walk m ps tokenTree) x >>= f)) g) stepped
+
+  step-leaf : {t : ℕ} → branchAt tokenTree i b ≡ B.Leaf t → Going s E lim (suc k) n (counted (suc c) (f t)) (q .next)
+  step-leaf g = going-as (ap (λ (x : Branch). counted (suc c) (follow (walk m ps tokenTree) x >>= f)) g) stepped
+
+-- ---- what follows a token
+then-then : {A B C : Type 0} (m : Reading A) (f : A → Reading B) (g : B → Reading C) → ((m >>= f) >>= g) ≡ (m >>= (λ a. f a >>= g))
+then-then (done a) f g = refl
+then-then (ask p k) f g = λ i. ask p (λ b. then-then (k b) f g i)
+
 module _ (table : List ℕ) (kind q0 q1 left n : ℕ) (values : List ℤ) where
   -- what follows the token t
   unfoldable pub restOf : ℕ → Reading Coefficients
@@ -276,162 +262,294 @@ module _ (table : List ℕ) (kind q0 q1 left n : ℕ) (values : List ℤ) where
         ]
       ]
 
+  -- what follows a number and its context: its sign
+  abbrev signOn : ℕ → ℕ → Reading Coefficients
+  signOn ctx v = symbol 128 >>= (λ negative. blockFrom table kind q0 q1 left (n + 1) ctx false (set values (getD zigzag n 0) (wrapZ (signOf negative (v * quantizerAt n q0 q1)))))
+
   block-asks : (ctx : ℕ) (z : Bool) → blockFrom table kind q0 q1 (suc left) n ctx z values ≡ (token (probabilitiesAt table kind n ctx) z >>= restOf)
   unfolding blockFrom restOf
   block-asks ctx z = refl
 
-  rest-ends : {t : ℕ} → t ≡ 0 → restOf t ≡ done (record { end = n; values = values })
+  rest-ends : restOf 0 ≡ done (record { end = n; values = values })
   unfolding restOf
-  rest-ends {t} h = rw (eq-eqb t 0 h, restOf)
+  rest-ends = refl
 
-  rest-zero : {t : ℕ} → t ≡ 1 → restOf t ≡ blockFrom table kind q0 q1 left (n + 1) 0 true values
+  rest-zero : restOf 1 ≡ blockFrom table kind q0 q1 left (n + 1) 0 true values
   unfolding restOf
-  rest-zero {t} h = rw (ne-eqb t 0 (λ g. omega arith), eq-eqb t 1 h, restOf)
+  rest-zero = refl
 
-  rest-number : {t : ℕ} → 2 ≤ t → restOf t ≡ (signedValue t (quantizerAt n q0 q1) >>= (λ v. blockFrom table kind q0 q1 left (n + 1) (contextAfter t) false (set values (getD zigzag n 0) v)))
-  unfolding restOf
-  rest-number {t} h = rw (ne-eqb t 0 (λ g. omega arith), ne-eqb t 1 (λ g. omega arith), restOf)
+  rest-number : (t : ℕ) → 2 ≤ t → restOf t ≡ (magnitude t >>= signOn (contextAfter t))
+  unfolding restOf signedValue
+  rest-number t h =
+      rw (ne-eqb t 0 (λ g. omega arith), ne-eqb t 1 (λ g. omega arith), restOf)
+      (then-then (magnitude t) (λ v. symbol 128 >>= (λ negative. done (wrapZ (signOf negative (v * quantizerAt n q0 q1))))) (λ v. blockFrom table kind q0 q1 left (n + 1) (contextAfter t) false (set values (getD zigzag n 0) v)))
 
 block-none : (table : List ℕ) (kind q0 q1 n ctx : ℕ) (z : Bool) (values : List ℤ) → blockFrom table kind q0 q1 0 n ctx z values ≡ done (record { end = n; values = values })
 unfolding blockFrom
 block-none table kind q0 q1 n ctx z values = refl
 
-context-few : (t : ℕ) → contextAfter t < 3
-unfolding contextAfter
-context-few t = ⊎-elim (λ h. rw (eq-eqb t 2 h, contextAfter) (omega arith)) (λ h. rw (ne-eqb t 2 h, contextAfter) (omega arith)) (eq-or t 2)
+-- ---- a run of zeros
+module _ (s table : List ℕ) (kind q0 q1 : ℕ) (values : List ℤ) (E : (Coefficients × ℕ) × Reader) (lim : ℕ) where
+  -- at node 1 of position n, whose probabilities stand at p, c symbols in; at node 2; and after the last position
+  pub record AtOne (n p c : ℕ) (w : Wide) : Type 0 where
+    pub fuel : ℕ
+    pub going : Going s E lim 25 (76 * (15 - n) + 72) (counted c (walk (suc (suc (suc (suc (suc (suc fuel)))))) (elevenAt table p) tokenTree 1 >>= restOf table kind q0 q1 (15 - n) n values)) w
 
--- the count after a token: the code has `reads` of the numbers, one for each position and, after a zero, one more
-module _ (reads n first : ℕ) (low : first ≤ n) where
-  cost-ended : (z : Bool) {t : ℕ} → t ≡ 0 → reads + (n - first) + 1 ≡ reads + (n - first) + bitOf z + tokenCost z t
-  unfolding depths
-  cost-ended true e = rw e (omega arith)
-  cost-ended false e = rw e (omega arith)
+  pub record AtTwo (n p c : ℕ) (w : Wide) : Type 0 where
+    pub fuel : ℕ
+    pub going : Going s E lim 18 (76 * (15 - n) + 72) (counted c (walk (suc (suc (suc (suc (suc fuel))))) (elevenAt table p) tokenTree 2 >>= restOf table kind q0 q1 (15 - n) n values)) w
 
-  cost-zero : (z : Bool) {t : ℕ} → t ≡ 1 → reads + (n + 1 - first) + 1 ≡ reads + (n - first) + bitOf z + tokenCost z t
-  unfolding depths
-  cost-zero true e = rw e (omega arith)
-  cost-zero false e = rw e (omega arith)
+  abbrev pub AtEnd : ℕ → Wide → Type 0
+  AtEnd c w = Going s E lim 0 0 (counted c (done (record { end = 16; values = values }))) w
 
-  cost-number : (z : Bool) {t k : ℕ} → 2 ≤ t → t < 12 → k ≡ getD tokenSymbols t 0 → reads + k + (n + 1 - first) + 0 ≡ reads + (n - first) + bitOf z + tokenCost z t + suc (getD extras t 0)
-  cost-number true {t} l h e = omega (arith, symbols-is t l h, depth-some t h)
-  cost-number false {t} l h e = omega (arith, symbols-is t l h)
+  module _ {n p c : ℕ} {w : Wide} {q : Bit} (y : Bytes s) (h : getD table (p + 1) 0 < 256) (o : q ≡ wide.wideBitOf w (getD table (p + 1) 0)) where
+    one-on : q .on ≡ true → AtOne n p c w → AtTwo n p (suc c) (q .next)
+    one-on v a = record { fuel = a .fuel; going = step-node (elevenAt table p) 1 17 (suc (suc (suc (suc (suc (a .fuel)))))) c (restOf table kind q0 q1 (15 - n) n values) y h (eleven-at table p 1 (lit< tt)) (a .going) o v refl }
 
+    zeroed : q .on ≡ false → AtOne n p c w → Going s E lim 18 (76 * (15 - n) + 72) (counted (suc c) (blockFrom table kind q0 q1 (15 - n) (n + 1) 0 true values)) (q .next)
+    zeroed v a = going-as (ap (counted (suc c)) (rest-zero table kind q0 q1 (15 - n) n values)) (step-leaf (elevenAt table p) 1 17 (suc (suc (suc (suc (suc (a .fuel)))))) c (restOf table kind q0 q1 (15 - n) n values) y h (eleven-at table p 1 (lit< tt)) (a .going) o v refl)
+
+    one-off : {at : ℕ} {f : Wide} → q .on ≡ false → n + 1 < 16 → at ≡ (kind * 8 + getD bands (n + 1) 0) * 33 + 0 → f ≡ wide.fillOf s (q .next) → AtOne n p c w → AtOne (n + 1) at (suc c) f
+    one-off {at} {f} v l e g a =
+        let i : 15 - n ≡ suc (15 - (n + 1)) = omega arith in
+        let j : blockFrom table kind q0 q1 (15 - n) (n + 1) 0 true values ≡ (walk 32 (elevenAt table at) tokenTree 1 >>= restOf table kind q0 q1 (15 - (n + 1)) (n + 1) values) =
+        ap (λ (x : ℕ). blockFrom table kind q0 q1 x (n + 1) 0 true values) i
+        ∙ block-asks table kind q0 q1 (15 - (n + 1)) (n + 1) values 0 true
+        ∙ ap (λ (x : ℕ). walk 32 (elevenAt table x) tokenTree 1 >>= restOf table kind q0 q1 (15 - (n + 1)) (n + 1) values) (sym (place-is kind (n + 1) 0 refl e)) in
+        let b = going-weaken 18 (76 * (15 - (n + 1)) + 72 + 4) (going-as (ap (counted (suc c)) j) (zeroed v a)) (omega arith) (omega arith) in
+        record { fuel = 26; going = going-weaken 25 (76 * (15 - (n + 1)) + 72) (going-fill (76 * (15 - (n + 1)) + 72) b g) (lit≤ tt) (omega arith) }
+
+    one-last : q .on ≡ false → n + 1 ≡ 16 → AtOne n p c w → AtEnd (suc c) (q .next)
+    one-last v e a =
+        let i : 15 - n ≡ 0 = omega arith in
+        let j : blockFrom table kind q0 q1 (15 - n) (n + 1) 0 true values ≡ done (record { end = 16; values = values }) =
+        ap (λ (x : ℕ). blockFrom table kind q0 q1 x (n + 1) 0 true values) i
+        ∙ block-none table kind q0 q1 (n + 1) 0 true values
+        ∙ ap (λ (x : ℕ). done (record { end = x; values = values })) e in
+        going-weaken 0 0 (going-as (ap (counted (suc c)) j) (zeroed v a)) (omega arith) (omega arith)
+
+-- the loop over them, from position n on: m is where it stands
+module _ (s table : List ℕ) (kind n p : ℕ) (w : Wide) where
+  pub record Zeroing (m at : ℕ) (q : Wide) : Type 0 where
+    pub low : n ≤ m
+    pub below : m < 16
+    pub inside : at + 11 ≤ length table
+    pub reach : (q0 q1 : ℕ) (values : List ℤ) (E : (Coefficients × ℕ) × Reader) (lim c : ℕ) → AtOne s table kind q0 q1 values E lim n p c w → AtOne s table kind q0 q1 values E lim m at (c + (m - n)) q
+
+  -- it stops at a number, or behind the last position
+  pub record Zeroed (q : Zeros) : Type 0 where
+    pub low : n ≤ q .n
+    pub high : q .n ≤ 16
+    pub inside : q .n < 16 → q .place + 11 ≤ length table
+    pub number : (q0 q1 : ℕ) (values : List ℤ) (E : (Coefficients × ℕ) × Reader) (lim c : ℕ) → q .n < 16 → AtOne s table kind q0 q1 values E lim n p c w → AtTwo s table kind q0 q1 values E lim (q .n) (q .place) (c + (q .n - n) + 1) (q .next)
+    pub ended : (q0 q1 : ℕ) (values : List ℤ) (E : (Coefficients × ℕ) × Reader) (lim c : ℕ) → q .n ≡ 16 → AtOne s table kind q0 q1 values E lim n p c w → AtEnd s table kind q0 q1 values E lim (c + (16 - n)) (q .next)
+
+  pub zeroing-start : n < 16 → p + 11 ≤ length table → Zeroing n p w
+  zeroing-start h i =
+      record {
+        low = omega arith;
+        below = h;
+        inside = i;
+        reach = λ q0 q1 values E lim c a. let e : c ≡ c + (n - n) = omega arith in rw e at a;
+      }
+
+  module _ {m at : ℕ} {x : Wide} {b : Bit} (z : Zeroing m at x) (y : Bytes s) (h : getD table (at + 1) 0 < 256) (o : b ≡ wide.wideBitOf x (getD table (at + 1) 0)) where
+    pub zeroing-number : b .on ≡ true → Zeroed (record { n = m; place = at; next = b .next })
+    zeroing-number v =
+        record {
+          low = z .low;
+          high = omega (arith, z .below);
+          inside = λ i. z .inside;
+          number = λ q0 q1 values E lim c i a. let e : suc (c + (m - n)) ≡ c + (m - n) + 1 = omega arith in rw e at (one-on s table kind q0 q1 values E lim y h o v (z .reach q0 q1 values E lim c a));
+          ended = λ q0 q1 values E lim c i a. absurd (omega (arith, z .below));
+        }
+
+    pub zeroing-end : {place : ℕ} → b .on ≡ false → m + 1 ≡ 16 → Zeroed (record { n = m + 1; place = place; next = b .next })
+    zeroing-end v k =
+        record {
+          low = omega (arith, z .low);
+          high = omega arith;
+          inside = λ i. absurd (omega arith);
+          number = λ q0 q1 values E lim c i a. absurd (omega arith);
+          ended = λ q0 q1 values E lim c i a. let e : suc (c + (m - n)) ≡ c + (16 - n) = omega (arith, z .low) in rw e at (one-last s table kind q0 q1 values E lim y h o v k (z .reach q0 q1 values E lim c a));
+        }
+
+    pub zeroing-next : {here : ℕ} {f : Wide} → b .on ≡ false → m + 1 < 16 → here ≡ (kind * 8 + getD bands (m + 1) 0) * 33 + 0 → here + 11 ≤ length table → f ≡ wide.fillOf s (b .next) → Zeroing (m + 1) here f
+    zeroing-next {here} {f} v l e i g =
+        record {
+          low = omega (arith, z .low);
+          below = l;
+          inside = i;
+          reach = λ q0 q1 values E lim c a. let k : suc (c + (m - n)) ≡ c + (m + 1 - n) = omega (arith, z .low) in rw k at (one-off s table kind q0 q1 values E lim y h o v l e g (z .reach q0 q1 values E lim c a));
+        }
+
+-- ---- a number from node 2 on, two symbols in: its value, and the context after it
+depths-deep : allBelow 10 (λ i. leb 3 (getD depths (i + 2) 0)) ≡ true
+unfolding depths
+depths-deep = refl
+
+depth-deep : (t : ℕ) → 2 ≤ t → t < 12 → 3 ≤ getD depths t 0
+depth-deep t l h = let e : t ≡ t - 2 + 2 = omega arith in rw e (leb-true _ _ (all-below (λ i. leb 3 (getD depths (i + 2) 0)) 10 depths-deep (t - 2) (omega arith)))
+
+above-walked : depthsOf 4 (λ t. getD depths t 0 - 3) tokenTree 0 3 ≡ true
+unfolding depths
+above-walked = refl
+
+pub record Counting (s ps : List ℕ) (w : Wide) (q : Number) : Type 0 where
+  pub ctx : ℕ
+  pub few : ctx < 3
+  pub place : q .near ≡ ctx * 11
+  pub small : q .value ≤ 2114
+  pub least : q .reads ≤ 18
+  pub leads : (E : (Coefficients × ℕ) × Reader) (lim n c m : ℕ) (f : ℕ → Reading Coefficients) (h : ℕ → ℕ → Reading Coefficients) → ((t : ℕ) → 2 ≤ t → f t ≡ (magnitude t >>= h (contextAfter t))) → Going s E lim 18 (n + 72) (counted (suc (suc c)) (walk (suc (suc (suc (suc (suc m))))) ps tokenTree 2 >>= f)) w → Going s E lim 8 n (counted (c + q .reads) (h ctx (q .value))) (q .next)
+
+one-is : (h : ℕ → ℕ → Reading Coefficients) → (magnitude 2 >>= h (contextAfter 2)) ≡ h 1 1
+unfolding magnitude contextAfter
+one-is h = refl
+
+module _ (s table : List ℕ) (p : ℕ) {w : Wide} {q : Bit} (y : Bytes s) (l : getD table (p + 2) 0 < 256) (o : q ≡ wide.wideBitOf w (getD table (p + 2) 0)) where
+  pub counting-one : q .on ≡ false → Counting s (elevenAt table p) w (record { value = 1; near = 11; reads = 3; next = q .next })
+  counting-one v =
+      record {
+        ctx = 1;
+        few = lit< tt;
+        place = refl;
+        small = lit≤ tt;
+        least = lit≤ tt;
+        leads =
+            λ E lim n c m f h i a.
+            let e : suc (suc (suc c)) ≡ c + 3 = omega arith in
+            let b = step-leaf (elevenAt table p) 2 10 (suc (suc (suc (suc m)))) (suc (suc c)) f y l (eleven-at table p 2 (lit< tt)) a o v refl in
+            going-weaken 8 n (going-as (λ j. counted (e j) ((i 2 (lit≤ tt) ∙ one-is h) j)) b) (lit≤ tt) (omega arith);
+      }
+
+  pub counting-more : {t v r : ℕ} {x z next : Wide} → q .on ≡ true → 3 ≤ t → t < 12 → ((m : ℕ) → WideReads s 0 4 (walk (suc (suc (suc (suc m)))) (elevenAt table p) tokenTree 3) (q .next) t x) → WideReads s 0 64 (magnitude t) x v z → v ≤ 2114 → r ≡ getD tokenSymbols t 0 → next ≡ wide.fillOf s z → Counting s (elevenAt table p) w (record { value = v; near = 22; reads = r; next = next })
+  counting-more {t} {v} {r} {x} {z} {next} b d e g j k u fl =
+      record {
+        ctx = 2;
+        few = lit< tt;
+        place = refl;
+        small = k;
+        least = omega (arith, u, symbols-most t e);
+        leads =
+            λ E lim n c m f h i a.
+            let ps = elevenAt table p in
+            let c3 = suc (suc (suc c)) in
+            let a1 = step-node (elevenAt table p) 2 10 (suc (suc (suc (suc m)))) (suc (suc c)) f y l (eleven-at table p 2 (lit< tt)) a o b refl in
+            let a2 = going-cost (n + 68) 4 c3 (walk (suc (suc (suc (suc m)))) ps tokenTree 3) f (costs-walk 4 (suc (suc (suc (suc m)))) (λ t. getD depths t 0 - 3) ps tokenTree 0 3 (omega arith) above-walked) a1 (g m) (lit≤ tt) (omega arith) in
+            let c4 = c3 + (getD depths t 0 - 3) in
+            let a3 = going-cost (n + 4) 64 c4 (magnitude t) (h (contextAfter t)) (magnitude-costs t e) (going-as (ap (counted c4) (i t (omega arith))) a2) j (lit≤ tt) (omega arith) in
+            let s1 : c4 + getD extras t 0 ≡ c + r = omega (arith, u, symbols-is t (omega arith) e, depth-deep t (omega arith) e) in
+            let s2 : contextAfter t ≡ 2 = sym (context-more t (λ h. omega arith)) in
+            going-weaken 8 n (going-as (λ j. counted (s1 j) (h (s2 j) v)) (going-fill n a3 fl)) (lit≤ tt) (omega arith);
+      }
+
+-- its sign
+sign-read : {s : List ℕ} {E : (Coefficients × ℕ) × Reader} {lim n : ℕ} {w : Wide} → Bytes s → (c : ℕ) (f : Bool → Reading Coefficients) → Going s E lim 8 n (counted c (symbol 128 >>= f)) w → Going s E lim 1 n (counted (suc c) (f (wide.wideBitOf w 128 .on))) (wide.wideBitOf w 128 .next)
+unfolding counted
+sign-read y c f a = going-bit 0 y (lit< tt) a refl refl
+
+-- ---- a block
 -- the loop: at position n, with 76 bytes' way for each that is left; the list has the values so far
 module _ (s table : List ℕ) (kind q0 q1 : ℕ) (g : Reading Coefficients) (start : Wide) (at : ℕ) (old : List ℤ) (first : ℕ) where
-  -- what is left to read from a position on, or after its token, towards what all of it gives
-  abbrev Toward : (n c : ℕ) → Reading Coefficients → Wide → Type 0
-  Toward n c rest w = (r : Reader) → Sim s start r → start .at + 1216 < 2 ^ 64 → Going s (runPadded (counted 0 g) s r) (start .at + 1216) 0 n (counted c rest) w
+  -- what all of it gives
+  abbrev whole : Reader → (Coefficients × ℕ) × Reader
+  whole r = runPadded (counted 0 g) s r
 
-  pub record Blocking (n near : ℕ) (z : Bool) (reads : ℕ) (w : Wide) (out : List ℤ) : Type 0 where
-    pub more : ℕ
-    pub sum : n + more ≡ 16
+  -- from every reader that the start stands for
+  abbrev Each : (Reader → Type 0) → Type 0
+  Each P = (r : Reader) → Sim s start r → start .at + 1216 < 2 ^ 64 → P r
+
+  pub record Blocking (n near reads : ℕ) (w : Wide) (out : List ℤ) : Type 0 where
     pub low : first ≤ n
+    pub high : n ≤ 16
     pub ctx : ℕ
     pub few : ctx < 3
     pub place : near ≡ ctx * 11
-    pub most : reads + 18 * bitOf z ≤ 18 * (n - first)
+    pub most : reads ≤ 18 * (n - first)
     pub values : List ℤ
     pub long : length values ≡ 16
     pub kept : out ≡ stored old at values
-    pub going : Toward (76 * more) (reads + (n - first) + bitOf z) (blockFrom table kind q0 q1 more n ctx z values) w
+    pub going : Each (λ r. Going s (whole r) (start .at + 1216) 0 (76 * (16 - n)) (counted (reads + (n - first)) (blockFrom table kind q0 q1 (16 - n) n ctx false values)) w)
 
   -- the list is as long as it was
-  pub blocking-long : {n near : ℕ} {z : Bool} {reads : ℕ} {w : Wide} {out : List ℤ} → Blocking n near z reads w out → length out ≡ length old
+  pub blocking-long : {n near reads : ℕ} {w : Wide} {out : List ℤ} → Blocking n near reads w out → length out ≡ length old
   blocking-long c = ap length (c .kept) ∙ length-placed old at (λ j. getD (c .values) j (pos 0)) 16
 
-  -- after the token t of a position
-  pub record Turned (n : ℕ) (z : Bool) (reads : ℕ) (values : List ℤ) (t : ℕ) (q : Wide) : Type 0 where
-    pub left : ℕ
-    pub sum : n + 1 + left ≡ 16
-    pub going : Toward (76 * left + 68) (reads + (n - first) + bitOf z + tokenCost z t) (restOf table kind q0 q1 left n values t) q
-
-  module _ (room : at + 16 ≤ length old) where
+  module _ (room : at + 16 ≤ length old) {n near reads : ℕ} {w : Wide} {out : List ℤ} (c : Blocking n near reads w out) where
     -- what the call promises, of a list that was stored
-    promised : {end reads : ℕ} {next : Wide} {out values : List ℤ} (f : List ℤ → Reading Coefficients) → g ≡ f (sixteenAt old at) → length values ≡ 16 → out ≡ stored old at values → WideReads s 0 1216 (counted 0 g) start (record { end = end; values = values }, reads) next → Coded s start f at old out (record { end = end; reads = reads; next = next })
-    promised {end} {reads} {next} {out} {values} f e l k h =
-        let v : sixteenAt out at ≡ values = ap (λ (o : List ℤ). sixteenAt o at) k ∙ sixteen-stored old at room values l in
-        record { read = rw (sym e, v) h; kept = k ∙ ap (stored old at) (sym v) }
+    promised : {end symbols : ℕ} {next : Wide} (f : List ℤ → Reading Coefficients) → g ≡ f (sixteenAt old at) → WideReads s 0 1216 (counted 0 g) start (record { end = end; values = c .values }, symbols) next → Coded s start f at old out (record { end = end; reads = symbols; next = next })
+    promised {end} {symbols} {next} f e h =
+        let v : sixteenAt out at ≡ c .values = ap (λ (o : List ℤ). sixteenAt o at) (c .kept) ∙ sixteen-stored old at room (c .values) (c .long) in
+        record { read = rw (sym e, v) h; kept = c .kept ∙ ap (stored old at) (sym v) }
 
-    module _ {n near : ℕ} {z : Bool} {reads : ℕ} {w : Wide} {out : List ℤ} (c : Blocking n near z reads w out) (f : List ℤ → Reading Coefficients) (e : g ≡ f (sixteenAt old at)) where
-      pub blocking-end : 16 ≤ n → {b : ℕ} → b ≡ bitOf z → Coded s start f at old out (record { end = n; reads = reads + (n - first) + b; next = w })
-      blocking-end l {b} h = promised f e (c .long) (c .kept) (λ r m k i. ends r (c .more) (c .sum) (c .going r m i))
-        where
-          ends : (r : Reader) (m : ℕ) → n + m ≡ 16 → Going s (runPadded (counted 0 g) s r) (start .at + 1216) 0 (76 * m) (counted (reads + (n - first) + bitOf z) (blockFrom table kind q0 q1 m n (c .ctx) z (c .values))) w → Gave s (runPadded (counted 0 g) s r) (start .at + 1216) (record { end = n; values = c .values }, reads + (n - first) + b) w
-          ends r zero p i = going-told (going-as (ap (counted (reads + (n - first) + bitOf z)) (block-none table kind q0 q1 n (c .ctx) z (c .values))) i) refl (ap (λ (j : ℕ). reads + (n - first) + j) h)
-          ends r (suc m) p i = absurd (omega arith)
+    pub blocking-end : (f : List ℤ → Reading Coefficients) → g ≡ f (sixteenAt old at) → 16 ≤ n → Coded s start f at old out (record { end = n; reads = reads + (n - first); next = w })
+    blocking-end f e l =
+        let i : 16 - n ≡ 0 = omega arith in
+        promised f e (λ r m k b. going-told (going-as (ap (counted (reads + (n - first))) (ap (λ (x : ℕ). blockFrom table kind q0 q1 x n (c .ctx) false (c .values)) i ∙ block-none table kind q0 q1 n (c .ctx) false (c .values))) (c .going r m b)) refl refl)
 
-    -- the token at a position
-    pub turned : {n near : ℕ} {z : Bool} {reads : ℕ} {w : Wide} {out : List ℤ} (c : Blocking n near z reads w out) {here t : ℕ} {q : Wide} → n < 16 → here ≡ (kind * 8 + getD bands n 0) * 33 + near → WideReads s 0 8 (token (elevenAt table here) z) w t q → Turned n z reads (c .values) t q
-    turned {n} {near} {z} {reads} {w} c {here} {t} {q} l e f = go (c .more) (c .sum) (c .going)
-      where
-        go : (m : ℕ) → n + m ≡ 16 → Toward (76 * m) (reads + (n - first) + bitOf z) (blockFrom table kind q0 q1 m n (c .ctx) z (c .values)) w → Turned n z reads (c .values) t q
-        go zero p i = absurd (omega arith)
-        go (suc m) p i =
-            let ps : List ℕ = probabilitiesAt table kind n (c .ctx) in
-            let j : WideReads s 0 8 (token ps z) w t q = rw (place-is kind n (c .ctx) (c .place) e) at f in
-            let rest : ℕ → Reading Coefficients = restOf table kind q0 q1 m n (c .values) in
+    -- whether it goes on
+    module _ {here : ℕ} {v : Wide} {q : Bit} (y : Bytes s) (h : getD table here 0 < 256) (l : n < 16) (e : here ≡ (kind * 8 + getD bands n 0) * 33 + near) (fl : v ≡ wide.fillOf s w) (o : q ≡ wide.wideBitOf v (getD table here 0)) where
+      asked : Each (λ r. Going s (whole r) (start .at + 1216) 32 (76 * (15 - n) + 72) (counted (reads + (n - first)) (walk 32 (elevenAt table here) tokenTree 0 >>= restOf table kind q0 q1 (15 - n) n (c .values))) v)
+      asked r m b =
+          let i : 16 - n ≡ suc (15 - n) = omega arith in
+          let j : blockFrom table kind q0 q1 (16 - n) n (c .ctx) false (c .values) ≡ (walk 32 (elevenAt table here) tokenTree 0 >>= restOf table kind q0 q1 (15 - n) n (c .values)) =
+          ap (λ (x : ℕ). blockFrom table kind q0 q1 x n (c .ctx) false (c .values)) i
+          ∙ block-asks table kind q0 q1 (15 - n) n (c .values) (c .ctx) false
+          ∙ ap (λ (x : ℕ). walk 32 (elevenAt table x) tokenTree 0 >>= restOf table kind q0 q1 (15 - n) n (c .values)) (sym (place-is kind n (c .ctx) (c .place) e)) in
+          going-fill (76 * (15 - n) + 72) (going-weaken 0 (76 * (15 - n) + 72 + 4) (going-as (ap (counted (reads + (n - first))) j) (c .going r m b)) (omega arith) (omega arith)) fl
+
+      pub blocking-stops : (f : List ℤ → Reading Coefficients) → g ≡ f (sixteenAt old at) → q .on ≡ false → Coded s start f at old out (record { end = n; reads = reads + (n - first) + 1; next = q .next })
+      blocking-stops f z i =
+          let k : reads + (n - first) + 1 ≡ suc (reads + (n - first)) = omega arith in
+          promised f z (λ r m a b. going-told (going-as (ap (counted (suc (reads + (n - first)))) (rest-ends table kind q0 q1 (15 - n) n (c .values))) (step-leaf (elevenAt table here) 0 24 31 (reads + (n - first)) (restOf table kind q0 q1 (15 - n) n (c .values)) y h (first-of table here) (asked r m b) o i refl)) refl k)
+
+      pub blocking-goes : q .on ≡ true → Each (λ r. AtOne s table kind q0 q1 (c .values) (whole r) (start .at + 1216) n here (suc (reads + (n - first))) (q .next))
+      blocking-goes i r m b = record { fuel = 25; going = step-node (elevenAt table here) 0 24 31 (reads + (n - first)) (restOf table kind q0 q1 (15 - n) n (c .values)) y h (first-of table here) (asked r m b) o i refl }
+
+      module _ {z : Zeros} (k : Zeroed s table kind n here (q .next) z) where
+        pub blocking-zeros : (f : List ℤ → Reading Coefficients) → g ≡ f (sixteenAt old at) → q .on ≡ true → z .n ≡ 16 → Coded s start f at old out (record { end = 16; reads = reads + (16 - first) + 1; next = z .next })
+        blocking-zeros f d i j =
+            let u : reads + (16 - first) + 1 ≡ suc (reads + (n - first)) + (16 - n) = omega (arith, c .low) in
+            promised f d (λ r m a b. let x = k .ended q0 q1 (c .values) (whole r) (start .at + 1216) (suc (reads + (n - first))) j (blocking-goes i r m b) in going-told (going-weaken 0 0 x (omega arith) (omega arith)) refl u)
+
+        -- the list keeps the number as the machine reads it back
+        pub blocking-number : {d : Number} {a : ℤ} {x : Wide} {t u : ℕ} → q .on ≡ true → z .n < 16 → Counting s (elevenAt table (z .place)) (z .next) d → t ≡ quantizerAt (z .n) q0 q1 → x ≡ wide.wideBitOf (d .next) 128 .next → a ≡ wrapZ (signOf (wide.wideBitOf (d .next) 128 .on) (d .value * t)) → SixteenBits a → u ≡ getD zigzag (z .n) 0 → Blocking (z .n + 1) (d .near) (reads + d .reads) x (set out (at + u) (round w32 a))
+        blocking-number {d} {a} {x} {t} {u} i j p e4 e5 e6 six e7 =
+            let w : round w32 a ≡ a = there w32 six tt .eq in
             record {
-              left = m;
-              sum = omega arith;
-              going = λ r v b. going-cost (76 * m + 68) 8 (reads + (n - first) + bitOf z) (token ps z) rest (token-costs ps z) (going-as (ap (counted (reads + (n - first) + bitOf z)) (block-asks table kind q0 q1 m n (c .values) (c .ctx) z)) (i r v b)) j (omega arith) (omega arith);
+              low = omega (arith, c .low, k .low);
+              high = omega arith;
+              ctx = p .ctx;
+              few = p .few;
+              place = p .place;
+              most = omega (arith, c .most, c .low, k .low, p .least);
+              values = set (c .values) (getD zigzag (z .n) 0) a;
+              long = length-set (c .values) (getD zigzag (z .n) 0) a ∙ c .long;
+              kept = rw (w, e7, c .kept) (stored-set old at room (c .values) (getD zigzag (z .n) 0) a (c .long) (zigzag-below (z .n)));
+              going =
+                  λ r m b.
+                  let a1 = k .number q0 q1 (c .values) (whole r) (start .at + 1216) (suc (reads + (n - first))) j (blocking-goes i r m b) in
+                  let left = 15 - z .n in
+                  let way = 76 * left in
+                  let s1 : suc (reads + (n - first)) + (z .n - n) + 1 ≡ suc (suc (reads + (z .n - first))) = omega (arith, c .low, k .low) in
+                  let a2 = going-as (ap (λ (v : ℕ). counted v (walk (suc (suc (suc (suc (suc (a1 .fuel)))))) (elevenAt table (z .place)) tokenTree 2 >>= restOf table kind q0 q1 left (z .n) (c .values))) s1) (a1 .going) in
+                  let a3 = p .leads (whole r) (start .at + 1216) way (reads + (z .n - first)) (a1 .fuel) (restOf table kind q0 q1 left (z .n) (c .values)) (signOn table kind q0 q1 left (z .n) (c .values)) (rest-number table kind q0 q1 left (z .n) (c .values)) a2 in
+                  let a4 = sign-read y (reads + (z .n - first) + d .reads) (λ v. blockFrom table kind q0 q1 left (z .n + 1) (p .ctx) false (set (c .values) (getD zigzag (z .n) 0) (wrapZ (signOf v (d .value * quantizerAt (z .n) q0 q1))))) a3 in
+                  let s2 : suc (reads + (z .n - first) + d .reads) ≡ reads + d .reads + (z .n + 1 - first) = omega (arith, c .low, k .low) in
+                  let n1 : left ≡ 16 - (z .n + 1) = omega arith in
+                  let v1 : wrapZ (signOf (wide.wideBitOf (d .next) 128 .on) (d .value * quantizerAt (z .n) q0 q1)) ≡ a = sym (e6 ∙ ap (λ (v : ℕ). wrapZ (signOf (wide.wideBitOf (d .next) 128 .on) (d .value * v))) e4) in
+                  let a5 = going-as (λ v. counted (s2 v) (blockFrom table kind q0 q1 (n1 v) (z .n + 1) (p .ctx) false (set (c .values) (getD zigzag (z .n) 0) (v1 v)))) a4 in
+                  rw e5 (going-weaken 0 (76 * (16 - (z .n + 1))) a5 (omega arith) (omega arith));
             }
 
-    module _ {n near : ℕ} {z : Bool} {reads : ℕ} {w : Wide} {out : List ℤ} (c : Blocking n near z reads w out) {t : ℕ} {q : Wide} (d : Turned n z reads (c .values) t q) where
-      abbrev total : ℕ
-      total = reads + (n - first) + bitOf z + tokenCost z t
-
-      pub turned-ended : t ≡ 0 → (f : List ℤ → Reading Coefficients) → g ≡ f (sixteenAt old at) → Coded s start f at old out (record { end = n; reads = reads + (n - first) + 1; next = q })
-      turned-ended h f e = promised f e (c .long) (c .kept) (λ r m k i. going-told (going-as (ap (counted total) (rest-ends table kind q0 q1 (d .left) n (c .values) h)) (d .going r m i)) refl (cost-ended reads n first (c .low) z h))
-
-      pub turned-zero : t ≡ 1 → Blocking (n + 1) 0 true reads q out
-      turned-zero h =
-          record {
-            more = d .left;
-            sum = d .sum;
-            low = omega (arith, c .low);
-            ctx = 0;
-            few = omega arith;
-            place = omega arith;
-            most = omega (arith, c .most, c .low);
-            values = c .values;
-            long = c .long;
-            kept = c .kept;
-            going =
-                λ r m f. going-weaken 0 (76 * d .left)
-                (going-as ((λ i. counted (sym (cost-zero reads n first (c .low) z h) i) (rest-zero table kind q0 q1 (d .left) n (c .values) h i))) (d .going r m f)) (omega arith) (omega arith);
-          }
-
-      -- the list keeps the number as the machine reads it back
-      pub turned-number : {k near u cost : ℕ} {v : ℤ} {o : Wide} → 2 ≤ t → t < 12 → cost ≡ getD tokenSymbols t 0 → k ≡ quantizerAt n q0 q1 → WideReads s 0 68 (signedValue t k) q v o → SixteenBits v → near ≡ contextAfter t * 11 → u ≡ getD zigzag n 0 → Blocking (n + 1) near false (reads + cost) o (set out (at + u) (round w32 v))
-      turned-number {k} {near} {u} {cost} {v} {o} l b x e h y p i =
-          let j : WideReads s 0 68 (signedValue t (quantizerAt n q0 q1)) q v o = rw e at h in
-          let rest : ℤ → Reading Coefficients = (λ v. blockFrom table kind q0 q1 (d .left) (n + 1) (contextAfter t) false (set (c .values) (getD zigzag n 0) v)) in
-          let w : round w32 v ≡ v = there w32 y tt .eq in
-          record {
-            more = d .left;
-            sum = d .sum;
-            low = omega (arith, c .low);
-            ctx = contextAfter t;
-            few = context-few t;
-            place = p;
-            most = omega (arith, c .most, c .low, x, symbols-most t b);
-            values = set (c .values) (getD zigzag n 0) v;
-            long = length-set (c .values) (getD zigzag n 0) v ∙ c .long;
-            kept = rw (w, i, c .kept) (stored-set old at room (c .values) (getD zigzag n 0) v (c .long) (zigzag-below n));
-            going =
-                λ r m f.
-                let a = going-cost (76 * d .left) 68 total (signedValue t (quantizerAt n q0 q1)) rest (signed-costs t (quantizerAt n q0 q1) b) (going-as (ap (counted total) (rest-number table kind q0 q1 (d .left) n (c .values) l)) (d .going r m f)) j (omega arith) (omega arith) in
-                going-as (ap (λ (i : ℕ). counted i (rest v)) (sym (cost-number reads n first (c .low) z l b x))) a;
-          }
-
-pub blocking-start : (s table : List ℕ) (kind q0 q1 : ℕ) {ctx first : ℕ} {near : ℕ} {at : ℕ} {old : List ℤ} {w : Wide} → ctx < 3 → first ≤ 1 → near ≡ 11 * ctx → at + 16 ≤ length old → Blocking s table kind q0 q1 (block table kind q0 q1 ctx first (sixteenAt old at)) w at old first first near false 0 w old
+pub blocking-start : (s table : List ℕ) (kind q0 q1 : ℕ) {ctx first : ℕ} {near : ℕ} {at : ℕ} {old : List ℤ} {w : Wide} → ctx < 3 → first ≤ 1 → near ≡ 11 * ctx → at + 16 ≤ length old → Blocking s table kind q0 q1 (block table kind q0 q1 ctx first (sixteenAt old at)) w at old first first near 0 w old
 blocking-start s table kind q0 q1 {ctx} {first} {near} {at} {old} {w} h l e room =
     let b : Reading Coefficients = block table kind q0 q1 ctx first (sixteenAt old at) in
-    let none : 0 ≡ 0 + (first - first) + bitOf false = omega arith in
+    let none : 0 ≡ 0 + (first - first) = omega arith in
     record {
-      more = 16 - first;
-      sum = omega arith;
       low = omega arith;
+      high = omega arith;
       ctx = ctx;
       few = h;
       place = omega arith;

@@ -9,7 +9,7 @@ use crate::block::ZIGZAG;
 use crate::block::arguments;
 use crate::block::entry;
 use crate::block::quantizer;
-use crate::walk::coded_token;
+use crate::walk::above;
 use wide::extra::Numbered;
 use wide::extra::extra_bits;
 use wide::wide::Wide;
@@ -20,9 +20,11 @@ ghost use Rattle.header.specs.Entries.{probabilityCount};
 ghost use Rattle.numbers.specs.Wrap.{wrapZ};
 ghost use Rattle.wide.specs.WideRuns.{WideReads};
 ghost use Rattle.coefficients.specs.BlockLaws.{SixteenBits};
-ghost use Rattle.coefficients.specs.Block.{category, magnitude, signOf, signedValue, bands, contextAfter, block};
+ghost use Rattle.wide.specs.Wide.{wideBitOf};
+ghost use Rattle.reader.specs.Token.{elevenAt};
+ghost use Rattle.coefficients.specs.Block.{category, magnitude, signOf, bands, block};
 ghost use Rattle.coefficients.specs.Fast.{roomOf, Coded, CodedWhere};
-ghost use Rattle.coefficients.specs.FastLaws.{raisedOf, bandPlaces, tokenSymbols};
+ghost use Rattle.coefficients.specs.FastLaws.{raisedOf, bandPlaces, tokenSymbols, Counting, Zeroed};
 
 // Where the 33 probabilities of a position's band stand among those of its kind.
 const BAND_PLACES: [u16; 16] = [
@@ -50,6 +52,21 @@ const SYMBOLS: [u8; 12] = [0, 0, 3, 5, 6, 6, 7, 8, 10, 11, 12, 18];
 // A coefficient, and the reader after it.
 pub(crate) struct Valued {
     pub value: i32,
+    pub next: Wide,
+}
+
+// A number, eleven times the context after it, its symbols as `SYMBOLS` has them, and the reader after it.
+pub(crate) struct Number {
+    pub value: u32,
+    pub near: usize,
+    pub reads: u64,
+    pub next: Wide,
+}
+
+// The position of the number that ended a run of zeros, where its probabilities stand, and the reader before its node 2; 16 where none did.
+pub(crate) struct Zeros {
+    pub n: usize,
+    pub place: usize,
     pub next: Wide,
 }
 
@@ -121,18 +138,53 @@ fn product(v: u32, q: u16, negative: bool) -> i32
     (raised(v, q, negative) % 65536) as i32 - 32768
 }
 
-fn coded_signed(s: &[u8], w: Wide, token: u8, q: u16) -> Valued
-    requires { ⌜ (2 ≤ token) × (token ≤ 11) ⌝ }
-    ensures { λ a. ⌜ WideReads (now (s .entry)) 0 68 (signedValue token q) w (a .value) (a .next) × SixteenBits (a .value) ⌝ }
+// The sign of a number.
+fn signed(w: Wide, v: u32, q: u16) -> Valued
+    requires { ⌜ v ≤ 2114 ⌝ }
+    ensures { λ a. ⌜ (a .next ≡ wideBitOf w 128 .next) × ((a .value ≡ wrapZ (signOf (wideBitOf w 128 .on) (v * q))) × SixteenBits (a .value)) ⌝ }
 {
-    let m = coded_magnitude(s, w, token);
-    let x = m.next;
-    let f = x.fill(s);
-    let g = f.even(128);
-    let y = g.next;
+    let g = w.even(128);
+    let x = g.next;
     Valued {
-        value: product(m.value, q, g.on),
-        next: y,
+        value: product(v, q, g.on),
+        next: x,
+    }
+}
+
+fn symbols(token: u8) -> u64
+    requires { ⌜ token < 12 ⌝ }
+    ensures { λ r. ⌜ (r ≡ getD tokenSymbols token 0) × (r ≤ 18) ⌝ }
+{
+    let costs = SYMBOLS;
+    costs[token as usize] as u64
+}
+
+// From node 2, with eighteen bits loaded; eight are left for the sign. Most numbers are ones.
+fn read_number(s: &[u8], w: Wide, table: &[u8], at: usize) -> Number
+    requires { ⌜ at + 11 ≤ length (now table) ⌝ }
+    ensures { λ q. ⌜ Counting (now (s .entry)) (elevenAt (now (table .entry)) at) w q ⌝ }
+{
+    let o = w.bit(table[at + 2]);
+    let x = o.next;
+    if o.on {
+        let t = above(s, x, table, at);
+        let y = t.next;
+        let token = t.token;
+        let m = coded_magnitude(s, y, token);
+        let z = m.next;
+        let full = z.fill(s);
+        return Number {
+            value: m.value,
+            near: 22,
+            reads: symbols(token),
+            next: full,
+        };
+    }
+    Number {
+        value: 1,
+        near: 11,
+        reads: 3,
+        next: x,
     }
 }
 
@@ -147,18 +199,49 @@ fn place(bases: &[u16; 16], kind: usize, n: usize, near: usize) -> usize
     kind * 264 + bases[n] as usize + near
 }
 
-fn near_after(token: u8) -> usize
-    ensures { λ r. ⌜ (r ≡ contextAfter token * 11) × (r ≤ 22) ⌝ }
+// From node 1 of a position on, with 25 bits loaded: past zeros, after which the block does not end.
+fn pass_zeros(
+    s: &[u8],
+    w: Wide,
+    table: &[u8],
+    bases: &[u16; 16],
+    kind: usize,
+    first: usize,
+    start: usize,
+) -> Zeros
+    requires { ⌜ (now bases ≡ bandPlaces) × (length (now table) ≡ probabilityCount) ⌝ }
+    requires { ⌜ (kind < 4) × ((first < 16) × (start + 11 ≤ length (now table))) ⌝ }
+    ensures { λ q. ⌜ Zeroed (now (s .entry)) (now (table .entry)) kind first start w q ⌝ }
 {
-    if token == 2 { 11 } else { 22 }
-}
-
-fn symbols(costs: &[u8; 12], token: u8) -> u64
-    requires { ⌜ now costs ≡ tokenSymbols ⌝ }
-    requires { ⌜ token < 12 ⌝ }
-    ensures { λ r. ⌜ (r ≡ getD tokenSymbols token 0) × (r ≤ 18) ⌝ }
-{
-    costs[token as usize] as u64
+    let mut n = first;
+    let mut at = start;
+    let mut next = w;
+    while n < 16 {
+        let z = next.bit(table[at + 1]);
+        let x = z.next;
+        if z.on {
+            return Zeros {
+                n: n,
+                place: at,
+                next: x,
+            };
+        }
+        n = n + 1;
+        if n == 16 {
+            return Zeros {
+                n: n,
+                place: 0,
+                next: x,
+            };
+        }
+        at = place(bases, kind, n, 0);
+        next = x.fill(s);
+    }
+    Zeros {
+        n: n,
+        place: at,
+        next: next,
+    }
 }
 
 // A block of arguments in range, its numbers stored from `at` on. After each position one symbol is counted with it: the one that ends the
@@ -182,42 +265,44 @@ fn read_block(
 {
     let bases = BAND_PLACES;
     let zigzag = ZIGZAG;
-    let costs = SYMBOLS;
     let mut next = w;
     let mut n = first;
     let mut near = 11 * ctx;
-    let mut zero = false;
     let mut reads: u64 = 0;
     while n < 16 {
-        let t = coded_token(s, next, table, place(&bases, kind, n, near), zero);
-        let after = t.next;
-        let token = t.token;
-        if token == 0 {
+        let here = place(&bases, kind, n, near);
+        let full = next.fill(s);
+        let e = full.bit(table[here]);
+        let x = e.next;
+        if !e.on {
             return WideBlock {
                 end: n,
                 reads: reads + (n - first) as u64 + 1,
-                next: after,
+                next: x,
             };
         }
-        if token == 1 {
-            near = 0;
-            zero = true;
-            next = after;
-            n = n + 1;
-        } else {
-            reads = reads + symbols(&costs, token);
-            let v = coded_signed(s, after, token, quantizer(n, q0, q1));
-            let d = v.value;
-            out[at + entry(&zigzag, n)] = d;
-            near = near_after(token);
-            zero = false;
-            next = v.next;
-            n = n + 1;
+        let z = pass_zeros(s, x, table, &bases, kind, n, here);
+        let y = z.next;
+        if z.n == 16 {
+            return WideBlock {
+                end: 16,
+                reads: reads + (16 - first) as u64 + 1,
+                next: y,
+            };
         }
+        let v = read_number(s, y, table, z.place);
+        let o = v.next;
+        let d = signed(o, v.value, quantizer(z.n, q0, q1));
+        let value = d.value;
+        out[at + entry(&zigzag, z.n)] = value;
+        reads = reads + v.reads;
+        near = v.near;
+        next = d.next;
+        n = z.n + 1;
     }
     WideBlock {
         end: n,
-        reads: reads + (n - first) as u64 + zero as u64,
+        reads: reads + (n - first) as u64,
         next: next,
     }
 }

@@ -1,5 +1,4 @@
-// One token of a block over a wide reader (RFC 6386, section 13.2): coeff_tree by tests, as `reader::token` has it, filled twice at most.
-use wide::wide::Bit;
+// The tokens of numbers above one over a wide reader (RFC 6386, section 13.2): coeff_tree from node 3 on, by tests, filled once.
 use wide::wide::Wide;
 ghost use mathlib.Core.Path.{_≡_};
 ghost use mathlib.Core.Bool.{true, false};
@@ -8,9 +7,8 @@ ghost use lib.ListN.{length, getD};
 ghost use Rattle.numbers.specs.Flags.{bitOf};
 ghost use Rattle.reader.specs.declared.trees.Branch.the-variants as B;
 ghost use Rattle.reader.specs.Trees.{walk, branchAt};
-ghost use Rattle.reader.specs.Token.{tokenTree, elevenAt, token};
+ghost use Rattle.reader.specs.Token.{tokenTree, elevenAt};
 ghost use Rattle.wide.specs.WideRuns.{WideReads};
-ghost use Rattle.coefficients.specs.Fast.{startedOf};
 
 // A token, and the reader after it.
 pub(crate) struct Walked {
@@ -20,7 +18,7 @@ pub(crate) struct Walked {
 
 fn leaf(low: u8, on: bool) -> u8
     requires { ⌜ low < 100 ⌝ }
-    ensures { λ r. ⌜ (r ≡ low + bitOf on) × (r ≤ low + 1) ⌝ }
+    ensures { λ r. ⌜ (r ≡ low + bitOf on) × ((low ≤ r) × (r ≤ low + 1)) ⌝ }
 {
     if on { low + 1 } else { low }
 }
@@ -30,7 +28,7 @@ fn last(s: &[u8], w: Wide, table: &[u8], at: usize, i: usize, low: u8) -> Walked
     requires { ⌜ (at + 11 ≤ length (now table)) × (i < 11) × (low < 100) ⌝ }
     requires { ⌜ (branchAt tokenTree i false ≡ B.Leaf low) × (branchAt tokenTree i true ≡ B.Leaf (low + 1)) ⌝ }
     ensures { λ q. ⌜ ((m : ℕ) → WideReads (now (s .entry)) 8 0 (walk (suc m) (elevenAt (now (table .entry)) at) tokenTree i) w
-        (q .token) (q .next)) × (q .token ≤ low + 1) ⌝ }
+        (q .token) (q .next)) × ((low ≤ q .token) × (q .token ≤ low + 1)) ⌝ }
 {
     let a = w.even(table[at + i]);
     let x = a.next;
@@ -44,7 +42,7 @@ fn last(s: &[u8], w: Wide, table: &[u8], at: usize, i: usize, low: u8) -> Walked
 fn category(s: &[u8], w: Wide, table: &[u8], at: usize) -> Walked
     requires { ⌜ at + 11 ≤ length (now table) ⌝ }
     ensures { λ q. ⌜ ((m : ℕ) → WideReads (now (s .entry)) 22 0 (walk (suc (suc (suc m))) (elevenAt (now (table .entry)) at) tokenTree 6) w
-        (q .token) (q .next)) × (q .token < 12) ⌝ }
+        (q .token) (q .next)) × ((6 ≤ q .token) × (q .token < 12)) ⌝ }
 {
     let a = w.bit(table[at + 6]);
     let x = a.next;
@@ -60,10 +58,10 @@ fn category(s: &[u8], w: Wide, table: &[u8], at: usize) -> Walked
 }
 
 // From node 3: two to four, and the categories.
-fn above(s: &[u8], w: Wide, table: &[u8], at: usize) -> Walked
+pub(crate) fn above(s: &[u8], w: Wide, table: &[u8], at: usize) -> Walked
     requires { ⌜ at + 11 ≤ length (now table) ⌝ }
     ensures { λ q. ⌜ ((m : ℕ) → WideReads (now (s .entry)) 0 4 (walk (suc (suc (suc (suc m)))) (elevenAt (now (table .entry)) at) tokenTree 3) w
-        (q .token) (q .next)) × (q .token < 12) ⌝ }
+        (q .token) (q .next)) × ((3 ≤ q .token) × (q .token < 12)) ⌝ }
 {
     let v = w.fill(s);
     let a = v.bit(table[at + 3]);
@@ -77,48 +75,4 @@ fn above(s: &[u8], w: Wide, table: &[u8], at: usize) -> Walked
         return last(s, y, table, at, 5, 4);
     }
     Walked { token: 3, next: y }
-}
-
-// From node 1, with fifteen bits loaded: zero, one, and above.
-fn not_ended(s: &[u8], w: Wide, table: &[u8], at: usize) -> Walked
-    requires { ⌜ at + 11 ≤ length (now table) ⌝ }
-    ensures { λ q. ⌜ ((m : ℕ) → WideReads (now (s .entry)) 15 4
-        (walk (suc (suc (suc (suc (suc (suc m)))))) (elevenAt (now (table .entry)) at) tokenTree 1) w (q .token) (q .next))
-        × (q .token < 12) ⌝ }
-{
-    let a = w.bit(table[at + 1]);
-    let x = a.next;
-    if a.on {
-        let b = x.bit(table[at + 2]);
-        let y = b.next;
-        if b.on {
-            return above(s, y, table, at);
-        }
-        return Walked { token: 2, next: y };
-    }
-    Walked { token: 1, next: x }
-}
-
-// Whether the block goes on, which after a zero is not asked.
-fn started(s: &[u8], w: Wide, prob: u8, zero: bool) -> Bit
-    ensures { λ q. ⌜ q ≡ startedOf (now (s .entry)) w prob zero ⌝ }
-{
-    let f = w.fill(s);
-    if zero {
-        return Bit { on: true, next: f };
-    }
-    f.bit(prob)
-}
-
-// One token, its eleven probabilities from `at` on in the table; after a zero the block does not end.
-pub(crate) fn coded_token(s: &[u8], w: Wide, table: &[u8], at: usize, zero: bool) -> Walked
-    requires { ⌜ at + 11 ≤ length (now table) ⌝ }
-    ensures { λ q. ⌜ WideReads (now (s .entry)) 0 8 (token (elevenAt (now (table .entry)) at) zero) w (q .token) (q .next) × (q .token < 12) ⌝ }
-{
-    let a = started(s, w, table[at], zero);
-    let x = a.next;
-    if a.on {
-        return not_ended(s, x, table, at);
-    }
-    Walked { token: 0, next: x }
 }

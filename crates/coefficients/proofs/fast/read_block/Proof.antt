@@ -1,23 +1,21 @@
-use Prim.Native.Nat.{_+_, _-_, _<_, _≤_, _^_}
+use Prim.Native.Nat.{_+_, _-_, _<_, _^_}
 use native.Mathlib.Omega.{arith}
-use mathlib.Core.Bool.{Bool, true, false}
 use mathlib.Core.Path.{_≡_, refl}
 use lib.ListN.{length}
-use mir.Val.{boolByte}
-use Rattle.numbers.specs.Flags.{bitOf}
+use borrow.Author.Tests.{not-true, not-false}
 use Rattle.coefficients.specs.Fast.{sixteenAt}
-use Rattle.coefficients.specs.FastLaws.{bandPlaces, tokenSymbols, Blocking, Turned, blocking-start, blocking-long, blocking-end, turned, turned-ended, turned-zero, turned-number}
+use Rattle.coefficients.specs.FastLaws.{bandPlaces, Blocking, blocking-start, blocking-long, blocking-end, blocking-stops, blocking-zeros, blocking-number}
 use Rattle.coefficients.specs.BlockSteps.{zigzag-below}
 use Rattle.coefficients.specs.Block.{zigzag, block}
 use Rattle.coefficients.proofs.fast.read_block.Statement.{statement}
 use Rattle.coefficients.proofs.fast.read_block.Tie as tie
 
 abbrev Inv-loop : tie.InvT-loop
-Inv-loop s table kind ctx first q0 q1 out₀ at bases zigzag costs next₀ n₀ near₀ zero₀ reads₀ out next n near zero reads =
-    Blocking s table kind q0 q1 (block table kind q0 q1 ctx first (sixteenAt out₀ at)) next₀ at out₀ first n near zero reads next out
+Inv-loop s table kind ctx first q0 q1 out₀ at bases zigzag next₀ n₀ near₀ reads₀ out next n near reads =
+    Blocking s table kind q0 q1 (block table kind q0 q1 ctx first (sixteenAt out₀ at)) next₀ at out₀ first n near reads next out
 
 abbrev μ-loop : tie.MeasureT-loop
-μ-loop s table kind ctx first q0 q1 out₀ at bases zigzag costs next₀ n₀ near₀ zero₀ reads₀ out next n near zero reads = 16 - n
+μ-loop s table kind ctx first q0 q1 out₀ at bases zigzag next₀ n₀ near₀ reads₀ out next n near reads = 16 - n
 
 mul-near : tie.Need-mul-near Inv-loop μ-loop
 mul-near c = record { fits = omega (arith, c .before .before .pre .0 .1 .1 .0) }
@@ -34,128 +32,124 @@ place-requires c κs =
     let l = c .before .before in
     (refl, (l .before .before .before .pre .0 .1 .0, (c .before .loop-test .taken, omega (arith, l .loop .inv .few, l .loop .inv .place))))
 
-coded-token-requires : tie.Need-coded-token-requires Inv-loop μ-loop
-coded-token-requires c κs = omega (arith, c .place .ensures .1, c .before .before .before .before .before .before .pre .0 .0)
+fill-requires : tie.Need-fill-requires Inv-loop μ-loop
+fill-requires c κs = tt
 
--- the turn, once the token was read
-turn-at : (c : tie.After-coded-token Inv-loop μ-loop) → (let l = c .before .before .before .before in let a = l .before .before .before .args in Turned (a .s .now) (a .table .now) (a .kind) (a .q0) (a .q1) (block (a .table .now) (a .kind) (a .q0) (a .q1) (a .ctx) (a .first) (sixteenAt (a .out .now) (a .at))) (a .w) (a .at) (a .out .now) (a .first) (l .loop .n) (l .loop .zero) (l .loop .reads) (l .loop .inv .values) (c .coded-token .result .token) (c .coded-token .result .next))
-turn-at c =
-    let l = c .before .before .before .before in
-    turned _ _ _ _ _ _ _ _ _ _ (l .before .before .before .pre .1) (l .loop .inv) (c .before .before .before .loop-test .taken) (c .before .place .ensures .0) (c .coded-token .ensures .0)
+shared-slice-read-bit : tie.Need-shared-slice-read-bit Inv-loop μ-loop
+shared-slice-read-bit c = omega (arith, c .before .before .place .ensures .1, c .before .before .before .before .before .before .before .before .pre .0 .0)
 
-sub-t30 : tie.Need-sub-t30 Inv-loop μ-loop
-sub-t30 c = c .before .before .before .before .before .before .loop .inv .low
+bit-requires : tie.Need-bit-requires Inv-loop μ-loop
+bit-requires c κs = tt
 
-add-t32 : tie.Need-add-t32 Inv-loop μ-loop
-add-t32 c = let i = c .before .before .before .before .before .before .loop .inv in record { fits = omega (arith, i .most, i .sum) }
+sub-t33 : tie.Need-sub-t33 Inv-loop μ-loop
+sub-t33 c = c .before .before .before .before .before .before .before .before .before .loop .inv .low
 
-add-t33 : tie.Need-add-t33 Inv-loop μ-loop
-add-t33 c = let i = c .before .before .before .before .before .before .loop .inv in record { fits = omega (arith, i .most, i .sum) }
+add-t35 : tie.Need-add-t35 Inv-loop μ-loop
+add-t35 c = let i = c .before .before .before .before .before .before .before .before .before .loop .inv in record { fits = omega (arith, i .most, i .high) }
+
+add-t36 : tie.Need-add-t36 Inv-loop μ-loop
+add-t36 c = let i = c .before .before .before .before .before .before .before .before .before .loop .inv in record { fits = omega (arith, i .most, i .high) }
 
 same-length : tie.Need-same-length Inv-loop μ-loop
-same-length c = blocking-long _ _ _ _ _ _ _ _ _ _ (c .before .before .before .before .before .before .loop .inv)
+same-length c = blocking-long _ _ _ _ _ _ _ _ _ _ (c .before .before .before .before .before .before .before .before .before .loop .inv)
 
 returns : tie.Need-returns Inv-loop μ-loop
 returns c =
-    let l = c .before .before .before .before .before .before in
+    let l = c .before .before .before .before .before .before .before .before .before in
     let a = l .before .before .before .args in
-    (turned-ended _ _ _ _ _ _ _ _ _ _ (l .before .before .before .pre .1) (l .loop .inv) (turn-at (c .before .before)) (c .if1 .taken) (block (a .table .now) (a .kind) (a .q0) (a .q1) (a .ctx) (a .first)) refl, omega (arith, l .loop .inv .most, l .loop .inv .sum, c .before .before .before .before .before .loop-test .taken))
+    (blocking-stops _ _ _ _ _ _ _ _ _ _ (l .before .before .before .pre .1) (l .loop .inv) (λ i. l .before .before .shared-slice-known .given i .fits) (l .before .shared-slice-known2 .given (c .before .before .before .before .before .before .place .result) .fits) (c .before .before .before .before .before .before .before .before .loop-test .taken) (c .before .before .before .before .before .before .place .ensures .0) (c .before .before .before .before .before .fill .ensures) (c .before .before .before .bit .ensures) (block (a .table .now) (a .kind) (a .q0) (a .q1) (a .ctx) (a .first)) refl (not-true _ (c .if1 .taken)), omega (arith, l .loop .inv .most, c .before .before .before .before .before .before .before .before .loop-test .taken))
 
-add-n : tie.Need-add-n Inv-loop μ-loop
-add-n c = omega arith
+pass-zeros-requires : tie.Need-pass-zeros-requires Inv-loop μ-loop
+unfolding bandPlaces
+pass-zeros-requires c κs =
+    let p = c .before .before .before .before .before .before .before .before .before .before .before .before .before .pre in
+    ((refl, p .0 .0), (p .0 .1 .0, (c .before .before .before .before .before .before .before .before .before .loop-test .taken, omega (arith, c .before .before .before .before .before .before .before .place .ensures .1, p .0 .0))))
 
-loop-less : tie.Need-loop-less Inv-loop μ-loop
-loop-less c = omega arith
+sub-t38 : tie.Need-sub-t38 Inv-loop μ-loop
+sub-t38 c = omega (arith, c .before .before .before .before .before .before .before .before .before .before .before .before .before .before .before .before .before .pre .0 .1 .1 .1)
 
-loop-again : tie.Need-loop-again Inv-loop μ-loop
-loop-again c =
-    let l = c .before .before .before .before .before .before .before in
-    turned-zero _ _ _ _ _ _ _ _ _ _ (l .before .before .before .pre .1) (l .loop .inv) (turn-at (c .before .before .before)) (c .if2 .taken)
+add-t40 : tie.Need-add-t40 Inv-loop μ-loop
+add-t40 c = let i = c .before .before .before .before .before .before .before .before .before .before .before .before .before .before .loop .inv in record { fits = omega (arith, i .most, i .high) }
 
-symbols-requires : tie.Need-symbols-requires Inv-loop μ-loop
-unfolding tokenSymbols
-symbols-requires c κs = (refl, c .before .before .before .before .coded-token .ensures .1)
+add-t41 : tie.Need-add-t41 Inv-loop μ-loop
+add-t41 c = let i = c .before .before .before .before .before .before .before .before .before .before .before .before .before .before .loop .inv in record { fits = omega (arith, i .most, i .high) }
 
-add-reads : tie.Need-add-reads Inv-loop μ-loop
-add-reads c = let i = c .before .before .before .before .before .before .before .before .before .loop .inv in record { fits = omega (arith, i .most, i .sum, c .symbols .ensures .1) }
+same-length-2 : tie.Need-same-length-2 Inv-loop μ-loop
+same-length-2 c = blocking-long _ _ _ _ _ _ _ _ _ _ (c .before .before .before .before .before .before .before .before .before .before .before .before .before .before .loop .inv)
+
+returns-2 : tie.Need-returns-2 Inv-loop μ-loop
+returns-2 c =
+    let l = c .before .before .before .before .before .before .before .before .before .before .before .before .before .before in
+    let a = l .before .before .before .args in
+    (blocking-zeros _ _ _ _ _ _ _ _ _ _ (l .before .before .before .pre .1) (l .loop .inv) (λ i. l .before .before .shared-slice-known .given i .fits) (l .before .shared-slice-known2 .given (c .before .before .before .before .before .before .before .before .before .before .before .place .result) .fits) (c .before .before .before .before .before .before .before .before .before .before .before .before .before .loop-test .taken) (c .before .before .before .before .before .before .before .before .before .before .before .place .ensures .0) (c .before .before .before .before .before .before .before .before .before .before .fill .ensures) (c .before .before .before .before .before .before .before .before .bit .ensures) (c .before .before .before .pass-zeros .ensures) (block (a .table .now) (a .kind) (a .q0) (a .q1) (a .ctx) (a .first)) refl (not-false _ (c .before .before .before .before .before .if1 .left)) (c .if2 .taken), omega (arith, l .loop .inv .most, c .before .before .before .before .before .before .before .before .before .before .before .before .before .loop-test .taken))
+
+-- a number follows the zeros
+numbered : (c : tie.Else2 Inv-loop μ-loop) → c .before .before .before .pass-zeros .result .n < 16
+numbered c = omega (arith, c .before .before .before .pass-zeros .ensures .high, c .if2 .left)
+
+read-number-requires : tie.Need-read-number-requires Inv-loop μ-loop
+read-number-requires c κs = c .before .before .before .pass-zeros .ensures .inside (numbered c)
 
 quantizer-requires : tie.Need-quantizer-requires Inv-loop μ-loop
 quantizer-requires c κs = tt
 
--- the token stands for a number
-two : (c : tie.Else2 Inv-loop μ-loop) → 2 ≤ c .before .before .before .coded-token .result .token
-two c = omega (arith, c .before .if1 .left, c .if2 .left)
-
-coded-signed-requires : tie.Need-coded-signed-requires Inv-loop μ-loop
-coded-signed-requires c κs = (two (c .before .before .before), omega (arith, c .before .before .before .before .before .before .coded-token .ensures .1))
+signed-requires : tie.Need-signed-requires Inv-loop μ-loop
+signed-requires c κs = c .before .before .read-number .ensures .small
 
 entry-requires : tie.Need-entry-requires Inv-loop μ-loop
 unfolding zigzag
-entry-requires c κs = (omega arith, zigzag-below)
+entry-requires c κs = (numbered (c .before .before .before .before .before .before), zigzag-below)
 
 -- the place of a number lies in the list
-inside : (c : tie.After-entry Inv-loop μ-loop) → (let l = c .before .before .before .before .before .before .before .before .before .before .before .before .before .before in l .before .before .before .args .at + c .entry .result < length (l .loop .out))
+inside : (c : tie.After-entry Inv-loop μ-loop) → (let l = c .before .before .before .before .before .before .before .before .before .before .before .before .before .before .before .before .before .before .before .before .before in l .before .before .before .args .at + c .entry .result < length (l .loop .out))
 inside c =
-    let l = c .before .before .before .before .before .before .before .before .before .before .before .before .before .before in
+    let l = c .before .before .before .before .before .before .before .before .before .before .before .before .before .before .before .before .before .before .before .before .before in
     omega (arith, c .entry .ensures .1, l .before .before .before .pre .1, blocking-long _ _ _ _ _ _ _ _ _ _ (l .loop .inv))
 
-long : (c : tie.After-entry Inv-loop μ-loop) → (let l = c .before .before .before .before .before .before .before .before .before .before .before .before .before .before in length (l .loop .out) < 2 ^ 61)
+long : (c : tie.After-entry Inv-loop μ-loop) → length (c .before .before .before .before .before .before .before .before .before .before .before .before .before .before .before .before .before .before .before .before .before .loop .out) < 2 ^ 61
 long c =
-    let l = c .before .before .before .before .before .before .before .before .before .before .before .before .before .before in
+    let l = c .before .before .before .before .before .before .before .before .before .before .before .before .before .before .before .before .before .before .before .before .before in
     omega (arith, l .before .before .before .good .1 .1 .1 .1 .1 .1 .1 .1 .0, blocking-long _ _ _ _ _ _ _ _ _ _ (l .loop .inv))
 
-add-d : tie.Need-add-d Inv-loop μ-loop
-add-d c = omega (arith, inside c, long c)
+add-value : tie.Need-add-value Inv-loop μ-loop
+add-value c = omega (arith, inside c, long c)
 
-mul-d : tie.Need-mul-d Inv-loop μ-loop
-mul-d c = omega (arith, inside c, long c)
+mul-value : tie.Need-mul-value Inv-loop μ-loop
+mul-value c = omega (arith, inside c, long c)
 
-slice-set-from-d : tie.Need-slice-set-from-d Inv-loop μ-loop
-slice-set-from-d c = inside c
+slice-set-from-value : tie.Need-slice-set-from-value Inv-loop μ-loop
+slice-set-from-value c = inside c
 
-near-after-requires : tie.Need-near-after-requires Inv-loop μ-loop
-near-after-requires c κs = tt
+add-reads : tie.Need-add-reads Inv-loop μ-loop
+add-reads c = let i = c .before .before .before .before .before .before .before .before .before .before .before .before .before .before .before .before .before .before .before .before .before .before .loop .inv in record { fits = omega (arith, i .most, i .high, c .before .before .before .before .before .before .before .read-number .ensures .least) }
 
-add-n-2 : tie.Need-add-n-2 Inv-loop μ-loop
-add-n-2 c = omega arith
+add-n : tie.Need-add-n Inv-loop μ-loop
+add-n c = record { fits = omega (arith, numbered (c .before .before .before .before .before .before .before .before .before .before)) }
 
-loop-less-2 : tie.Need-loop-less-2 Inv-loop μ-loop
-loop-less-2 c = omega arith
+loop-less : tie.Need-loop-less Inv-loop μ-loop
+loop-less c = omega (arith, numbered (c .before .before .before .before .before .before .before .before .before .before), c .before .before .before .before .before .before .before .before .before .before .before .before .before .pass-zeros .ensures .low)
 
-loop-again-2 : tie.Need-loop-again-2 Inv-loop μ-loop
+loop-again : tie.Need-loop-again Inv-loop μ-loop
 unfolding zigzag
-loop-again-2 c =
-    let e = c .before .before in
-    let v = e .before .before .before in
-    let o = v .before .before in
-    let t = o .before .before .before .before .before in
-    let l = t .before .before .before .before in
-    turned-number _ _ _ _ _ _ _ _ _ _ (l .before .before .before .pre .1) (l .loop .inv) (turn-at t) (two (o .before .before)) (t .coded-token .ensures .1) (o .symbols .ensures .0) (v .before .quantizer .ensures) (v .coded-signed .ensures .0) (v .coded-signed .ensures .1) (c .before .near-after .ensures .0) (e .entry .ensures .0)
+loop-again c =
+    let l = c .before .before .before .before .before .before .before .before .before .before .before .before .before .before .before .before .before .before .before .before .before .before .before .before in
+    let d = c .before .before .before .before .before .before .signed .ensures in
+    blocking-number _ _ _ _ _ _ _ _ _ _ (l .before .before .before .pre .1) (l .loop .inv) (λ i. l .before .before .shared-slice-known .given i .fits) (l .before .shared-slice-known2 .given (c .before .before .before .before .before .before .before .before .before .before .before .before .before .before .before .before .before .before .before .before .before .place .result) .fits) (c .before .before .before .before .before .before .before .before .before .before .before .before .before .before .before .before .before .before .before .before .before .before .before .loop-test .taken) (c .before .before .before .before .before .before .before .before .before .before .before .before .before .before .before .before .before .before .before .before .before .place .ensures .0) (c .before .before .before .before .before .before .before .before .before .before .before .before .before .before .before .before .before .before .before .before .fill .ensures) (c .before .before .before .before .before .before .before .before .before .before .before .before .before .before .before .before .before .before .bit .ensures) (c .before .before .before .before .before .before .before .before .before .before .before .before .before .pass-zeros .ensures) (not-false _ (c .before .before .before .before .before .before .before .before .before .before .before .before .before .before .before .if1 .left)) (numbered (c .before .before .before .before .before .before .before .before .before .before)) (c .before .before .before .before .before .before .before .before .before .read-number .ensures) (c .before .before .before .before .before .before .before .quantizer .ensures) (d .0) (d .1 .0) (d .1 .1) (c .before .before .before .entry .ensures .0)
 
-sub-t42 : tie.Need-sub-t42 Inv-loop μ-loop
-sub-t42 c = c .before .loop .inv .low
+sub-t48 : tie.Need-sub-t48 Inv-loop μ-loop
+sub-t48 c = c .before .loop .inv .low
 
-add-t44 : tie.Need-add-t44 Inv-loop μ-loop
-add-t44 c = let i = c .before .loop .inv in record { fits = omega (arith, i .most, i .sum) }
+add-t50 : tie.Need-add-t50 Inv-loop μ-loop
+add-t50 c = let i = c .before .loop .inv in record { fits = omega (arith, i .most, i .high) }
 
-cast-t45 : tie.Need-cast-t45 Inv-loop μ-loop
-cast-t45 c = tt
+same-length-3 : tie.Need-same-length-3 Inv-loop μ-loop
+same-length-3 c = blocking-long _ _ _ _ _ _ _ _ _ _ (c .before .loop .inv)
 
-byte-bit : (b : Bool) → boolByte b ≡ bitOf b
-byte-bit true = refl
-byte-bit false = refl
-
-add-t46 : tie.Need-add-t46 Inv-loop μ-loop
-add-t46 c = let i = c .before .loop .inv in record { fits = omega (arith, i .most, i .sum, byte-bit (c .before .loop .zero)) }
-
-same-length-2 : tie.Need-same-length-2 Inv-loop μ-loop
-same-length-2 c = blocking-long _ _ _ _ _ _ _ _ _ _ (c .before .loop .inv)
-
-returns-2 : tie.Need-returns-2 Inv-loop μ-loop
-returns-2 c =
+returns-3 : tie.Need-returns-3 Inv-loop μ-loop
+returns-3 c =
     let l = c .before in
     let a = l .before .before .before .args in
-    (blocking-end _ _ _ _ _ _ _ _ _ _ (l .before .before .before .pre .1) (l .loop .inv) (block (a .table .now) (a .kind) (a .q0) (a .q1) (a .ctx) (a .first)) refl (c .loop-test .left) (byte-bit (l .loop .zero)), omega (arith, l .loop .inv .most, l .loop .inv .sum, byte-bit (l .loop .zero)))
+    (blocking-end _ _ _ _ _ _ _ _ _ _ (l .before .before .before .pre .1) (l .loop .inv) (block (a .table .now) (a .kind) (a .q0) (a .q1) (a .ctx) (a .first)) refl (c .loop-test .left), omega (arith, l .loop .inv .most, l .loop .inv .high))
 
 pub read-block-spec : {M : Type 1} → statement M
 read-block-spec =
@@ -166,30 +160,32 @@ read-block-spec =
     mul-near
     loop-holds
     place-requires
-    coded-token-requires
-    sub-t30
-    add-t32
-    add-t33
+    fill-requires
+    shared-slice-read-bit
+    bit-requires
+    sub-t33
+    add-t35
+    add-t36
     same-length
     returns
+    pass-zeros-requires
+    sub-t38
+    add-t40
+    add-t41
+    same-length-2
+    returns-2
+    read-number-requires
+    quantizer-requires
+    signed-requires
+    entry-requires
+    add-value
+    mul-value
+    slice-set-from-value
+    add-reads
     add-n
     loop-less
     loop-again
-    symbols-requires
-    add-reads
-    quantizer-requires
-    coded-signed-requires
-    entry-requires
-    add-d
-    mul-d
-    slice-set-from-d
-    near-after-requires
-    add-n-2
-    loop-less-2
-    loop-again-2
-    sub-t42
-    add-t44
-    cast-t45
-    add-t46
-    same-length-2
-    returns-2)
+    sub-t48
+    add-t50
+    same-length-3
+    returns-3)

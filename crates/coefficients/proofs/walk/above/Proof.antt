@@ -47,7 +47,7 @@ returns : tie.Need-returns
 returns c = (
   λ m r v l f.
       walking-last (three (c .before .before .before) (suc (suc (suc m))) (walking-fill 0 (walking-start (suc (suc (suc (suc m)))) 3 r v l f) (c .before .before .before .before .before .fill .ensures)) (c .before .if1 .taken) refl) (c .category .ensures .0 m) (lit≤ tt) (lit≤ tt),
-  c .category .ensures .1,
+  (omega (arith, c .category .ensures .1), c .category .ensures .1 .1),
 )
 
 add-bit-2 : tie.Need-add-bit-2
@@ -66,14 +66,14 @@ returns-2 : tie.Need-returns-2
 returns-2 c = (
   λ m r v l f.
       walking-last (four (c .before .before .before) (suc (suc m)) (three (c .before .before .before .before .before .before .before) (suc (suc (suc m))) (walking-fill 0 (walking-start (suc (suc (suc (suc m)))) 3 r v l f) (c .before .before .before .before .before .before .before .before .before .fill .ensures)) (c .before .before .before .before .before .if1 .left) refl) (c .before .if2 .taken) refl) (c .last .ensures .0 (suc m)) (lit≤ tt) (lit≤ tt),
-  omega (arith, c .last .ensures .1),
+  (omega (arith, c .last .ensures .1), omega (arith, c .last .ensures .1)),
 )
 
 returns-3 : tie.Need-returns-3
 returns-3 c = (
   λ m r v l f.
       four-end (c .before .before) (suc (suc m)) (three (c .before .before .before .before .before .before) (suc (suc (suc m))) (walking-fill 0 (walking-start (suc (suc (suc (suc m)))) 3 r v l f) (c .before .before .before .before .before .before .before .before .fill .ensures)) (c .before .before .before .before .if1 .left) refl) (c .if2 .left) refl refl,
-  omega arith,
+  (omega arith, omega arith),
 )
 
 pub above-spec : {M : Type 1} → statement M
