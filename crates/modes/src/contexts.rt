@@ -40,14 +40,13 @@ pub fn right(modes: &[u8; 16]) -> [u8; 4]
 pub fn each_below(l: &[u8], limit: u8) -> bool
     ensures { λ r. ⌜ r ≡ eachBelow limit (now (l .entry)) ⌝ }
 {
+    let mut fine = true;
     let mut i = 0;
     while i < l.len() {
-        if limit <= l[i] {
-            return false;
-        }
+        fine = (l[i] < limit) & fine;
         i = i + 1;
     }
-    true
+    fine
 }
 
 // Whether it is in range: each mode below 10, each flag 0 or 1.
