@@ -16,8 +16,22 @@ use Rattle.residual.specs.Residual.{Model, secondKind, kindOf, secondPla
 use Rattle.residual.specs.declared.blocks.Kind.{Kind}
 use Rattle.residual.specs.declared.contexts.FlagsAt.{FlagsAt}
 use Rattle.residual.specs.declared.quick.Quick.{Quick}
-use Rattle.residual.specs.declared.quick.Wider.{Wider}
+use Rattle.residual.specs.declared.quick.Passing.{Passing}
+use Rattle.wide.specs.declared.wide.Wide.{Wide}
 
+-- what goes from part to part, and the flags
+pub record Wider : Type 0 where
+  pub next : Wide
+  pub reads : ℕ
+  pub top : List ℕ
+  pub left : List ℕ
+  pub empty : Bool
+
+-- as the code has it: the flags beside the rest
+abbrev pub widerOf : Passing → (top left : List ℕ) → Wider
+widerOf m top left = record { next = m .next; reads = m .reads; top = top; left = left; empty = m .empty }
+
+-- the model that it stands for, with the numbers
 abbrev pub modelAt : Wider → (flat : List ℤ) → Model
 modelAt m flat = record { top = m .top; left = m .left; coefficients = drop 16 flat; empty = m .empty }
 

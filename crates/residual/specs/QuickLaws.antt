@@ -11,6 +11,7 @@ use borrow.Author.Tests.{lt-ltb, le-leb, eq-eqb}
 use lib.IntN.{ℤ, pos}
 use lib.ListN.{length, getD, set, replicate, take, drop, length-append, length-drop, drop-of-length-le}
 use lib.Seq.{getD-drop, drop-at, drop-set-lt, drop-set-add, length-take-le, take-all}
+use mir.Val.{boolByte}
 use Rattle.header.specs.Entries.{probabilityCount}
 use Rattle.numbers.specs.Flags.{bitOf}
 use Rattle.numbers.specs.Lists.{getD-build, build-same, build-constant, getD-constant}
@@ -36,7 +37,7 @@ use Rattle.wide.specs.WideLaws.{Sim}
 use Rattle.wide.specs.WideRuns.{WideReads, Gave, Going, going-start, going-as, going-weaken, going-counted, going-next, going-told, wide-counted}
 use Rattle.wide.specs.declared.wide.Wide.{Wide}
 use Rattle.reader.specs.Trace.{count}
-use Rattle.residual.specs.Quick.{modelAt, kindAt, placeAt, quickPart, partsFrom, settledOf, emptyAfter, QuickWhere}
+use Rattle.residual.specs.Quick.{Wider, modelAt, kindAt, placeAt, quickPart, partsFrom, settledOf, emptyAfter, QuickWhere}
 use Rattle.residual.specs.Residual.{Model, Flags, initial, secondKind, kindOf, coordinates, coded, flagged, spread, secondPlace, second, sixteenAt, stored, emptyOf, zeroOf, advance, blocksFrom, residualOf, residualAnswer}
 use Rattle.residual.specs.ResidualLaws.{kind-in, flags-flagged, length-spread, zeros-sixteen, sixteen-fit}
 use Rattle.residual.specs.ResidualSteps.{call-handed}
@@ -44,7 +45,6 @@ use Rattle.residual.specs.declared.Ended.the-variants as E
 use Rattle.residual.specs.declared.blocks.Kind.{Kind}
 use Rattle.residual.specs.declared.contexts.FlagsAt.{FlagsAt}
 use Rattle.residual.specs.declared.quick.Quick.{Quick}
-use Rattle.residual.specs.declared.quick.Wider.{Wider}
 
 -- ---- the parts are the macroblock
 parts-blocks : (table : List ℕ) (f : Factors) (small : Bool) (n i : ℕ) (m : Model) → blocksFrom table f small n i m ≡ partsFrom table f small n (suc i) m
@@ -275,6 +275,11 @@ module _ (s table : List ℕ) (f : Factors) (small : Bool) (g : Reading Model) (
         go : (n : ℕ) → j + n ≡ 25 → Going s (runPadded (counted 0 g) s r) (start .at + 30400) 0 (1216 * n) (counted (m .reads) (partsFrom table f small n j (modelAt m flat))) (m .next) → Gave s (runPadded (counted 0 g) s r) (start .at + 30400) (modelAt m flat, m .reads) (m .next)
         go zero e h = going-told h refl refl
         go (suc n) e h = absurd (omega arith)
+
+-- a bool as the code's number
+pub byte-bit : (b : Bool) → boolByte b ≡ bitOf b
+byte-bit true = refl
+byte-bit false = refl
 
 first-part : (b : Bool) → bitOf b + (25 - bitOf b) ≡ 25
 first-part true = refl

@@ -8,9 +8,7 @@ use crate::blocks::kind_of;
 use crate::blocks::second_kind;
 use crate::blocks::zero;
 use crate::contexts::FlagsAt;
-use crate::contexts::flagged;
 use crate::contexts::location;
-use crate::contexts::near;
 use crate::flat::hand_over;
 use crate::flat::sixteen;
 use crate::flat::spread;
@@ -34,15 +32,13 @@ ghost use Rattle.transform.specs.Transform.{transformOf};
 ghost use Rattle.wide.specs.Counted.{counted};
 ghost use Rattle.wide.specs.WideRuns.{WideReads};
 ghost use Rattle.residual.specs.Residual.{Flags, sixteenAt, residualOf};
-ghost use Rattle.residual.specs.Quick.{modelAt, kindAt, placeAt, quickPart, settledOf, emptyAfter, QuickWhere};
+ghost use Rattle.residual.specs.Quick.{widerOf, modelAt, kindAt, placeAt, settledOf, emptyAfter, QuickWhere};
 ghost use Rattle.residual.specs.QuickLaws.{Ready, Parted};
 
-// What goes from block to block. The numbers stand beside it: sixteen of the second-order block, then the 384 of the macroblock.
-pub(crate) struct Wider {
+// What goes from block to block. The flags stand beside it, and the numbers: sixteen of the second-order block, then the 384 of the macroblock.
+pub(crate) struct Passing {
     pub next: Wide,
     pub reads: u64,
-    pub top: [u8; 9],
-    pub left: [u8; 9],
     pub empty: bool,
 }
 
@@ -101,18 +97,21 @@ fn part(
     table: &[u8],
     f: Factors,
     small: bool,
-    m: Wider,
+    m: Passing,
     j: usize,
+    top: &mut [u8; 9],
+    left: &mut [u8; 9],
     flat: &mut [i32],
-) -> Wider
-    requires { ⌜ Ready (now table) m j (now flat) × (j < 25) ⌝ }
-    ensures { λ q. ⌜ Parted (now (s .entry)) (now (table .entry)) f small m j (now (flat .entry)) q (now (flat .exit)) ⌝ }
+) -> Passing
+    requires { ⌜ Ready (now table) (widerOf m (now top) (now left)) j (now flat) × (j < 25) ⌝ }
+    ensures { λ q. ⌜ Parted (now (s .entry)) (now (table .entry)) f small (widerOf m (now (top .entry)) (now (left .entry))) j
+        (now (flat .entry)) (widerOf q (now (top .exit)) (now (left .exit))) (now (flat .exit)) ⌝ }
 {
     let k = kind_at(f, small, j);
     let p = place_at(j);
-    let top = m.top;
-    let left = m.left;
-    let ctx = near(top, left, p.x, p.y);
+    let x = p.x;
+    let y = p.y;
+    let ctx = (top[x] + left[y]) as usize;
     let b = coded_block(
         s,
         m.next,
@@ -127,29 +126,37 @@ fn part(
     );
     let empty = settle(flat, j, b.end, m.empty);
     let on = k.first < b.end;
-    let top_after = flagged(top, p.x, on);
-    let left_after = flagged(left, p.y, on);
+    top[x] = on as u8;
+    left[y] = on as u8;
     let next = b.next;
-    Wider {
+    Passing {
         next: next,
         reads: m.reads + b.reads,
-        top: top_after,
-        left: left_after,
         empty: empty,
     }
 }
 
 // All parts, from numbers that are zeros. Small modes have no second-order block.
-fn parts(s: &[u8], table: &[u8], f: Factors, small: bool, start: Wider, flat: &mut [i32]) -> Wider
+fn parts(
+    s: &[u8],
+    table: &[u8],
+    f: Factors,
+    small: bool,
+    start: Passing,
+    top: &mut [u8; 9],
+    left: &mut [u8; 9],
+    flat: &mut [i32],
+) -> Passing
     requires { ⌜ (length (now table) ≡ probabilityCount) × (now flat ≡ replicate 400 (pos 0)) ⌝ }
-    requires { ⌜ (Flags (start .top) × Flags (start .left)) × ((start .reads ≡ 0) × (start .empty ≡ true)) ⌝ }
-    ensures { λ q. ⌜ WideReads (now (s .entry)) 0 30400 (counted 0 (residualOf (now (table .entry)) f small false (start .top) (start .left)))
-        (start .next) (modelAt q (now (flat .exit)), q .reads) (q .next) × (length (now (flat .exit)) ≡ 400) ⌝ }
+    requires { ⌜ (Flags (now top) × Flags (now left)) × ((start .reads ≡ 0) × (start .empty ≡ true)) ⌝ }
+    ensures { λ q. ⌜ WideReads (now (s .entry)) 0 30400
+        (counted 0 (residualOf (now (table .entry)) f small false (now (top .entry)) (now (left .entry)))) (start .next)
+        (modelAt (widerOf q (now (top .exit)) (now (left .exit))) (now (flat .exit)), q .reads) (q .next) × (length (now (flat .exit)) ≡ 400) ⌝ }
 {
     let mut m = start;
     let mut j = small as usize;
     while j < 25 {
-        m = part(s, table, f, small, m, j, flat);
+        m = part(s, table, f, small, m, j, top, left, flat);
         j = j + 1;
     }
     m
@@ -172,14 +179,23 @@ pub(crate) fn read_quick(
         (now (out .entry)) (now (out .exit)) q ⌝ }
 {
     let mut flat = [0; 400];
-    let start = Wider {
+    let mut above = top;
+    let mut beside = left;
+    let start = Passing {
         next: widen(r),
         reads: 0,
-        top: top,
-        left: left,
         empty: true,
     };
-    let m = parts(s, table, f, small, start, &mut flat[..]);
+    let m = parts(
+        s,
+        table,
+        f,
+        small,
+        start,
+        &mut above,
+        &mut beside,
+        &mut flat[..],
+    );
     let w = m.next;
     if !inside(s, w) {
         return Quick {
@@ -188,12 +204,10 @@ pub(crate) fn read_quick(
         };
     }
     hand_over(out, &flat[16..400]);
-    let top_after = m.top;
-    let left_after = m.left;
     let residual = Residual {
         answer: Ended::Done(narrow(s, w), m.empty),
-        top: top_after,
-        left: left_after,
+        top: above,
+        left: beside,
     };
     let read = ResidualRead {
         residual: residual,

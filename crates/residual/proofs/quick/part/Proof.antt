@@ -1,6 +1,12 @@
+use Prim.Native.Nat.{ℕ, _+_, _<_}
 use native.Mathlib.Omega.{arith}
+use mathlib.Core.Bool.{Bool}
+use mathlib.Core.Path.{refl, ap}
+use lib.Dec.{ltb}
+use lib.ListN.{getD, set}
 use Rattle.coefficients.specs.FastLaws.{coded-read}
-use Rattle.residual.specs.QuickLaws.{coded-room, part-read}
+use Rattle.residual.specs.Quick.{widerOf}
+use Rattle.residual.specs.QuickLaws.{coded-room, part-read, byte-bit}
 use borrow.Author.Needs.{needs}
 use Rattle.residual.proofs.quick.part.Statement.{statement}
 use Rattle.residual.proofs.quick.part.Tie as tie
@@ -11,8 +17,23 @@ kind-at-requires c κs = search needs
 place-at-requires : tie.Need-place-at-requires
 place-at-requires c κs = search needs
 
-near-requires : tie.Need-near-requires
-near-requires c κs = search needs
+element-copy-out-ctx : tie.Need-element-copy-out-ctx
+element-copy-out-ctx c = search needs
+
+element-copy-out-ctx-2 : tie.Need-element-copy-out-ctx-2
+element-copy-out-ctx-2 c = search needs
+
+add-ctx : tie.Need-add-ctx
+add-ctx c =
+    let h = c .before .before .before .before .before .before .pre .0 in
+    let p = c .before .before .place-at .result in
+    omega (arith, h .top .each (p .x), h .left .each (p .y))
+
+cast-ctx : tie.Need-cast-ctx
+cast-ctx c =
+    let h = c .before .before .before .before .before .before .pre .0 in
+    let p = c .before .before .place-at .result in
+    omega (arith, h .top .each (p .x), h .left .each (p .y))
 
 mul-coded-block : tie.Need-mul-coded-block
 mul-coded-block c = search needs
@@ -23,35 +44,38 @@ coded-block-requires c κs = search needs
 settle-requires : tie.Need-settle-requires
 settle-requires c κs = search needs
 
-flagged-requires : tie.Need-flagged-requires
-flagged-requires c κs = search needs
+cast-top : tie.Need-cast-top
+cast-top c = search needs
 
-flagged-requires-2 : tie.Need-flagged-requires-2
-flagged-requires-2 c κs = search needs
+element-write-top : tie.Need-element-write-top
+element-write-top c = search needs
 
-add-t24 : tie.Need-add-t24
-add-t24 c =
-    let x = c .before .before .before .before .before .before .before .before .before .before .before in
-    let b = x .before .before .before .before .before .before .before .before .before in
-    record { fits = omega (arith, b .pre .0 .few, b .pre .1, x .coded-block .ensures .1) }
+cast-left : tie.Need-cast-left
+cast-left c = search needs
+
+element-write-left : tie.Need-element-write-left
+element-write-left c = search needs
+
+add-t35 : tie.Need-add-t35
+add-t35 c = let b = c .before .before .before .before .before .before .before .before .before .before .before .before .before .before .before .before .before in record { fits = omega (arith, b .pre .0 .few, b .pre .1, c .before .before .before .before .before .before .before .before .before .coded-block .ensures .1) }
 
 same-length : tie.Need-same-length
 same-length c = search needs
 
 returns : tie.Need-returns
 returns c =
-    let o = c .before .before .before in
-    let g = o .before in
-    let e = c .before .before .before .before .before .before .before .before in
-    let x = e .before .before .before in
-    let n = x .before .before in
-    let p = n .before .before .before in
-    let b = p .before .before .before .before in
+    let b = c .before .before .before .before .before .before .before .before .before .before .before .before .before .before .before .before .before in
     let a = b .args in
     let h = b .pre .0 in
-    let room = coded-room (a .table .now) (a .flat .now) (a .f) (a .small) (a .j) (p .before .kind-at .ensures) (n .near .ensures .1) (h .size) (h .long) (b .pre .1) in
-    part-read (a .s .now) (a .table .now) (a .f) (a .small) (a .m) (a .j) (a .flat .now) _ _ (x .coded-block .result) (λ i. p .before .before .shared-slice-known2 .given i .fits) h
-    (p .before .kind-at .ensures) (p .place-at .ensures .0) (n .near .ensures .0) (coded-read _ _ _ _ _ _ _ room (x .coded-block .ensures .0)) (x .coded-block .ensures .1) (e .settle .ensures .0) (e .settle .ensures .1) (g .flagged .ensures) (o .flagged2 .ensures)
+    let p = c .before .before .before .before .before .before .before .before .before .before .before .before .before .place-at in
+    let k = c .before .before .before .before .before .before .before .before .before .before .before .before .before .before .kind-at .ensures in
+    let x = c .before .before .before .before .before .before .before .before .before .coded-block in
+    let e = c .before .before .before .before .before .before .settle .ensures in
+    let on : Bool = ltb (c .before .before .before .before .before .before .before .before .before .before .before .before .before .before .kind-at .result .first) (x .result .end) in
+    let few : getD (a .top .now) (p .result .x) 0 + getD (a .left .now) (p .result .y) 0 < 3 = omega (arith, h .top .each (p .result .x), h .left .each (p .result .y)) in
+    let room = coded-room (a .table .now) (a .flat .now) (a .f) (a .small) (a .j) k few (h .size) (h .long) (b .pre .1) in
+    part-read (a .s .now) (a .table .now) (a .f) (a .small) (widerOf (a .m) (a .top .now) (a .left .now)) (a .j) (a .flat .now) _ _ (x .result) (λ i. c .before .before .before .before .before .before .before .before .before .before .before .before .before .before .before .shared-slice-known2 .given i .fits) h
+    k (p .ensures .0) refl (coded-read _ _ _ _ _ _ _ room (x .ensures .0)) (x .ensures .1) (e .0) (e .1) (ap (λ (v : ℕ). set (a .top .now) (p .result .x) v) (byte-bit on)) (ap (λ (v : ℕ). set (a .left .now) (p .result .y) v) (byte-bit on))
 
 pub part-spec : {M : Type 1} → statement M
 part-spec =
@@ -59,12 +83,17 @@ part-spec =
     (tie.spec
     kind-at-requires
     place-at-requires
-    near-requires
+    element-copy-out-ctx
+    element-copy-out-ctx-2
+    add-ctx
+    cast-ctx
     mul-coded-block
     coded-block-requires
     settle-requires
-    flagged-requires
-    flagged-requires-2
-    add-t24
+    cast-top
+    element-write-top
+    cast-left
+    element-write-left
+    add-t35
     same-length
     returns)

@@ -1,6 +1,7 @@
 use native.Mathlib.Omega.{arith}
 use mathlib.Core.Path.{sym, _∙_}
 use borrow.Author.Tests.{not-false}
+use Rattle.residual.specs.Quick.{widerOf}
 use Rattle.residual.specs.QuickLaws.{quick-fine}
 use borrow.Author.Needs.{needs}
 use Rattle.residual.proofs.quick.read_quick.Statement.{statement}
@@ -44,13 +45,13 @@ same-length c = search needs
 
 returns-2 : tie.Need-returns-2
 returns-2 c =
-    let h = c .before .before .before .before in
-    let i = h .before .before .before .before in
+    let i = c .before .before .before .before .before .before in
     let x = i .before .before .before .before in
-    let b = x .before .before .before .before .before in
+    let b = x .before .before .before .before .before .before .before in
     let a = b .args in
-    quick-fine (a .s .now) (a .r) (a .table .now) (a .f) (a .small) (a .top) (a .left) (a .out .now) (x .parts .result) (x .parts .last .1 .1 .1 .1 .1 .0) (λ n. x .before .before .before .before .shared-slice-known .given n .fits) (b .pre .0 .0) (omega (arith, b .good .0))
-    (x .before .before .widen .ensures) (x .parts .ensures .0) (sym (i .before .inside .ensures) ∙ not-false _ (i .if1 .left)) (c .narrow .ensures) (x .parts .ensures .1) (h .hand-over .ensures)
+    let l = x .parts .last .1 .1 .1 .1 .1 in
+    quick-fine (a .s .now) (a .r) (a .table .now) (a .f) (a .small) (a .top) (a .left) (a .out .now) (widerOf (x .parts .result) (l .0) (l .1 .0)) (l .1 .1 .0) (λ n. x .before .before .before .before .before .before .shared-slice-known .given n .fits) (b .pre .0 .0) (omega (arith, b .good .0))
+    (x .before .before .before .before .widen .ensures) (x .parts .ensures .0) (sym (i .before .inside .ensures) ∙ not-false _ (i .if1 .left)) (c .narrow .ensures) (x .parts .ensures .1) (c .before .before .hand-over .ensures)
 
 pub read-quick-spec : {M : Type 1} → statement M
 read-quick-spec =
