@@ -20,18 +20,18 @@ CHAPTERS = [
     ("The boolean decoder, grammars, trees", "RFC 6386, sections 7 and 8", ["reader/Boolean", "reader/Reading", "reader/Trees", "reader/Extra"]),
     ("The frame header", "sections 9.1 to 9.11, 13.4, 13.5, 19.1 and 19.2",
      ["frame/Tag", "frame/Header", "frame/Tables", "frame/Entries", "frame/Places", "frame/Take", "frame/Passes"]),
-    ("The header's entries, segments, levels, factors", "sections 9.3, 9.6, 9.11 and 14.1",
+    ("The header's entries, segments, levels, factors", "sections 9.3, 9.4, 9.6, 9.11 and 14.1",
      ["header/Entries", "header/Header", "header/Own", "header/Quantizers", "header/Levels", "header/Frame"]),
     ("Partitions of a tile", "section 9.5", ["tile/Partitions", "tile/Checks"]),
     ("A macroblock's modes", "sections 10, 11 and 19.3", ["modes/Table", "modes/Modes", "modes/Answers", "modes/Contexts"]),
     ("Prediction", "section 12", ["planes/Predict", "planes/Paint"]),
-    ("Tokens and coefficients", "section 13", ["reader/Token", "coefficients/Tokens", "residual/Residual"]),
-    ("The inverse transforms", "section 14", ["transform/Transform"]),
+    ("Tokens and coefficients", "section 13", ["reader/Token", "coefficients/Block", "residual/Residual", "residual/ResidualSource"]),
+    ("The inverse transforms", "section 14", ["transform/Transform", "transform/TransformSource"]),
     ("The loop filter", "section 15",
-     ["filter/Strengths", "filter/Kernel", "filter/Rfc15", "filter/Explain", "filter/Moves", "deblock/Deblock", "deblock/Moves"]),
+     ["filter/Strengths", "filter/Kernel", "filter/Rfc15", "filter/Source", "filter/Explain", "filter/Moves", "deblock/Deblock", "deblock/Moves"]),
     ("Lent memory", "", ["lent/Records", "lent/Sizes", "lent/Memory"]),
-    ("One macroblock, all of them, the call", "section 2", ["macroblock/Macroblock", "picture/Checks", "picture/Picture"]),
-    ("The WebP file", "RFC 9649", ["webp/Webp"]),
+    ("One macroblock, all of them, the call", "section 2", ["macroblock/Macroblock", "macroblock/Source", "picture/Checks", "picture/Picture"]),
+    ("The WebP file", "RFC 9649", ["webp/Webp", "webp/Worked"]),
     ("Case files", "", ["casefile/CaseFile", "casefile/Measures", "casefile/Run"]),
     ("The calls as C sees them", "",
      ["hookbarley/Calls", "hookbarley/ExplainCalls", "hookbarley/FrameCalls", "hookbarley/WebpCalls"]),
@@ -80,7 +80,10 @@ KIT = {
         "ℤ": ".., -1, 0, 1, ..", "pos": "`pos n` is n", "negsuc": "`negsuc n` is -(n + 1)", "negℤ": "the negative of", "natAbs": "the magnitude of, as a ℕ",
         "_+ℤ_": "sum", "_-ℤ_": "difference", "_*ℤ_": "product",
     },
-    "lib.Signed": {"_≤ℤ_": "at most, as a statement", "ltZ": "below, as a test", "leZ": "at most, as a test", "shrZ": "`shrZ z n`: z over n, rounded down"},
+    "lib.Signed": {
+        "_≤ℤ_": "at most, as a statement", "ltZ": "below, as a test", "leZ": "at most, as a test", "shrZ": "`shrZ z n`: z over n, rounded down",
+        "quotZ": "quotient, rounded towards 0", "remZ": "its remainder",
+    },
     "lib.Count": {"leadingZeros": "`leadingZeros w n`: how many of the w bits of n stand above its highest 1"},
     "lib.Bits": {"bitXor": "the bits of one number or of the other, not of both"},
 }
@@ -172,7 +175,9 @@ class File:
             later = next((l for l in lines[i:] if l.strip()), "")
             return len(later) - len(later.lstrip()) > indent
         depth = len(line) - len(line.lstrip())
-        return depth > indent or (depth == indent and (line.strip()[0] in "}])" or line.strip().split(" ")[0] in (name, "unfolding")))
+        words = line.strip().split(" ")
+        operator = name.startswith("_") and words[1:2] == [name.strip("_")]
+        return depth > indent or (depth == indent and (line.strip()[0] in "}])" or words[0] in (name, "unfolding") or operator))
 
     def use(self, line):
         line = line.replace("·specs.specs.", ".specs.")
@@ -182,8 +187,8 @@ class File:
                 self.names[word.strip()] = (m.group(1), word.strip())
         else:
             m = re.match(r"(\S+) as (\S+)$", line)
-            if m:
-                self.aliases[m.group(2)] = m.group(1)
+            module, name = m.groups() if m else (line.strip(), line.strip().rsplit(".", 1)[-1])
+            self.aliases[name] = module
 
 
 class Declared:
@@ -298,6 +303,8 @@ def promised(specs):
             items = []
             for name in re.findall(r"`([^`]+)`", cells[column]):
                 found = everywhere.get(name, [])
+                files = re.findall(r"(?:crates/(\w+)/specs/)?(\w+)\.antt", cells[-1])
+                found = [i for i in found if (i.file.crate, i.file.path.stem) in [(crate or "promises", stem) for crate, stem in files]] or found
                 found = [i for i in found if i.file.crate == "promises"] or found
                 if len(found) > 1 or (not found and "field" not in cells[column]):
                     raise Fault(f"docs/PROMISES.md names {name}, which is {len(found)} theorems")

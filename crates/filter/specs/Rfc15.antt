@@ -15,9 +15,11 @@ use Rattle.filter.specs.Kernel.{Eight, eightOf}
 abbrev pub Segment : Type 0
 Segment = Eight ℕ
 
+-- Eight samples as a segment.
 abbrev pub segmentOf : List ℕ → Segment
 segmentOf e = eightOf (λ i. getD e i 0)
 
+-- A segment as eight samples.
 abbrev pub pixelsOf : Segment → List ℕ
 pixelsOf s = s .p3 ∷ s .p2 ∷ s .p1 ∷ s .p0 ∷ s .q0 ∷ s .q1 ∷ s .q2 ∷ s .q3 ∷ []
 
@@ -29,6 +31,7 @@ c v = signedByteZ v
 unfoldable pub u2s : ℕ → ℤ
 u2s v = pos v -ℤ pos 128
 
+-- And back.
 unfoldable pub s2u : ℤ → ℕ
 s2u v = natAbs (c v +ℤ pos 128)
 
@@ -101,6 +104,7 @@ subblockAct hv s =
     })
     (adjusted s r)
 
+-- `subblock_filter`: it acts where `filter_yes` holds.
 unfoldable pub subblockFilter : (hevThreshold interiorLimit edgeLimit : ℕ) → Segment → Segment
 subblockFilter hevThreshold interiorLimit edgeLimit s = cond (filterYes interiorLimit edgeLimit s) (subblockAct (hev hevThreshold s) s) s
 
@@ -130,6 +134,7 @@ mbAct hv s =
     })
     (adjusted s (commonAdjust true s))
 
+-- `MBfilter`: it acts where `filter_yes` holds.
 unfoldable pub mbFilter : (hevThreshold interiorLimit edgeLimit : ℕ) → Segment → Segment
 mbFilter hevThreshold interiorLimit edgeLimit s = cond (filterYes interiorLimit edgeLimit s) (mbAct (hev hevThreshold s) s) s
 

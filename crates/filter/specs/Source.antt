@@ -9,9 +9,11 @@ use lib.Signed.{ltZ, leZ, quotZ}
 use Rattle.numbers.specs.Clamp.{clipZ}
 use Rattle.filter.specs.Kernel.{Samples, samplesAcross}
 
+-- The magnitude of v.
 unfoldable pub absolute : ℤ → ℤ
 absolute v = cond (ltZ v (pos 0)) (pos 0 -ℤ v) v
 
+-- v taken into lo..hi.
 unfoldable pub bounded : (v lo hi : ℤ) → ℤ
 bounded v lo hi = cond (ltZ v lo) lo (cond (ltZ hi v) hi v)
 
@@ -23,11 +25,13 @@ divided v d = quotZ (v +ℤ pos 1048576) (pos d) -ℤ quotZ (pos 1048576) (pos d
 unfoldable pub ok : Samples → (limit : ℕ) → Bool
 ok e limit = leZ (pos 4 *ℤ absolute (e .p0 -ℤ e .q0) +ℤ absolute (e .p1 -ℤ e .q1)) (pos 2 *ℤ pos limit +ℤ pos 1)
 
+-- No two neighbours on one side lie further apart than `inner`.
 unfoldable pub smooth : Samples → (inner : ℕ) → Bool
 smooth e inner =
     leZ (absolute (e .p3 -ℤ e .p2)) (pos inner) && leZ (absolute (e .p2 -ℤ e .p1)) (pos inner) && leZ (absolute (e .p1 -ℤ e .p0)) (pos inner)
     && leZ (absolute (e .q3 -ℤ e .q2)) (pos inner) && leZ (absolute (e .q2 -ℤ e .q1)) (pos inner) && leZ (absolute (e .q1 -ℤ e .q0)) (pos inner)
 
+-- On one of the sides the two samples nearest to the edge lie further apart than `threshold`.
 unfoldable pub hev : Samples → (threshold : ℕ) → Bool
 hev e threshold = ltZ (pos threshold) (absolute (e .p1 -ℤ e .p0)) || ltZ (pos threshold) (absolute (e .q1 -ℤ e .q0))
 
@@ -40,6 +44,7 @@ simpleSample e k =
     let a2 = bounded (divided (a +ℤ pos 3) 8) (negsuc 15) (pos 15) in
     cond (eqb k 3) (clipZ (s .p0 +ℤ a2)) (cond (eqb k 4) (clipZ (s .q0 -ℤ a1)) (getD e k 0))
 
+-- A macroblock's edge.
 unfoldable pub edgeSample : List ℕ → (k : ℕ) → ℕ
 edgeSample e k =
     let s = samplesAcross e in
@@ -54,6 +59,7 @@ edgeSample e k =
     (cond (eqb k 5) (clipZ (s .q1 -ℤ a2))
     (cond (eqb k 6) (clipZ (s .q2 -ℤ a3)) (getD e k 0))))))
 
+-- An inner edge.
 unfoldable pub innerSample : List ℕ → (k : ℕ) → ℕ
 innerSample e k =
     let s = samplesAcross e in

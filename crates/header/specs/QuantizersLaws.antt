@@ -52,6 +52,13 @@ second-low step h = omega arith
 pub second-high : (step : ℕ) → 8 ≤ step * 155 / 100 → step * 155 / 100 ≡ secondAc step
 second-high step h = omega arith
 
+-- at most n, as the code tests it
+pub capped-low : (step n : ℕ) → step < n → step ≡ min step n
+capped-low step n h = omega arith
+
+pub capped-high : (step n : ℕ) → n ≤ step → n ≡ min step n
+capped-high step n h = omega arith
+
 -- the six together, from what each call answered
 pub six-are : (h : List ℤ) (segment i : ℕ) → i ≡ indexOf h segment → {a b c d e f x y : ℕ}
     → a ≡ dcAt (indexWith i (entry h ydcDelta)) → b ≡ acAt i → c ≡ dcAt (indexWith i (entry h y2dcDelta))

@@ -1,4 +1,5 @@
 pub mod Macroblock
+pub mod Source
 pub mod MacroblockLaws
 pub mod DecodeLaws
 pub mod StepLaws

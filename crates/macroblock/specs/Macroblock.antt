@@ -137,6 +137,7 @@ pub record MacroblockCalled : Type 0 where
   pub answer : Outcome
   pub planes : Planes
 
+-- an outcome and three planes as one
 abbrev pub macroblockCalled : Outcome → (y u v : List ℕ) → MacroblockCalled
 macroblockCalled x y u v = record { answer = x; planes = planesOf y u v }
 

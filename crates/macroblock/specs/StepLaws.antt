@@ -7,17 +7,11 @@ use mathlib.Core.List.{List}
 use native.Mathlib.Omega.{arith}
 use lib.IntN.{ℤ}
 use lib.ListN.{length, getD, take, drop}
-use Rattle.numbers.specs.Clamp.{upTo}
-use Rattle.header.specs.Entries.{sharpness}
-use Rattle.header.specs.Header.{entry}
 use Rattle.reader.specs.declared.boolean.Reader.{Reader}
 use Rattle.reader.specs.Boolean.{Given, given, missing}
 use Rattle.reader.specs.BooleanLaws.{Bytes, Valid}
 use Rattle.reader.specs.Reading.{run}
 use Rattle.reader.specs.ReadingLaws.{Ended, run-valid}
-use Rattle.header.specs.declared.quantizers.Factors.{Factors}
-use Rattle.header.specs.Quantizers.{factorsOf}
-use Rattle.header.specs.Levels.{levelOf}
 use Rattle.modes.specs.declared.contexts.Context.{Context}
 use Rattle.modes.specs.Answers.{macroblockOf}
 use Rattle.modes.specs.Modes.{Macroblock, modesOf, bottomOf, rightOf}
@@ -39,8 +33,9 @@ use Rattle.macroblock.specs.declared.arguments.Around.{Around}
 use Rattle.header.specs.FrameLaws.{Sound, frame-sound, frame-announced, frame-factors, frame-level, frame-sharp}
 use Rattle.filter.specs.Strengths.{strengthOf}
 use Rattle.filter.specs.StrengthsLaws.{limit-most}
-use Rattle.header.specs.Frame.{announcedOf, frameOf, factorsAt, levelAt}
+use Rattle.header.specs.Frame.{frameOf, factorsAt, levelAt}
 use Rattle.macroblock.specs.Macroblock.{Planes, Finished, Step, finished, no-modes, no-tokens, MacroblockCalled, toMacroblockCalled, paintedPlanes, strengthMade, below, beside, endOf, afterTokens, afterModes, tokenStep, stepOf, macroblockCallOf, finishNumberOf}
+use Rattle.macroblock.specs.Source.{Source}
 use Rattle.macroblock.specs.MacroblockLaws.{Laid, Painting, Ready, painting, luma-proper, chroma-proper}
 use Rattle.macroblock.specs.DecodeLaws.{context-test, decode-good}
 
@@ -238,16 +233,7 @@ module _ (s tokens : List ℕ) (readers : Readers) (f : Frame) (table : List ℕ
     pub step-outside : Laid place p → Elsewhere place p (x .planes)
     step-outside g = subst (λ (n : Finished). Elsewhere place p (n .planes)) (sym (both .is)) (end-outside f place p (x .modes) (both .model) g read coded)
 
--- ---- with the frame of a header, in the source's words: the modes; the residual with the segment's factors; the strengths of the segment's
--- level and of what was coded; the modes and flags that are left below and to the right
-pub record Source (h : List ℤ) (s tokens : List ℕ) (readers : Readers) (table : List ℕ) (around : Around) (x : Finished) : Type 0 where
-  pub model : Model
-  pub modes : run (modesOf (announcedOf h) (around .top .modes) (around .left .modes)) s (readers .first) ≡ given (x .modes) (x .readers .first)
-  pub coefficients : run (residualOf table (factorsOf h (x .modes .segment)) (x .modes .small) (x .modes .skip) (around .top .flags) (around .left .flags)) tokens (readers .token) ≡ given model (x .readers .token)
-  pub strengths : x .strength ≡ strengthOf (levelOf h (x .modes .segment) (x .modes .small)) (upTo 255 (entry h sharpness)) (x .modes .small || not (model .empty))
-  pub top : x .top ≡ below (x .modes) (model .top)
-  pub left : x .left ≡ beside (x .modes) (model .left)
-
+-- ---- with the frame of a header, in the source's words
 module _ (h : List ℤ) (s tokens : List ℕ) (readers : Readers) (table : List ℕ) (around : Around) (place : Place) (p : Planes) where
   pub step-source : Valid s (readers .first) → Bytes s → {x : Finished} → stepOf s tokens readers (frameOf h) table around place p ≡ finished x → Source h s tokens readers table around x
   step-source v y {x} e =

@@ -2,7 +2,7 @@
 use mathlib.Core.Bool.{cond, _&&_}
 use Prim.Native.Nat.{ℕ}
 use lib.IntN.{ℤ, pos, negsuc, _+ℤ_, _-ℤ_, _*ℤ_}
-use lib.Signed.{leZ, shrZ}
+use lib.Signed.{ltZ, leZ, shrZ}
 use Rattle.numbers.specs.declared.Wrapped.{Wrapped}
 use Rattle.numbers.specs.declared.Wrapped.the-variants.{Value, Refused}
 
@@ -27,3 +27,7 @@ wrap16NumberOf Refused = 9
 abbrev pub wrap16ValuesOf : Wrapped → ℤ
 wrap16ValuesOf (Value z) = z
 wrap16ValuesOf Refused = pos 0
+
+-- a number in 0..65535 as one of sixteen bits with a sign: the last step of the source's `wrapped`
+abbrev pub signed16 : ℤ → ℤ
+signed16 u = cond (ltZ u (pos 32768)) u (u -ℤ pos 65536)

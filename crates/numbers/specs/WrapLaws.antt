@@ -1,6 +1,5 @@
 -- Laws of wrapping: what determines the wrapped number, that it is the source's, and what a caller learns of the call's answer.
 use mathlib.Core.Path.{_≡_, ap, _∙_}
-use mathlib.Core.Bool.{cond}
 use Prim.Native.Nat.{ℕ}
 use native.Mathlib.Omega.{arith}
 use native.Mathlib.Nat.{mod-add-div}
@@ -13,6 +12,7 @@ use Rattle.numbers.specs.In.{In}
 use Rattle.numbers.specs.Parts.{up, dn, to-le, of-le, of-eq, lt-parts, nlt-le, le-true, add-parts, sub-parts-ℤ, up-times, dn-times}
 use Rattle.numbers.specs.Order.{rem-low, rem-high}
 use Rattle.numbers.specs.Floor.{floor-in, floor-is}
+pub use Rattle.numbers.specs.Wrap.{signed16}
 use Rattle.numbers.specs.Wrap.{wrapTurns, wrapZ, wrap16Of}
 
 -- what is taken off is a multiple of 65536
@@ -47,9 +47,6 @@ pub wrap-same : {v : ℤ} → In (negsuc 32767) (pos 32767) v → wrapZ v ≡ v
 wrap-same {v} i = wrap-is (pos 0) i (+ℤ-idr v)
 
 -- ---- vp8_coeff's `wrapped`: signed16 of (v + 4294967296) % 65536
-abbrev pub signed16 : ℤ → ℤ
-signed16 u = cond (ltZ u (pos 32768)) u (u -ℤ pos 65536)
-
 -- the remainder of what is not negative differs from it by a multiple
 rem-parts : (m : ℕ) (a : ℤ) → pos 0 ≤ℤ a → remZ a (pos m) +ℤ pos m *ℤ quotZ a (pos m) ≡ a
 rem-parts m (pos a) h = ap pos (mod-add-div a m)

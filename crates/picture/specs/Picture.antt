@@ -133,6 +133,7 @@ pub record Ended : Type 0 where
   pub answer : Decoded
   pub mem : Memory
 
+-- the two as one
 abbrev pub endedOf : Decoded → Memory → Ended
 endedOf answer mem = record { answer = answer; mem = mem }
 

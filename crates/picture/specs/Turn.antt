@@ -9,11 +9,13 @@ use Rattle.lent.specs.Memory.{Memory}
 use Rattle.lent.specs.Records.{recordsIn, columnWidth, modeWidth, strengthWidth}
 use Rattle.picture.specs.Picture.{written}
 
+-- a macroblock in its place: how it ended, what lies to the left of the next, the lent memory
 pub record Turned : Type 0 where
   pub answer : Finish
   pub left : Context
   pub mem : Memory
 
+-- the three as one
 abbrev pub turnedOf : Finish → Context → Memory → Turned
 turnedOf answer left mem = record { answer = answer; left = left; mem = mem }
 

@@ -1,4 +1,5 @@
 pub mod Worked
+pub mod Source
 pub mod Refusals
 pub mod Reached
 pub mod ReachedLaws

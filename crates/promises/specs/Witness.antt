@@ -16,7 +16,7 @@ use Rattle.reader.specs.Boolean.{Bytes, firstReader, symbolOf, splitOf, grow, d
 use Rattle.lent.specs.Memory.{Memory, memoryOf, sizesOf}
 use Rattle.tile.specs.declared.Span.{Span}
 use Rattle.tile.specs.Partitions.{spanAt, contentsOf, pickOf, readerOf, readersOf}
-use Rattle.tile.specs.PartitionsLaws.{part-length}
+use Rattle.tile.specs.PartitionsLaws.{part-length, span-at}
 use Rattle.tile.specs.Checks.{Sides, Counted, Inside, Cut}
 use Rattle.picture.specs.Checks.{Call, callOf, Bounded, Lengths}
 use Rattle.numbers.specs.Clamp.{upTo, clampZ}
@@ -96,7 +96,6 @@ bounded : Bounded header
 bounded = record { at = λ i. rw (getD-constant 1096 i (pos 0)) (record { low = of-le (omega arith); high = of-le (omega arith) }) }
 
 fine : (x y : ℕ) → Fine (witnessTile x) (heldOf y)
-unfolding spanAt
 fine x y = good-arguments (witnessTile x) (heldOf y) sides counted bounded sized cut
   where
     sides : Sides 16 32
@@ -119,8 +118,8 @@ fine x y = good-arguments (witnessTile x) (heldOf y) sides counted bounded sized
     }
 
     inside : (i : ℕ) → i < 2 → Inside (length (witnessBytes x)) (spanAt (witnessTile x .tile) i)
-    inside zero h = record { fits = rw (long x) (omega arith) }
-    inside (suc zero) h = record { fits = rw (long x) (omega arith) }
+    inside zero h = rw (span-at (witnessTile x .tile) 0 (omega arith)) (record { fits = rw (long x) (omega arith) })
+    inside (suc zero) h = rw (span-at (witnessTile x .tile) 1 (omega arith)) (record { fits = rw (long x) (omega arith) })
     inside (suc (suc i)) h = absurd (omega arith)
 
     cut : Cut (witnessTile x .bytes) (witnessTile x .tile)
@@ -139,7 +138,6 @@ fine x y = good-arguments (witnessTile x) (heldOf y) sides counted bounded sized
     }
 
 two-tiles : (x y : ℕ) → Alike 1 (witnessTile x) (witnessTile y)
-unfolding spanAt
 two-tiles x y = record {
   width = refl;
   height = refl;
@@ -153,7 +151,7 @@ two-tiles x y = record {
 }
   where
     tokens : (q : ℕ) → q < 2 → (q ≡ 1 → ⊥) → SameTokens (witnessTile x) (witnessTile y) q
-    tokens zero h n = λ i l. front x (32 + i) (omega arith) ∙ sym (front y (32 + i) (omega arith))
+    tokens zero h n = rw (span-at (witnessTile x .tile) 0 (omega arith)) (λ i l. front x (32 + i) (omega arith) ∙ sym (front y (32 + i) (omega arith)))
     tokens (suc zero) h n = absurd (n refl)
     tokens (suc (suc q)) h n = absurd (omega arith)
 

@@ -1,5 +1,5 @@
 -- The worked numbers, as one table: what the definitions give, row by row, beside what the scope says. Proved by computation.
-use Prim.Native.Nat.{ℕ}
+use Prim.Native.Nat.{ℕ, _*_}
 use mathlib.Core.Path.{_≡_, refl}
 use mathlib.Core.Bool.{Bool, true, false}
 use mathlib.Core.List.{List, [], _∷_}
@@ -40,9 +40,9 @@ dc d = d ∷ replicate 15 (pos 0)
 abbrev all : ℤ → List ℤ
 all z = replicate 16 z
 
--- a product with a quantizer, of either sign
-abbrev product : Bool → ℕ → List ℤ
-product negative x = wrapZ (signOf negative x) ∷ []
+-- a number times a quantizer, of either sign, in 16 bits
+abbrev product : Bool → (v q : ℕ) → List ℤ
+product negative v q = wrapZ (signOf negative (v * q)) ∷ []
 
 -- the eight samples of the kernel's rows
 abbrev flat : List ℕ
@@ -68,12 +68,12 @@ table =
       gives = gridColumn (verticalPass false (gridOf (pos 0 ∷ pos 0 ∷ pos 0 ∷ pos 0 ∷ negsuc 0 ∷ replicate 11 (pos 0)))) 0;
       must = negsuc 1 ∷ negsuc 0 ∷ pos 1 ∷ pos 2 ∷ [];
     }
-    -- products in 16 bits: 2047 * 16, 2048 * 16 of either sign, 2048 * 32, 2114 * 157
-    ∷ record { gives = product false 32752; must = pos 32752 ∷ [] }
-    ∷ record { gives = product false 32768; must = negsuc 32767 ∷ [] }
-    ∷ record { gives = product true 32768; must = negsuc 32767 ∷ [] }
-    ∷ record { gives = product false 65536; must = pos 0 ∷ [] }
-    ∷ record { gives = product false 331898; must = pos 4218 ∷ [] }
+    -- products in 16 bits
+    ∷ record { gives = product false 2047 16; must = pos 32752 ∷ [] }
+    ∷ record { gives = product false 2048 16; must = negsuc 32767 ∷ [] }
+    ∷ record { gives = product true 2048 16; must = negsuc 32767 ∷ [] }
+    ∷ record { gives = product false 2048 32; must = pos 0 ∷ [] }
+    ∷ record { gives = product false 2114 157; must = pos 4218 ∷ [] }
     -- an edge between 100 and 110, inner 0, threshold 0: limit 24 changes nothing
     ∷ record { gives = edge false true 24; must = signed flat }
     ∷ record { gives = edge false false 24; must = signed flat }

@@ -29,6 +29,7 @@ use Rattle.residual.specs.declared.blocks.Kind.{Kind}
 use Rattle.residual.specs.declared.contexts.FlagsAt.{FlagsAt}
 
 -- ---- the source's definitions
+-- its model: flags, the results of the second-order block, the blocks, whether all are empty
 pub record Source : Type 0 where
   pub top : List ℕ
   pub left : List ℕ
@@ -36,6 +37,7 @@ pub record Source : Type 0 where
   pub blocks : List (List ℤ)
   pub empty : Bool
 
+-- before the first block
 abbrev pub sourceInitial : (top left : List ℕ) → Source
 sourceInitial top left = record { top = top; left = left; dc = replicate 16 (pos 0); blocks = replicate 24 (replicate 16 (pos 0)); empty = true }
 
@@ -43,6 +45,7 @@ sourceInitial top left = record { top = top; left = left; dc = replicate 16 (pos
 unfoldable pub sourceStart : List ℤ → ℕ → List ℤ
 sourceStart dc i = build 16 (λ k. elim (eqb k 0 && ltb i 16) [ true ↦ getD dc i (pos 0) | false ↦ pos 0 ])
 
+-- after a block: its flag on both sides
 abbrev pub passedSource : Kind → FlagsAt → ℕ → (dc : List ℤ) → (blocks : List (List ℤ)) → Bool → Source → Source
 passedSource k p end dc blocks empty m =
     let flag = bitOf (ltb (k .first) end) in
@@ -54,6 +57,7 @@ sourceSecond table f m = do
   c ← coded table (secondKind f) secondPlace (m .top) (m .left) (replicate 16 (pos 0))
   done (passedSource (secondKind f) secondPlace (c .end) (samplesOf true (c .values)) (m .blocks) (m .empty) m)
 
+-- small modes have no second-order block
 abbrev pub sourceDc : List ℕ → Factors → Bool → Source → Reading Source
 sourceDc table f true m = done m
 sourceDc table f false m = sourceSecond table f m
@@ -63,11 +67,13 @@ module _ (table : List ℕ) (f : Factors) (small : Bool) where
   abbrev nextSource : ℕ → Coefficients → Source → Source
   nextSource i c m = passedSource (kindOf f small i) (coordinates i) (c .end) (m .dc) (set (m .blocks) i (c .values)) (m .empty && emptyOf c) m
 
+  -- block i
   unfoldable pub sourceAdvance : ℕ → Source → Reading Source
   sourceAdvance i m = do
     c ← coded table (kindOf f small i) (coordinates i) (m .top) (m .left) (sourceStart (m .dc) i)
     done (nextSource i c m)
 
+  -- `more` blocks, from block i on
   unfoldable pub sourceFrom : (more i : ℕ) → Source → Reading Source
   sourceFrom zero i m = done m
   sourceFrom (suc more) i m = do
@@ -99,6 +105,7 @@ laid i m = record { top = m .top; left = m .left; coefficients = flatTo i (m .dc
 abbrev pub laidOut : Source → Model
 laidOut m = record { top = m .top; left = m .left; coefficients = build 384 (λ j. getD (getD (m .blocks) (j / 16) []) (j % 16) (pos 0)); empty = m .empty }
 
+-- of a run
 abbrev pub laidGiven : Given Source → Given Model
 laidGiven (given m r) = given (laidOut m) r
 laidGiven missing = missing

@@ -23,21 +23,26 @@ use Rattle.transform.specs.TransformBounds.{vertical-in, horizontal-in}
 use Rattle.transform.specs.TransformLaws.{below-four, CoefficientsIn, grid-in, transform-good}
 
 -- ---- the source's definitions
+-- z over 65536
 abbrev pub floor16 : ℤ → ℤ
 floor16 z = quotZ (z +ℤ pos 1099511627776) (pos 65536) -ℤ pos 16777216
 
+-- z over 8
 abbrev pub floor8 : ℤ → ℤ
 floor8 z = quotZ (z +ℤ pos 1073741824) (pos 8) -ℤ pos 134217728
 
+-- z in 16 bits
 abbrev pub wrapped : ℤ → ℤ
 wrapped z = signed16 (remZ (z +ℤ pos 4294967296) (pos 65536))
 
+-- the kth of four
 abbrev pick : ℕ → (w x y z : ℤ) → ℤ
 pick zero w x y z = w
 pick (suc zero) w x y z = x
 pick (suc (suc zero)) w x y z = y
 pick (suc (suc (suc k))) w x y z = z
 
+-- number k of a line through a pass
 abbrev pub pass : (a b c d : ℤ) (k : ℕ) (bias : ℤ) (walsh : Bool) → ℤ
 pass a b c d k bias true =
     pick k (a +ℤ b +ℤ c +ℤ d +ℤ bias) (a +ℤ b -ℤ c -ℤ d +ℤ bias) (a -ℤ b -ℤ c +ℤ d +ℤ bias) (a -ℤ b +ℤ c -ℤ d +ℤ bias)
@@ -46,13 +51,16 @@ pass a b c d k bias false =
     let w = floor16 (pos 20091 *ℤ b) +ℤ b +ℤ floor16 (pos 35468 *ℤ d) in
     pick k (a +ℤ c +ℤ bias +ℤ w) (a -ℤ c +ℤ bias +ℤ u) (a -ℤ c +ℤ bias -ℤ u) (a +ℤ c +ℤ bias -ℤ w)
 
+-- row y, column x after the first pass
 abbrev pub vertical : List ℤ → (x y : ℕ) (walsh : Bool) → ℤ
 vertical c x y walsh = pass (at c x) (at c (4 + x)) (at c (8 + x)) (at c (12 + x)) y (pos 0) walsh
 
+-- the division by 8; a Walsh result is wrapped
 abbrev rounded : ℤ → (walsh : Bool) → ℤ
 rounded z true = wrapped (floor8 z)
 rounded z false = floor8 z
 
+-- number k of the result
 abbrev pub sample : List ℤ → (k : ℕ) (walsh : Bool) → ℤ
 sample c k walsh =
     let y = k / 4 in

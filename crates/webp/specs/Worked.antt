@@ -9,10 +9,12 @@ pub record Row : Type 0 where
   pub bytes : List ℕ
   pub must : List ℕ
 
+-- what is computed, row by row
 abbrev given : List Row → List (List ℕ)
 given [] = []
 given (r ∷ rs) = let f = findOf (r .bytes) in (foundNumberOf f ∷ foundStartOf f ∷ foundLengthOf f ∷ []) ∷ given rs
 
+-- what it must be, row by row
 abbrev wanted : List Row → List (List ℕ)
 wanted [] = []
 wanted (r ∷ rs) = r .must ∷ wanted rs
@@ -21,16 +23,19 @@ wanted (r ∷ rs) = r .must ∷ wanted rs
 abbrev fields : ℕ → List ℕ → ℕ → List ℕ → List ℕ
 fields size kind chunk rest = riff ++ uint32Of size ++ webp ++ kind ++ uint32Of chunk ++ rest
 
+-- a refusal: its number, and zeros
 abbrev refused : ℕ → List ℕ
 refused n = n ∷ 0 ∷ 0 ∷ []
 
--- 'VP8L', a lossless file, and 'VP8X', an extended one
+-- 'VP8L', a lossless file
 abbrev vp8l : List ℕ
 vp8l = 86 ∷ 80 ∷ 56 ∷ 76 ∷ []
 
+-- 'VP8X', an extended one
 abbrev vp8x : List ℕ
 vp8x = 86 ∷ 80 ∷ 56 ∷ 88 ∷ []
 
+-- THE TABLE
 abbrev pub table : List Row
 table =
     -- an odd frame with its pad byte, an even one, an empty one
