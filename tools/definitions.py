@@ -28,7 +28,7 @@ CHAPTERS = [
     ("Tokens and coefficients", "section 13", ["reader/Token", "coefficients/Block", "residual/Residual", "residual/ResidualSource"]),
     ("The inverse transforms", "section 14", ["transform/Transform", "transform/TransformSource"]),
     ("The loop filter", "section 15",
-     ["filter/Strengths", "filter/Kernel", "filter/Rfc15", "filter/Source", "filter/Explain", "filter/Moves", "deblock/Deblock", "deblock/Moves"]),
+     ["filter/Strengths", "filter/Kernel", "filter/Straight", "filter/Rfc15", "filter/Source", "filter/Explain", "filter/Moves", "deblock/Deblock", "deblock/Moves"]),
     ("Lent memory", "", ["lent/Records", "lent/Sizes", "lent/Memory"]),
     ("One macroblock, all of them, the call", "section 2", ["macroblock/Macroblock", "macroblock/Source", "picture/Checks", "picture/Picture"]),
     ("The WebP file", "RFC 9649", ["webp/Webp", "webp/Worked"]),

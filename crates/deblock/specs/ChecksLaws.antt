@@ -20,7 +20,7 @@ use Rattle.lent.specs.SizesLaws.{long-fact, long-test, luma-area, chroma-area}
 use Rattle.deblock.specs.Deblock.{deblockLengths, Lengths, limitsOf, deblockRefusal, Outcome, when, rasterOf, planesDeblocked, deblockOf, deblockNumberOf}
 use Rattle.macroblock.specs.Macroblock.{Planes}
 use Rattle.deblock.specs.declared.Deblocked.the-variants.{Done, Refused}
-use Rattle.deblock.specs.Located.{Whole}
+use Rattle.deblock.specs.Located.{Beside, Whole}
 
 pub lengths : (w h y u v s : ℕ) → deblockLengths w h y u v s ≡ true → Lengths w h y u v s
 unfolding deblockLengths
@@ -128,6 +128,14 @@ module _ {w h y u v : ℕ} {s : List ℕ} (f : Fine w h y u v s) where
 
   pub red-whole : Whole v 8 (w / 16) (h / 16) s
   red-whole = chroma-whole v (f .lengths .red)
+
+  -- red goes beside blue
+  pub chroma-beside : Beside 8 u v
+  chroma-beside = record { size = inl refl; two = λ e. f .lengths .red ∙ sym (f .lengths .blue); one = λ e. absurd (omega arith) }
+
+-- and an empty plane beside luma
+pub luma-beside : (y : ℕ) → Beside 16 y 0
+luma-beside y = record { size = inr refl; two = λ e. absurd (omega arith); one = λ e. refl }
 
 -- ---- the call: refused, done in the simple kind, done in the other
 module _ (m : Planes) (s : List ℕ) (w h : ℕ) (simple : Bool) where

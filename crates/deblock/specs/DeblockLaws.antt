@@ -9,17 +9,13 @@ use native.Mathlib.Numerals.{add-one}
 use native.Mathlib.Nat.{mul-le-mul-right, suc-mul}
 use lib.Dec.{eqb}
 use borrow.Author.Tests.{eqb-false, eq-eqb, ne-eqb}
-use lib.IntN.{ℤ, pos, _+ℤ_}
 use Rattle.filter.specs.declared.strengths.Strength.{Strength}
 use Rattle.lent.specs.Records.{strengthAt}
 use lib.ListN.{length, getD, set, length-set}
-use lib.Seq.{getD-set-same, getD-set-other, set-getD}
+use lib.Seq.{getD-set-same, getD-set-other, set-getD, ext-getD}
 use Rattle.numbers.specs.Tests.{lt-or, never}
-use Rattle.numbers.specs.Clamp.{clipZ}
-use Rattle.numbers.specs.Lists.{build, _∷≡_, length-build, getD-build, getD-build-past}
-use Rattle.filter.specs.declared.answers.Rule.{Rule}
-use Rattle.filter.specs.Kernel.{samplesAcross, ruleOf, stepsOf, movedOf, filterOf}
-use Rattle.filter.specs.KernelLaws.{Bytes, clip-still, outermost-stay}
+use Rattle.numbers.specs.Lists.{build, set-keeps, length-build, getD-build, getD-build-past}
+use Rattle.filter.specs.KernelLaws.{Bytes, filter-bytes, outermost-stay}
 use Rattle.deblock.specs.declared.edges.Edge.{Edge}
 use Rattle.deblock.specs.Deblock.{Change, turns, when, acrossOf, laidBack, keptOf, positionOf, sweepOf, verticalEdges, horizontalEdges, verticalsOf, horizontalsOf, outerEdge, innerEdge, squareOf, macroblockEdges, rasterOf}
 
@@ -58,32 +54,11 @@ module _ {Φ : Change → Type 0} (z : Closed Φ) where
   when-closed true f h = h refl
   when-closed false f h = z .none
 
--- ---- one position
--- the samples of e around the edge laid: two, four, six
-abbrev pub two : List ℕ → (at step : ℕ) → List ℕ → List ℕ
-two p at step e = set (set p (at + 3 * step) (getD e 3 0)) (at + 4 * step) (getD e 4 0)
-
-abbrev pub four : List ℕ → (at step : ℕ) → List ℕ → List ℕ
-four p at step e = set (two (set p (at + 2 * step) (getD e 2 0)) at step e) (at + 5 * step) (getD e 5 0)
-
-abbrev pub six : List ℕ → (at step : ℕ) → List ℕ → List ℕ
-six p at step e = set (four (set p (at + step) (getD e 1 0)) at step e) (at + 6 * step) (getD e 6 0)
-
-module _ (p : List ℕ) (at step : ℕ) (e : List ℕ) (i j v u : ℕ) {q : List ℕ} where
-  pub length-four : q ≡ two (set p i v) at step e → length (set q j u) ≡ length p
-  length-four z = rw z (simp length-set)
-
-  pub length-six : q ≡ four (set p i v) at step e → length (set q j u) ≡ length p
-  length-six z = rw z (simp length-set)
-
+-- ---- the samples of one position, read and laid back
 module _ (p : List ℕ) (at step : ℕ) where
   pub across-at : (k : ℕ) → k < 8 → getD (acrossOf p at step) k 0 ≡ getD p (at + k * step) 0
   unfolding acrossOf
   across-at k h = getD-build 8 _ k 0 h
-
-  pub across-listed : getD p at 0 ∷ getD p (at + step) 0 ∷ getD p (at + 2 * step) 0 ∷ getD p (at + 3 * step) 0 ∷ getD p (at + 4 * step) 0 ∷ getD p (at + 5 * step) 0 ∷ getD p (at + 6 * step) 0 ∷ getD p (at + 7 * step) 0 ∷ [] ≡ acrossOf p at step
-  unfolding acrossOf build
-  across-listed = ap (λ (i : ℕ). getD p i 0) {x = at} {y = at + 0 * step} (omega arith) ∷≡ ap (λ (i : ℕ). getD p i 0) {x = at + step} {y = at + 1 * step} (omega arith) ∷≡ refl
 
   pub length-across : length (acrossOf p at step) ≡ 8
   unfolding acrossOf
@@ -100,9 +75,13 @@ module _ (p : List ℕ) (at step : ℕ) where
   ]
 
   module _ (e : List ℕ) where
-    laid-first : laidBack p at step e 0 ≡ p
+    pub laid-first : laidBack p at step e 0 ≡ p
     unfolding laidBack
     laid-first = refl
+
+    pub laid-next : (n : ℕ) → set (laidBack p at step e n) (at + (n + 1) * step) (getD e (n + 1) 0) ≡ laidBack p at step e (n + 1)
+    unfolding laidBack
+    laid-next n = rw add-one
 
     pub length-laid : (n : ℕ) → length (laidBack p at step e n) ≡ length p
     unfolding laidBack
@@ -130,28 +109,10 @@ module _ (p : List ℕ) (at step : ℕ) where
           let v : getD e (suc n) 0 ≡ getD (laidBack p at step e n) (at + suc n * step) 0 = h ∙ sym (laid-other n (at + suc n * step) (λ k l o. further k (suc n) (omega arith))) in
           rw v (set-getD (laidBack p at step e n) (at + suc n * step) 0)
 
-      mid-four : laidBack p at step e 5 ≡ four (laidBack p at step e 1) at step e
-      unfolding laidBack
-      mid-four = refl
-
-      mid-two : laidBack p at step e 4 ≡ two (laidBack p at step e 2) at step e
-      unfolding laidBack
-      mid-two = refl
-
-      -- where the others stay, laying none, two, four or six of them is laying all
+      -- where all stay, laying them changes nothing
       pub laid-none : ((k : ℕ) → k < 8 → Stays k) → p ≡ laidBack p at step e 6
       laid-none h =
           sym (skip 5 (h 6 (omega arith)) ∙ skip 4 (h 5 (omega arith)) ∙ skip 3 (h 4 (omega arith)) ∙ skip 2 (h 3 (omega arith)) ∙ skip 1 (h 2 (omega arith)) ∙ skip 0 (h 1 (omega arith)) ∙ laid-first)
-
-      pub laid-six : six p at step e ≡ laidBack p at step e 6
-      unfolding laidBack
-      laid-six = ap (λ (i : ℕ). set (four (set p i (getD e 1 0)) at step e) (at + 6 * step) (getD e 6 0)) {x = at + step} {y = at + 1 * step} (omega arith)
-
-      pub laid-four : Stays 1 → Stays 6 → four p at step e ≡ laidBack p at step e 6
-      laid-four b c = sym (skip 5 c ∙ mid-four ∙ ap (λ (q : List ℕ). four q at step e) (skip 0 b ∙ laid-first))
-
-      pub laid-two : Stays 1 → Stays 2 → Stays 5 → Stays 6 → two p at step e ≡ laidBack p at step e 6
-      laid-two b c d f = sym (skip 5 f ∙ skip 4 d ∙ mid-two ∙ ap (λ (q : List ℕ). two q at step e) (skip 1 c ∙ skip 0 b ∙ laid-first))
 
       -- each of them stands in its place
       pub laid-at : (n k : ℕ) → k ≤ n → 0 < k → at + n * step < length p → getD (laidBack p at step e n) (at + k * step) 0 ≡ getD e k 0
@@ -162,49 +123,25 @@ module _ (p : List ℕ) (at step : ℕ) where
         | inr g ↦ let z : k ≡ suc n = omega arith in rw z (getD-set-same (laidBack p at step e n) (at + suc n * step) (getD e (suc n) 0) 0 (rw (length-laid n) l))
       ]
 
--- ---- what each rule leaves alone
--- sample k of e moved by these steps stays
-abbrev Still : List ℕ → List ℤ → ℕ → Type 0
-Still e s k = getD (movedOf e s) k 0 ≡ getD e k 0
+-- ---- one position
+-- the samples that the kernel gives, laid
+pub position-laid : (g : Edge) (at step : ℕ) (p : List ℕ) {e : List ℕ} → e ≡ keptOf g (acrossOf p at step) → laidBack p at step e 6 ≡ positionOf g at step p
+unfolding positionOf
+position-laid g at step p h = rw h
 
-still : (e : List ℕ) (s : List ℤ) (k : ℕ) → Bytes e → k < 8 → getD s k (pos 0) ≡ pos 0 → Still e s k
-unfolding movedOf
-still e s k b h z = getD-build 8 (λ (i : ℕ). clipZ (pos (getD e i 0) +ℤ getD s i (pos 0))) k 0 h ∙ ap (λ (d : ℤ). clipZ (pos (getD e k 0) +ℤ d)) z ∙ clip-still (b k)
+-- where the kernel leaves them, nothing changes
+pub position-still : (g : Edge) (at step : ℕ) (p : List ℕ) → 0 < step → keptOf g (acrossOf p at step) ≡ acrossOf p at step → positionOf g at step p ≡ p
+unfolding positionOf
+position-still g at step p some h = rw h (sym (laid-none p at step (acrossOf p at step) some (λ k l. across-at p at step k l)))
 
--- ---- one position by the rule that acts on its eight samples e
-module _ (g : Edge) (p : List ℕ) (at step : ℕ) (b : Bytes p) (some : 0 < step) {e : List ℕ} (f : e ≡ acrossOf p at step) (R : Rule)
-    (m : ruleOf (samplesAcross e) (g .simple) (g .outer) (g .limit) (g .inner) (g .threshold) ≡ R) where
-  kept : keptOf g (acrossOf p at step) ≡ movedOf e (stepsOf R (samplesAcross e))
-  unfolding keptOf filterOf
-  kept = rw (← f, m)
+laid-bytes : (p : List ℕ) (at step : ℕ) (e : List ℕ) (n : ℕ) → Bytes p → Bytes e → Bytes (laidBack p at step e n)
+unfolding laidBack
+laid-bytes p at step e zero b c = b
+laid-bytes p at step e (suc n) b c = set-keeps (λ (v : ℕ). v < 256) (laidBack p at step e n) (at + suc n * step) (getD e (suc n) 0) 0 (c (suc n)) (laid-bytes p at step e n b c)
 
-  eight : Bytes e
-  eight = rw f (across-bytes p at step b)
-
-  moves : laidBack p at step (movedOf e (stepsOf R (samplesAcross e))) 6 ≡ positionOf g at step p
-  unfolding positionOf
-  moves = rw kept
-
-  -- the rule has no step for sample k
-  abbrev Unmoved : ℕ → Type 0
-  Unmoved k = getD (stepsOf R (samplesAcross e)) k (pos 0) ≡ pos 0
-
-  stays : (k : ℕ) → k < 8 → Unmoved k → getD (movedOf e (stepsOf R (samplesAcross e))) k 0 ≡ getD p (at + k * step) 0
-  stays k h z = still e _ k eight h z ∙ ap (λ (l : List ℕ). getD l k 0) f ∙ across-at p at step k h
-
-  pub position-none : ((k : ℕ) → k < 8 → Unmoved k) → p ≡ positionOf g at step p
-  position-none z = laid-none p at step _ some (λ k h. stays k h (z k h)) ∙ moves
-
-  module _ {out : List ℕ} (o : out ≡ movedOf e (stepsOf R (samplesAcross e))) where
-    pub position-two : Unmoved 1 → Unmoved 2 → Unmoved 5 → Unmoved 6 → two p at step out ≡ positionOf g at step p
-    position-two z1 z2 z5 z6 =
-        rw o (laid-two p at step _ some (stays 1 (omega arith) z1) (stays 2 (omega arith) z2) (stays 5 (omega arith) z5) (stays 6 (omega arith) z6) ∙ moves)
-
-    pub position-four : Unmoved 1 → Unmoved 6 → four p at step out ≡ positionOf g at step p
-    position-four z1 z6 = rw o (laid-four p at step _ some (stays 1 (omega arith) z1) (stays 6 (omega arith) z6) ∙ moves)
-
-    pub position-six : six p at step out ≡ positionOf g at step p
-    position-six = rw o (laid-six p at step _ some ∙ moves)
+pub position-bytes : (g : Edge) (at step : ℕ) (p : List ℕ) → Bytes p → Bytes (positionOf g at step p)
+unfolding positionOf keptOf
+position-bytes g at step p b = laid-bytes p at step _ 6 b (filter-bytes (acrossOf p at step) (g .simple) (g .outer) (g .limit) (g .inner) (g .threshold))
 
 -- ---- what a position does, sample by sample
 kept-outer : (g : Edge) (e : List ℕ) → Bytes e → (getD (keptOf g e) 0 0 ≡ getD e 0 0) × (getD (keptOf g e) 7 0 ≡ getD e 7 0)
@@ -277,6 +214,10 @@ even-closed = record { none = λ p. refl; then = λ f g h k p. k (f p) ∙ h p }
 pub length-edge : (g : Edge) (at along step n : ℕ) → Even (sweepOf g at along step n)
 unfolding sweepOf
 length-edge g at along step n = turns-closed even-closed _ n (λ i h. length-position g (at + i * along) step)
+
+-- and none changes a plane that is empty
+pub empty-edge : (g : Edge) (at along step n : ℕ) (p : List ℕ) → length p ≡ 0 → p ≡ sweepOf g at along step n p
+empty-edge g at along step n p e = ext-getD 0 p (sweepOf g at along step n p) (sym (length-edge g at along step n p)) (λ i h. absurd (omega (arith, e)))
 
 module _ (g : Edge) (w x y n : ℕ) where
   pub length-vertical : Even (verticalEdges g w x y n)

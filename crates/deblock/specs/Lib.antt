@@ -1,4 +1,4 @@
--- Deblocking: the definition, where edges lie in a plane, laws.
+-- Deblocking: the definition, where edges lie in a plane, a block of sixteen positions, laws.
 pub mod Deblock
 pub mod DeblockLaws
 pub mod Located
@@ -6,3 +6,5 @@ pub mod ChecksLaws
 pub mod LocalLaws
 pub mod Moves
 pub mod MovesLaws
+pub mod Block
+pub mod BlockLaws

@@ -211,7 +211,7 @@ module _ (simple : Bool) {n wide high P : ℕ} (size : Size n) (some : 0 < wide)
 not-below : (w a c q r : ℕ) → a < w → q * w + a ≡ r * w + c → r ≤ q
 not-below w a c q r x e = elim (lt-or q r) [ inl h ↦ absurd (omega (arith, next-row q r w h)) | inr h ↦ h ]
 
-one-row : (w a c q r : ℕ) → a < w → c < w → q * w + a ≡ r * w + c → (q ≡ r) × (a ≡ c)
+pub one-row : (w a c q r : ℕ) → a < w → c < w → q * w + a ≡ r * w + c → (q ≡ r) × (a ≡ c)
 one-row w a c q r x y e =
     let z : q ≡ r = omega (arith, not-below w a c q r x e, not-below w c a r q y (sym e)) in
     (z, omega (arith, ap (λ (i : ℕ). i * w) z))

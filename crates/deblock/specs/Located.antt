@@ -1,6 +1,6 @@
 -- Where edges lie in a plane of `len` samples, w to a row.
 use Prim.Native.Nat.{ℕ, zero, suc, _+_, _-_, _*_, _/_, _%_, _≤_, _<_}
-use mathlib.Core.Path.{_≡_}
+use mathlib.Core.Path.{_≡_, refl, sym, _∙_}
 use mathlib.Core.List.{List}
 use native.Mathlib.Nat.{add-mul, one-mul, mul-comm, mul-le-mul-right, mod-lt, div-lt-iff-lt-mul}
 use native.Mathlib.Omega.{arith}
@@ -27,6 +27,12 @@ pub record Level (len w x y n : ℕ) : Type 0 where
   pub high : y + 4 ≤ 16384
   pub some : 0 < w
 
+-- a plane of lq samples beside one of lp: of the same length where squares are 8 by 8, empty where they are 16 by 16
+pub record Beside (n lp lq : ℕ) : Type 0 where
+  pub size : Size n
+  pub two : n ≡ 8 → lq ≡ lp
+  pub one : n ≡ 16 → lq ≡ 0
+
 -- a plane of squares with strengths for each
 pub record Whole (len n wide high : ℕ) (strengths : List ℕ) : Type 0 where
   pub grid : PlaneGrid len n wide high
@@ -47,6 +53,23 @@ level-at {len} {w} {x} {y} {n} s = omega (arith, s .below, mul-le-mul-right {m =
 pub level-in : {len w x y n : ℕ} → Level len w x y n → (i : ℕ) → i < n → (y - 4) * w + x + i * 1 + 7 * w < len
 level-in {len} {w} {x} {y} {n} s i h =
     omega (arith, level-at s)
+
+-- ---- the block of an edge: m + 1 rows of eight, or eight rows of m
+pub upright-room : {len w x y n : ℕ} → Upright len w x y n → (m : ℕ) → n ≡ suc m → (y * w + x - 4 + m * w + 8 ≤ len) × (8 ≤ w)
+upright-room {len} {w} {x} {y} {n} s m e = (omega (arith, upright-in s m (omega arith)), omega (arith, s .left, s .right))
+
+pub level-room : {len w x y n : ℕ} → Level len w x y n → (m : ℕ) → n ≡ m → ((y - 4) * w + x + 7 * w + m ≤ len) × (m ≤ w)
+level-room {len} {w} {x} {y} {n} s m e = (omega (arith, level-at s, s .columns), omega (arith, s .columns))
+
+pub same-room : {a l k : ℕ} → k ≡ l → a ≤ l → a ≤ k
+same-room e h = omega arith
+
+-- ---- a plane beside another
+pub beside-eight : {n lp lq : ℕ} → Beside n lp lq → (n ≡ 16 → ⊥) → n ≡ 8
+beside-eight b = by-size (λ (n : ℕ). (n ≡ 16 → ⊥) → n ≡ 8) (λ h. refl) (λ h. absurd (h refl)) (b .size)
+
+pub beside-same : {n lp lq l k : ℕ} → l ≡ lp → k ≡ lq → Beside n lp lq → Beside n l k
+beside-same e f b = record { size = b .size; two = λ h. f ∙ b .two h ∙ sym e; one = λ h. f ∙ b .one h }
 
 -- ---- the edges of a square
 -- after the jth inner edge there are four samples more

@@ -26,7 +26,7 @@ use Rattle.deblock.specs.declared.edges.Edge.{Edge}
 use Rattle.deblock.specs.Deblock.{Change, turns, when, acrossOf, laidBack, keptOf, positionOf, sweepOf, verticalEdges, horizontalEdges, verticalsOf, horizontalsOf, outerEdge, innerEdge, squareOf, macroblockEdges, rasterOf}
 use Rattle.deblock.specs.Moves.{total, tap, line, reachOf, most}
 use Rattle.deblock.specs.Located.{Upright, Level, PlaneGrid, size-eight, upright-in, level-in, square-left, square-top, square-upright, square-level, past-first, grid-square}
-use Rattle.deblock.specs.DeblockLaws.{across-at, across-bytes, length-position, position-off, position-at, not-zero}
+use Rattle.deblock.specs.DeblockLaws.{across-at, across-bytes, length-position, position-bytes, position-off, position-at, not-zero}
 
 -- ---- two samples that lie no further apart than d
 record Close (a b d : ℕ) : Type 0 where
@@ -79,15 +79,15 @@ module _ {len i : ℕ} where
 
 -- ---- one position
 -- the sample at i is number k of those that lie `step` apart from `at` on
-record Number (at step i n : ℕ) : Type 0 where
-  k : ℕ
-  below : k < n
-  is : i ≡ at + k * step
+pub record Number (at step i n : ℕ) : Type 0 where
+  pub k : ℕ
+  pub below : k < n
+  pub is : i ≡ at + k * step
 
-abbrev NoNumber : ℕ → ℕ → ℕ → ℕ → Type 0
+abbrev pub NoNumber : ℕ → ℕ → ℕ → ℕ → Type 0
 NoNumber at step i n = (k : ℕ) → k < n → i ≡ at + k * step → ⊥
 
-number : (at step i n : ℕ) → Number at step i n ⊎ NoNumber at step i n
+pub number : (at step i n : ℕ) → Number at step i n ⊎ NoNumber at step i n
 number at step i zero = inr (λ k h. absurd (omega arith))
 number at step i (suc n) = elim (number at step i n) [
   | inl m ↦ inl (record { k = m .k; below = omega (arith, m .below); is = m .is })
@@ -99,15 +99,6 @@ number at step i (suc n) = elim (number at step i n) [
   where
     same : (k m : ℕ) → k < suc m → m ≤ k → k ≡ m
     same k m h l = omega arith
-
-laid-bytes : (p : List ℕ) (at step : ℕ) (e : List ℕ) (n : ℕ) → Bytes p → Bytes e → Bytes (laidBack p at step e n)
-unfolding laidBack
-laid-bytes p at step e zero b c = b
-laid-bytes p at step e (suc n) b c = set-keeps (λ (v : ℕ). v < 256) (laidBack p at step e n) (at + suc n * step) (getD e (suc n) 0) 0 (c (suc n)) (laid-bytes p at step e n b c)
-
-position-bytes : (g : Edge) (at step : ℕ) (p : List ℕ) → Bytes p → Bytes (positionOf g at step p)
-unfolding positionOf keptOf
-position-bytes g at step p b = laid-bytes p at step _ 6 b (filter-bytes (acrossOf p at step) (g .simple) (g .outer) (g .limit) (g .inner) (g .threshold))
 
 kept-close : (g : Edge) (e : List ℕ) (k : ℕ) → Bytes e → k < 8 → Close (getD (keptOf g e) k 0) (getD e k 0) (getD (farthest (g .simple) (g .outer)) k 0)
 unfolding keptOf

@@ -1,12 +1,13 @@
-// One edge of a plane, position by position.
-use filter::answers::Rule;
-use filter::rules::rule;
-use filter::steps::acted;
+// Sixteen positions of an edge side by side, in a block of 128 samples: sample k of position i stands at i + 16 * k. The compiler takes
+// them together, so no way through them hangs on a sample.
+use filter::straight::acts;
+use filter::straight::straight;
 ghost use mathlib.Core.Path.{_≡_};
-ghost use Prim.Native.Nat.{ℕ, _+_, _*_, _<_};
-ghost use lib.ListN.{length};
-ghost use Rattle.deblock.specs.Deblock.{acrossOf, positionOf, sweepOf};
-ghost use Rattle.deblock.specs.DeblockLaws.{two, four, six};
+ghost use mathlib.Core.Bool.{false};
+ghost use Prim.Native.Nat.{ℕ, _+_, _<_};
+ghost use lib.ListN.{length, getD};
+ghost use Rattle.deblock.specs.Deblock.{acrossOf, laidBack, sweepOf};
+ghost use Rattle.deblock.specs.Block.{actingOf};
 
 // What the kernel is told of an edge: the simple filter or the normal one, a macroblock's edge or an inner one, and the three numbers.
 pub struct Edge {
@@ -17,86 +18,74 @@ pub struct Edge {
     pub threshold: u8,
 }
 
-// The eight samples from the place `at` on, `step` apart.
-fn across(p: &[u8], at: usize, step: usize) -> [u8; 8]
-    requires { ⌜ at + 7 * step < length (now p) ⌝ }
-    ensures { λ r. ⌜ r ≡ acrossOf (now (p .entry)) at step ⌝ }
+// The eight samples of position i.
+fn across(t: &[u8], i: usize) -> [u8; 8]
+    requires { ⌜ i + 112 < length (now t) ⌝ }
+    ensures { λ r. ⌜ r ≡ acrossOf (now (t .entry)) i 16 ⌝ }
 {
-    [
-        p[at],
-        p[at + step],
-        p[at + 2 * step],
-        p[at + 3 * step],
-        p[at + 4 * step],
-        p[at + 5 * step],
-        p[at + 6 * step],
-        p[at + 7 * step],
-    ]
+    let mut e = [0; 8];
+    for k in 0..8 {
+        e[k] = t[i + k * 16];
+    }
+    e
 }
 
-// Two, four or six of them back, those around the edge: a rule moves no more.
-fn put_two(p: &mut [u8], at: usize, step: usize, e: &[u8; 8])
-    requires { ⌜ at + 7 * step < length (now p) ⌝ }
-    ensures { λ _. ⌜ now (p .exit) ≡ two (now (p .entry)) at step (now (e .entry)) ⌝ }
+// Six of them back: the outermost two never move.
+fn put_six(t: &mut [u8], i: usize, e: &[u8; 8])
+    requires { ⌜ i + 112 < length (now t) ⌝ }
+    ensures { λ _. ⌜ now (t .exit) ≡ laidBack (now (t .entry)) i 16 (now (e .entry)) 6 ⌝ }
 {
-    p[at + 3 * step] = e[3];
-    p[at + 4 * step] = e[4];
-}
-
-fn put_four(p: &mut [u8], at: usize, step: usize, e: &[u8; 8])
-    requires { ⌜ at + 7 * step < length (now p) ⌝ }
-    ensures { λ _. ⌜ now (p .exit) ≡ four (now (p .entry)) at step (now (e .entry)) ⌝ }
-{
-    p[at + 2 * step] = e[2];
-    put_two(&mut p[..], at, step, e);
-    p[at + 5 * step] = e[5];
-}
-
-fn put_six(p: &mut [u8], at: usize, step: usize, e: &[u8; 8])
-    requires { ⌜ at + 7 * step < length (now p) ⌝ }
-    ensures { λ _. ⌜ now (p .exit) ≡ six (now (p .entry)) at step (now (e .entry)) ⌝ }
-{
-    p[at + step] = e[1];
-    put_four(&mut p[..], at, step, e);
-    p[at + 6 * step] = e[6];
-}
-
-// One position: only what the rule moves is written.
-fn position(p: &mut [u8], at: usize, step: usize, g: Edge)
-    requires { ⌜ (at + 7 * step < length (now p)) × (0 < step) ⌝ }
-    ensures { λ _. ⌜ now (p .exit) ≡ positionOf g at step (now (p .entry)) ⌝ }
-{
-    let e = across(&p[..], at, step);
-    let r = rule(&e, g.simple, g.outer, g.limit, g.inner, g.threshold);
-    match r {
-        Rule::EdgeFailed => {}
-        Rule::Rough(_) => {}
-        Rule::Simple => {
-            let out = acted(&e, Rule::Simple);
-            put_two(&mut p[..], at, step, &out);
-        }
-        Rule::HighVariance => {
-            let out = acted(&e, Rule::HighVariance);
-            put_two(&mut p[..], at, step, &out);
-        }
-        Rule::MacroblockEdge => {
-            let out = acted(&e, Rule::MacroblockEdge);
-            put_six(&mut p[..], at, step, &out);
-        }
-        Rule::InnerEdge => {
-            let out = acted(&e, Rule::InnerEdge);
-            put_four(&mut p[..], at, step, &out);
-        }
+    for k in 0..6 {
+        t[i + (k + 1) * 16] = e[k + 1];
     }
 }
 
-// n positions, `along` apart.
-pub(crate) fn sweep(p: &mut [u8], at: usize, along: usize, step: usize, n: usize, g: Edge)
-    requires { ⌜ ((i : ℕ) → i < n → at + i * along + 7 * step < length (now p)) ⌝ }
-    requires { ⌜ 0 < step ⌝ }
-    ensures { λ _. ⌜ now (p .exit) ≡ sweepOf g at along step n (now (p .entry)) ⌝ }
+// Whether a rule acts, position by position.
+fn acting(t: &[u8], g: Edge) -> [bool; 16]
+    requires { ⌜ length (now t) ≡ 128 ⌝ }
+    ensures { λ r. ⌜ r ≡ actingOf g (now (t .entry)) ⌝ }
 {
-    for i in 0..n {
-        position(&mut p[..], at + i * along, step, g);
+    let mut m = [false; 16];
+    for i in 0..16 {
+        let e = across(t, i);
+        m[i] = acts(&e, g.simple, g.limit, g.inner);
     }
+    m
+}
+
+fn any(m: &[bool; 16]) -> bool
+    ensures { λ r. ⌜ (r ≡ false → (i : ℕ) → i < 16 → getD (now (m .entry)) i false ≡ false) ⌝ }
+{
+    let mut found = false;
+    for i in 0..16 {
+        found = m[i] | found;
+    }
+    found
+}
+
+// Each position, told whether a rule acts.
+fn filtered(t: &mut [u8], m: &[bool; 16], g: Edge)
+    requires { ⌜ length (now t) ≡ 128 ⌝ }
+    requires { ⌜ now m ≡ actingOf g (now t) ⌝ }
+    ensures { λ _. ⌜ now (t .exit) ≡ sweepOf g 0 1 16 16 (now (t .entry)) ⌝ }
+{
+    for i in 0..16 {
+        let e = across(&t[..], i);
+        let f = straight(&e, g.simple, g.outer, g.threshold, m[i]);
+        put_six(&mut t[..], i, &f);
+    }
+}
+
+// The sixteen positions of the block; false where nothing moved.
+pub(crate) fn sweep(t: &mut [u8], g: Edge) -> bool
+    requires { ⌜ length (now t) ≡ 128 ⌝ }
+    ensures { λ _. ⌜ now (t .exit) ≡ sweepOf g 0 1 16 16 (now (t .entry)) ⌝ }
+    ensures { λ r. ⌜ (r ≡ false → now (t .exit) ≡ now (t .entry)) ⌝ }
+{
+    let m = acting(&t[..], g);
+    if any(&m) {
+        filtered(&mut t[..], &m, g);
+        return true;
+    }
+    false
 }

@@ -1,8 +1,11 @@
 // The whole picture deblocked, RFC 6386 section 15, over lent planes and strengths: the argument checks (checks), one edge
-// (edges), the edges of one macroblock and of all (squares), and the call.
+// taken into a block and put back (blocks, sweeps), its positions side by side (edges), the edges of one macroblock and of all (squares),
+// and the call.
+mod blocks;
 mod checks;
 mod edges;
 mod squares;
+mod sweeps;
 
 use checks::refusal;
 use squares::squares;
@@ -34,11 +37,11 @@ pub fn deblock(
     }
     let wide = width / 16;
     let high = height / 16;
-    squares(&mut y[..], 16, wide, high, simple, strengths);
+    let mut none = [0; 0];
+    squares(&mut y[..], &mut none[..], 16, wide, high, simple, strengths);
     if simple {
         return Deblocked::Done;
     }
-    squares(&mut u[..], 8, wide, high, simple, strengths);
-    squares(&mut v[..], 8, wide, high, simple, strengths);
+    squares(&mut u[..], &mut v[..], 8, wide, high, simple, strengths);
     Deblocked::Done
 }

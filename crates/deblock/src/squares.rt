@@ -1,6 +1,10 @@
-// The edges of one macroblock in one plane, and of all in raster order.
+// The edges of one macroblock, and of all in raster order, in a plane p and a plane q beside it: blue and red, which have the same edges,
+// go together, and luma goes beside an empty plane.
 use crate::edges::Edge;
-use crate::edges::sweep;
+use crate::sweeps::level;
+use crate::sweeps::level_pair;
+use crate::sweeps::upright;
+use crate::sweeps::upright_pair;
 use filter::strengths::Strength;
 use lent::macroblocks::read_strength;
 ghost use mathlib.Core.Path.{_≡_};
@@ -10,7 +14,7 @@ ghost use Rattle.planes.specs.Predict.{Size};
 ghost use Rattle.planes.specs.Places.{Square};
 ghost use Rattle.deblock.specs.Deblock.{outerEdge, innerEdge, verticalEdges, horizontalEdges, verticalsOf, horizontalsOf, squareOf};
 ghost use Rattle.deblock.specs.Deblock.{rasterOf};
-ghost use Rattle.deblock.specs.Located.{Upright, Level, Whole};
+ghost use Rattle.deblock.specs.Located.{Upright, Level, Beside, Whole};
 
 // What the kernel is told of a macroblock's own edges, and of the inner ones.
 fn outer_of(simple: bool, t: Strength) -> Edge
@@ -39,48 +43,77 @@ fn inner_of(simple: bool, t: Strength) -> Edge
 }
 
 // The edge left of column x, in n rows from y on.
-fn vertical(p: &mut [u8], w: usize, x: usize, y: usize, n: usize, g: Edge)
+fn vertical(p: &mut [u8], q: &mut [u8], w: usize, x: usize, y: usize, n: usize, g: Edge)
     requires { ⌜ Upright (length (now p)) w x y n ⌝ }
+    requires { ⌜ Beside n (length (now p)) (length (now q)) ⌝ }
     ensures { λ _. ⌜ now (p .exit) ≡ verticalEdges g w x y n (now (p .entry)) ⌝ }
+    ensures { λ _. ⌜ now (q .exit) ≡ verticalEdges g w x y n (now (q .entry)) ⌝ }
 {
-    sweep(&mut p[..], y * w + x - 4, w, 1, n, g);
+    let at = y * w + x - 4;
+    if n == 16 {
+        upright(&mut p[..], at, w, g);
+    } else {
+        upright_pair(&mut p[..], &mut q[..], at, w, g);
+    }
 }
 
 // The edge above row y, in n columns from x on.
-fn horizontal(p: &mut [u8], w: usize, x: usize, y: usize, n: usize, g: Edge)
+fn horizontal(p: &mut [u8], q: &mut [u8], w: usize, x: usize, y: usize, n: usize, g: Edge)
     requires { ⌜ Level (length (now p)) w x y n ⌝ }
+    requires { ⌜ Beside n (length (now p)) (length (now q)) ⌝ }
     ensures { λ _. ⌜ now (p .exit) ≡ horizontalEdges g w x y n (now (p .entry)) ⌝ }
+    ensures { λ _. ⌜ now (q .exit) ≡ horizontalEdges g w x y n (now (q .entry)) ⌝ }
 {
-    sweep(&mut p[..], (y - 4) * w + x, 1, w, n, g);
+    let at = (y - 4) * w + x;
+    if n == 16 {
+        level(&mut p[..], at, w, g);
+    } else {
+        level_pair(&mut p[..], &mut q[..], at, w, g);
+    }
 }
 
 // The inner edges of the n by n square at column x, row y.
-fn verticals(p: &mut [u8], w: usize, x: usize, y: usize, n: usize, g: Edge)
+fn verticals(p: &mut [u8], q: &mut [u8], w: usize, x: usize, y: usize, n: usize, g: Edge)
     requires { ⌜ Square (length (now p)) w x y n ⌝ }
     requires { ⌜ Size n ⌝ }
+    requires { ⌜ Beside n (length (now p)) (length (now q)) ⌝ }
     ensures { λ _. ⌜ now (p .exit) ≡ verticalsOf g w x y n (now (p .entry)) ⌝ }
+    ensures { λ _. ⌜ now (q .exit) ≡ verticalsOf g w x y n (now (q .entry)) ⌝ }
 {
     for j in 0..n / 4 - 1 {
-        vertical(&mut p[..], w, x + 4 * j + 4, y, n, g);
+        vertical(&mut p[..], &mut q[..], w, x + 4 * j + 4, y, n, g);
     }
 }
 
-fn horizontals(p: &mut [u8], w: usize, x: usize, y: usize, n: usize, g: Edge)
+fn horizontals(p: &mut [u8], q: &mut [u8], w: usize, x: usize, y: usize, n: usize, g: Edge)
     requires { ⌜ Square (length (now p)) w x y n ⌝ }
     requires { ⌜ Size n ⌝ }
+    requires { ⌜ Beside n (length (now p)) (length (now q)) ⌝ }
     ensures { λ _. ⌜ now (p .exit) ≡ horizontalsOf g w x y n (now (p .entry)) ⌝ }
+    ensures { λ _. ⌜ now (q .exit) ≡ horizontalsOf g w x y n (now (q .entry)) ⌝ }
 {
     for j in 0..n / 4 - 1 {
-        horizontal(&mut p[..], w, x, y + 4 * j + 4, n, g);
+        horizontal(&mut p[..], &mut q[..], w, x, y + 4 * j + 4, n, g);
     }
 }
 
-// One macroblock's square.
-fn square(p: &mut [u8], w: usize, n: usize, column: usize, row: usize, simple: bool, t: Strength)
+// One macroblock's square in each plane.
+fn square(
+    p: &mut [u8],
+    q: &mut [u8],
+    w: usize,
+    n: usize,
+    column: usize,
+    row: usize,
+    simple: bool,
+    t: Strength,
+)
     requires { ⌜ Square (length (now p)) w (column * n) (row * n) n ⌝ }
     requires { ⌜ Size n ⌝ }
+    requires { ⌜ Beside n (length (now p)) (length (now q)) ⌝ }
     requires { ⌜ t .limit ≤ 189 ⌝ }
     ensures { λ _. ⌜ now (p .exit) ≡ squareOf simple t w n column row (now (p .entry)) ⌝ }
+    ensures { λ _. ⌜ now (q .exit) ≡ squareOf simple t w n column row (now (q .entry)) ⌝ }
 {
     let x = column * n;
     let y = row * n;
@@ -88,22 +121,23 @@ fn square(p: &mut [u8], w: usize, n: usize, column: usize, row: usize, simple: b
     let inner = inner_of(simple, t);
     let inside = t.inside == 1;
     if column != 0 {
-        vertical(&mut p[..], w, x, y, n, outer);
+        vertical(&mut p[..], &mut q[..], w, x, y, n, outer);
     }
     if inside {
-        verticals(&mut p[..], w, x, y, n, inner);
+        verticals(&mut p[..], &mut q[..], w, x, y, n, inner);
     }
     if row != 0 {
-        horizontal(&mut p[..], w, x, y, n, outer);
+        horizontal(&mut p[..], &mut q[..], w, x, y, n, outer);
     }
     if inside {
-        horizontals(&mut p[..], w, x, y, n, inner);
+        horizontals(&mut p[..], &mut q[..], w, x, y, n, inner);
     }
 }
 
-// Those of a plane, n by n, in raster order.
+// Those of the planes, n by n, in raster order.
 pub(crate) fn squares(
     p: &mut [u8],
+    q: &mut [u8],
     n: usize,
     wide: usize,
     high: usize,
@@ -111,7 +145,9 @@ pub(crate) fn squares(
     strengths: &[u8],
 )
     requires { ⌜ Whole (length (now p)) n wide high (now strengths) ⌝ }
+    requires { ⌜ Beside n (length (now p)) (length (now q)) ⌝ }
     ensures { λ _. ⌜ now (p .exit) ≡ rasterOf simple (now (strengths .entry)) n wide (wide * high) (now (p .entry)) ⌝ }
+    ensures { λ _. ⌜ now (q .exit) ≡ rasterOf simple (now (strengths .entry)) n wide (wide * high) (now (q .entry)) ⌝ }
 {
     let w = wide * n;
     let m = wide * high;
@@ -119,7 +155,7 @@ pub(crate) fn squares(
         let found = read_strength(strengths, k);
         let t = found.strength;
         if t.limit != 0 {
-            square(&mut p[..], w, n, k % wide, k / wide, simple, t);
+            square(&mut p[..], &mut q[..], w, n, k % wide, k / wide, simple, t);
         }
     }
 }

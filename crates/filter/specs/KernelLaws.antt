@@ -3,18 +3,18 @@ use mathlib.Core.Path.{_≡_, refl, sym, ap, _∙_}
 use mathlib.Core.Bool.{Bool, true, false, cond, not, _&&_, _||_}
 use mathlib.Core.List.{List, [], _∷_}
 use mathlib.Core.Logic.{inl, inr}
-use Prim.Native.Nat.{ℕ, suc, _+_, _*_, _/_, _≤_, _<_}
+use Prim.Native.Nat.{ℕ, zero, suc, _+_, _-_, _*_, _/_, _≤_, _<_}
 use native.Mathlib.Omega.{arith}
 use native.Mathlib.Nat.{add-zero}
 use borrow.Author.Tests.{lt-ltb, le-ltb}
 use lib.Dec.{T, ltb, lit<}
 use lib.ListN.{length, getD}
-use lib.IntN.{ℤ, pos, negsuc, negℤ, _+ℤ_, _*ℤ_}
+use lib.IntN.{ℤ, pos, negsuc, negℤ, natAbs, _+ℤ_, _-ℤ_, _*ℤ_}
 use lib.Signed.{leZ}
 use mir.Syntax.{w32}
-use Rattle.numbers.specs.Tests.{never, lt-or}
+use Rattle.numbers.specs.Tests.{never, lt-or, eq-or, both-false}
 use Rattle.numbers.specs.In.{In, Each}
-use Rattle.numbers.specs.Parts.{to-le, of-le, add-parts, up-neg, dn-neg, up-times, dn-times, shr-parts}
+use Rattle.numbers.specs.Parts.{to-le, of-le, of-eq, add-parts, sub-parts-ℤ, up-neg, dn-neg, up-times, dn-times, shr-parts}
 use Rattle.numbers.specs.Order.{times-mono, In-wider}
 use Rattle.numbers.specs.Know.{num, plainly, inside}
 use Rattle.numbers.specs.Eval.{v, lit, _⊕_, shr, know}
@@ -22,27 +22,90 @@ use Rattle.numbers.specs.Hand.{known}
 use Rattle.numbers.specs.Bounds.{each-[], each-∷}
 use Rattle.numbers.specs.Clamp.{signedByteZ, clipZ}
 use Rattle.numbers.specs.ClampLaws.{signed-in, upTo-same, upTo-le}
-use Rattle.numbers.specs.Lists.{built, length-build, getD-build, getD-build-past, getD-constant}
+use Rattle.numbers.specs.Lists.{build, built, length-build, getD-build, getD-build-past, getD-constant}
 use Rattle.filter.specs.declared.answers.Rule.{Rule}
 use Rattle.filter.specs.declared.answers.Rule.the-variants.{EdgeFailed, Rough, Simple, HighVariance, MacroblockEdge, InnerEdge}
 use Rattle.filter.specs.declared.answers.Pixel.the-variants.{Value, Refused}
 pub use Rattle.filter.specs.Kernel.{Bytes}
-use Rattle.filter.specs.Kernel.{Samples, samplesAcross, withinLimit, firstFalse, roughAt, highVariance, ruleOf, across, tapped, eighth, part, half, sides, noSteps, commonSteps, macroblockSteps, innerSteps, stepsOf, movedOf, filterOf, pixelOf}
+use Rattle.filter.specs.Kernel.{Samples, samplesAcross, apart, withinLimit, firstFalse, smooth, roughAt, highVariance, ruleOf, across, tapped, eighth, part, half, sides, noSteps, commonSteps, macroblockSteps, innerSteps, stepsOf, movedOf, filterOf, pixelOf}
+
+-- ---- how far two samples lie apart: the greater less the other
+pub apart-above : (a b : ℕ) → b ≤ a → a - b ≡ apart (pos a) (pos b)
+apart-above a b h = ap natAbs (of-eq {a = pos (a - b)} {b = pos a -ℤ pos b} (omega (arith, sub-parts-ℤ (pos a) (pos b))))
+
+pub apart-below : (a b : ℕ) → a < b → b - a ≡ apart (pos a) (pos b)
+apart-below a b h =
+    let e : b - a ≡ suc (b - a - 1) = omega arith in
+    e ∙ ap natAbs (of-eq {a = negsuc (b - a - 1)} {b = pos a -ℤ pos b} (omega (arith, sub-parts-ℤ (pos a) (pos b))))
 
 -- ---- the first test that fails
-pub first-none : 0 ≡ firstFalse []
+first-most : (l : List Bool) → firstFalse l ≤ length l
 unfolding firstFalse
-first-none = refl
+first-most [] = omega arith
+first-most (true ∷ l) = omega (arith, first-most l)
+first-most (false ∷ l) = omega arith
 
-pub first-here : (b : Bool) (bs : List Bool) → not b ≡ true → 0 ≡ firstFalse (b ∷ bs)
+first-holds : (l : List Bool) (k : ℕ) → k < firstFalse l → getD l k true ≡ true
 unfolding firstFalse
-first-here true bs e = absurd (never e refl)
-first-here false bs e = refl
+first-holds [] k h = refl
+first-holds (true ∷ l) zero h = refl
+first-holds (true ∷ l) (suc k) h = first-holds l k (omega arith)
+first-holds (false ∷ l) k h = absurd (omega arith)
 
-pub first-later : (b : Bool) (bs : List Bool) {n : ℕ} → not b ≡ false → n ≡ firstFalse bs → suc n ≡ firstFalse (b ∷ bs)
+first-fails : (l : List Bool) → firstFalse l < length l → getD l (firstFalse l) true ≡ false
 unfolding firstFalse
-first-later true bs e h = ap suc h
-first-later false bs e h = absurd (never refl e)
+first-fails [] h = absurd (omega arith)
+first-fails (true ∷ l) h = first-fails l (omega arith)
+first-fails (false ∷ l) h = refl
+
+pub first-none : (l : List Bool) → true ≡ not (ltb (firstFalse l) 0)
+first-none l = sym (ap not (le-ltb (firstFalse l) 0 (omega arith)))
+
+-- looked for one by one: none fails before k
+module _ (l : List Bool) (k : ℕ) where
+  pub first-here : k ≤ firstFalse l → getD l k true ≡ false → k ≡ firstFalse l
+  first-here g e = elim (lt-or k (firstFalse l)) [ inl h ↦ absurd (never (first-holds l k h) e) | inr h ↦ omega arith ]
+
+  pub first-later : k < length l → k ≤ firstFalse l → getD l k true ≡ true → k + 1 ≤ firstFalse l
+  first-later m g e = elim (eq-or k (firstFalse l)) [
+    | inl z ↦ absurd (never e (ap (λ (j : ℕ). getD l j true) z ∙ first-fails l (omega (arith, z))))
+    | inr z ↦ omega arith
+  ]
+
+  pub first-end : length l ≤ k → k ≤ firstFalse l → firstFalse l ≡ length l
+  first-end m g = omega (arith, first-most l)
+
+  -- or all of them tried, and what they say joined
+  pub first-joined : k < length l → getD l k true && not (ltb (firstFalse l) k) ≡ not (ltb (firstFalse l) (k + 1))
+  first-joined m = elim (lt-or k (firstFalse l)) [
+    | inl h ↦ rw (first-holds l k h, le-ltb (firstFalse l) k (omega arith), le-ltb (firstFalse l) (k + 1) (omega arith))
+    | inr h ↦ elim (eq-or k (firstFalse l)) [
+      | inl z ↦ rw (ap (λ (j : ℕ). getD l j true) z ∙ first-fails l (omega (arith, z)), lt-ltb (firstFalse l) (k + 1) (omega arith))
+      | inr z ↦ rw (lt-ltb (firstFalse l) k (omega arith), lt-ltb (firstFalse l) (k + 1) (omega arith)) (both-false (getD l k true) refl)
+    ]
+  ]
+
+-- the six pairs of neighbours, in the order in which they are tried
+abbrev pub pairs : Samples → (inner : ℕ) → List Bool
+pairs e inner =
+    smooth inner (e .p3) (e .p2) ∷ smooth inner (e .p2) (e .p1) ∷ smooth inner (e .p1) (e .p0)
+    ∷ smooth inner (e .q3) (e .q2) ∷ smooth inner (e .q2) (e .q1) ∷ smooth inner (e .q1) (e .q0) ∷ []
+
+module _ (e : List ℕ) (inner : ℕ) where
+  pub pair-before : (k : ℕ) → k < 3 → smooth inner (pos (getD e k 0)) (pos (getD e (k + 1) 0)) ≡ getD (pairs (samplesAcross e) inner) k true
+  pair-before zero h = refl
+  pair-before (suc zero) h = refl
+  pair-before (suc (suc zero)) h = refl
+  pair-before (suc (suc (suc k))) h = absurd (omega arith)
+
+  pub pair-behind : (k : ℕ) → 3 ≤ k → k < 6 → smooth inner (pos (getD e (10 - k) 0)) (pos (getD e (9 - k) 0)) ≡ getD (pairs (samplesAcross e) inner) k true
+  pair-behind zero g h = absurd (omega arith)
+  pair-behind (suc zero) g h = absurd (omega arith)
+  pair-behind (suc (suc zero)) g h = absurd (omega arith)
+  pair-behind (suc (suc (suc zero))) g h = refl
+  pair-behind (suc (suc (suc (suc zero)))) g h = refl
+  pair-behind (suc (suc (suc (suc (suc zero))))) g h = refl
+  pair-behind (suc (suc (suc (suc (suc (suc k)))))) g h = absurd (omega arith)
 
 -- ---- which rule acts: the tests that lead to each
 module _ (e : Samples) (simple edge : Bool) (limit inner threshold : ℕ) where
@@ -130,6 +193,16 @@ steps-in Simple e = common-in (tapped e)
 steps-in HighVariance e = common-in (tapped e)
 steps-in MacroblockEdge e = macroblock-in (signed-in 127 (tapped e))
 steps-in InnerEdge e = inner-in (across e)
+
+-- and every rule has eight of them
+pub steps-eight : (r : Rule) (e : Samples) → build 8 (λ (k : ℕ). getD (stepsOf r e) k (pos 0)) ≡ stepsOf r e
+unfolding build stepsOf noSteps commonSteps macroblockSteps innerSteps sides
+steps-eight EdgeFailed e = refl
+steps-eight (Rough pair) e = refl
+steps-eight Simple e = refl
+steps-eight HighVariance e = refl
+steps-eight MacroblockEdge e = refl
+steps-eight InnerEdge e = refl
 
 -- ---- what is filtered
 -- a sample with no step stays, on either side

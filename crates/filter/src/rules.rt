@@ -1,71 +1,63 @@
 // Which rule acts on eight samples.
 use super::answers::Rule;
-use super::samples::minus;
 ghost use mathlib.Core.Path.{_≡_};
-ghost use lib.IntN.{pos, negsuc, natAbs};
-ghost use Rattle.numbers.specs.In.{In};
+ghost use mathlib.Core.Bool.{true};
+ghost use Prim.Native.Nat.{_<_};
+ghost use lib.IntN.{pos};
+ghost use lib.ListN.{getD};
 ghost use Rattle.filter.specs.Kernel.{samplesAcross, apart, withinLimit, smooth, roughAt, highVariance, ruleOf};
-
-fn abs(v: i32) -> i32
-    requires { ⌜ In (negsuc 254) (pos 255) v ⌝ }
-    ensures { λ r. ⌜ r ≡ pos (natAbs v) ⌝ }
-    ensures { λ r. ⌜ In (pos 0) (pos 255) r ⌝ }
-{
-    if v < 0 { -v } else { v }
-}
+ghost use Rattle.filter.specs.KernelLaws.{pairs};
 
 // How far a and b lie apart.
-fn distance(a: u8, b: u8) -> i32
-    ensures { λ r. ⌜ r ≡ pos (apart (pos a) (pos b)) ⌝ }
-    ensures { λ r. ⌜ In (pos 0) (pos 255) r ⌝ }
+fn distance(a: u8, b: u8) -> u8
+    ensures { λ r. ⌜ r ≡ apart (pos a) (pos b) ⌝ }
 {
-    abs(minus(a, b))
+    if a < b { b - a } else { a - b }
 }
 
 // The edge test.
-fn within_limit(e: &[u8; 8], limit: u8) -> bool
+pub(crate) fn within_limit(e: &[u8; 8], limit: u8) -> bool
     ensures { λ r. ⌜ r ≡ withinLimit (samplesAcross (now (e .entry))) limit ⌝ }
 {
-    4 * distance(e[3], e[4]) + distance(e[2], e[5]) <= 2 * limit as i32 + 1
+    4 * distance(e[3], e[4]) as u16 + distance(e[2], e[5]) as u16 <= 2 * limit as u16 + 1
 }
 
 // Whether two neighbours differ by at most inner.
 fn smooth(a: u8, b: u8, inner: u8) -> bool
     ensures { λ r. ⌜ r ≡ smooth inner (pos a) (pos b) ⌝ }
 {
-    distance(a, b) <= inner as i32
+    distance(a, b) <= inner
+}
+
+// Whether the kth pair of neighbours is smooth: three up to the edge, then three behind it, on either side from the outermost on.
+pub(crate) fn near(e: &[u8; 8], k: usize, inner: u8) -> bool
+    requires { ⌜ k < 6 ⌝ }
+    ensures { λ r. ⌜ r ≡ getD (pairs (samplesAcross (now (e .entry))) inner) k true ⌝ }
+{
+    if k < 3 {
+        smooth(e[k], e[k + 1], inner)
+    } else {
+        smooth(e[10 - k], e[9 - k], inner)
+    }
 }
 
 // The first pair of neighbours that is not smooth, 6 where all are. No pair after it is looked at.
 fn rough(e: &[u8; 8], inner: u8) -> u8
     ensures { λ r. ⌜ r ≡ roughAt (samplesAcross (now (e .entry))) inner ⌝ }
 {
-    if !smooth(e[0], e[1], inner) {
-        return 0;
-    }
-    if !smooth(e[1], e[2], inner) {
-        return 1;
-    }
-    if !smooth(e[2], e[3], inner) {
-        return 2;
-    }
-    if !smooth(e[7], e[6], inner) {
-        return 3;
-    }
-    if !smooth(e[6], e[5], inner) {
-        return 4;
-    }
-    if !smooth(e[5], e[4], inner) {
-        return 5;
+    for k in 0..6 {
+        if !near(e, k, inner) {
+            return k as u8;
+        }
     }
     6
 }
 
 // Whether the two samples next to the edge, on either side, differ by more than threshold.
-fn high_variance(e: &[u8; 8], threshold: u8) -> bool
+pub(crate) fn high_variance(e: &[u8; 8], threshold: u8) -> bool
     ensures { λ r. ⌜ r ≡ highVariance (samplesAcross (now (e .entry))) threshold ⌝ }
 {
-    (distance(e[2], e[3]) > threshold as i32) | (distance(e[5], e[4]) > threshold as i32)
+    (distance(e[2], e[3]) > threshold) | (distance(e[5], e[4]) > threshold)
 }
 
 // The rule that acts: each test is made once, and none that the answer does not need.

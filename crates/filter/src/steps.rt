@@ -1,18 +1,26 @@
 // What a rule adds to each of eight samples.
 use super::answers::Rule;
+use super::samples::clamp;
 use super::samples::minus;
 use super::samples::plus;
-use numbers::signed_byte;
-use numbers::signed_to;
 ghost use mathlib.Core.Path.{_≡_};
 ghost use lib.IntN.{pos, negsuc};
+ghost use lib.ListN.{getD};
 ghost use Rattle.numbers.specs.In.{In, Each};
 ghost use Rattle.numbers.specs.Clamp.{signedByteZ};
-ghost use Rattle.filter.specs.Kernel.{samplesAcross, across, tapped, eighth, sides, noSteps, commonSteps, macroblockSteps, innerSteps};
-ghost use Rattle.filter.specs.Kernel.{stepsOf, movedOf};
+ghost use Rattle.numbers.specs.Lists.{build};
+ghost use Rattle.filter.specs.Kernel.{samplesAcross, across, tapped, eighth, sides, noSteps, commonSteps, macroblockSteps};
+ghost use Rattle.filter.specs.Kernel.{innerSteps, stepsOf, movedOf};
+
+// v as a signed byte, -128..=127.
+pub(crate) fn signed_byte(v: i16) -> i16
+    ensures { λ r. ⌜ r ≡ signedByteZ v ⌝ }
+{
+    clamp(v, -128, 127)
+}
 
 // Three times the step across the edge.
-fn across(e: &[u8; 8]) -> i32
+pub(crate) fn across(e: &[u8; 8]) -> i16
     ensures { λ r. ⌜ r ≡ across (samplesAcross (now (e .entry))) ⌝ }
     ensures { λ r. ⌜ In (negsuc 764) (pos 765) r ⌝ }
 {
@@ -20,7 +28,7 @@ fn across(e: &[u8; 8]) -> i32
 }
 
 // The same with the outer taps.
-fn tapped(e: &[u8; 8]) -> i32
+pub(crate) fn tapped(e: &[u8; 8]) -> i16
     ensures { λ r. ⌜ r ≡ tapped (samplesAcross (now (e .entry))) ⌝ }
     ensures { λ r. ⌜ In (negsuc 892) (pos 892) r ⌝ }
 {
@@ -28,14 +36,14 @@ fn tapped(e: &[u8; 8]) -> i32
 }
 
 // An eighth, rounded down, in -16..=15.
-fn eighth(a: i32) -> i32
+fn eighth(a: i16) -> i16
     ensures { λ r. ⌜ r ≡ eighth a ⌝ }
 {
-    signed_to(a >> 3, 15)
+    clamp(a >> 3, -16, 15)
 }
 
 // The steps of eight samples: what is added on the p side is taken off on the q side.
-fn sides(p2: i32, p1: i32, p0: i32, q0: i32, q1: i32, q2: i32) -> [i32; 8]
+pub(crate) fn sides(p2: i16, p1: i16, p0: i16, q0: i16, q1: i16, q2: i16) -> [i16; 8]
     requires { ⌜ In (negsuc 127) (pos 127) q0 × In (negsuc 127) (pos 127) q1 × In (negsuc 127) (pos 127) q2 ⌝ }
     ensures { λ r. ⌜ r ≡ sides p2 p1 p0 q0 q1 q2 ⌝ }
 {
@@ -43,7 +51,7 @@ fn sides(p2: i32, p1: i32, p0: i32, q0: i32, q1: i32, q2: i32) -> [i32; 8]
 }
 
 // p0 and q0 move toward each other.
-fn common_steps(a: i32) -> [i32; 8]
+pub(crate) fn common_steps(a: i16) -> [i16; 8]
     requires { ⌜ In (negsuc 892) (pos 892) a ⌝ }
     ensures { λ r. ⌜ r ≡ commonSteps a ⌝ }
 {
@@ -51,7 +59,7 @@ fn common_steps(a: i32) -> [i32; 8]
 }
 
 // Three samples on each side move, the nearest most.
-fn macroblock_steps(w: i32) -> [i32; 8]
+pub(crate) fn macroblock_steps(w: i16) -> [i16; 8]
     requires { ⌜ In (negsuc 127) (pos 127) w ⌝ }
     ensures { λ r. ⌜ r ≡ macroblockSteps w ⌝ }
 {
@@ -62,7 +70,7 @@ fn macroblock_steps(w: i32) -> [i32; 8]
 }
 
 // Two samples on each side move, the second half as far.
-fn inner_steps(a: i32) -> [i32; 8]
+pub(crate) fn inner_steps(a: i16) -> [i16; 8]
     requires { ⌜ In (negsuc 892) (pos 892) a ⌝ }
     ensures { λ r. ⌜ r ≡ innerSteps a ⌝ }
 {
@@ -72,7 +80,7 @@ fn inner_steps(a: i32) -> [i32; 8]
 }
 
 // Each sample with its step added, clipped.
-fn moved(e: &[u8; 8], s: &[i32; 8]) -> [u8; 8]
+pub(crate) fn moved(e: &[u8; 8], s: &[i16; 8]) -> [u8; 8]
     requires { ⌜ Each (negsuc 126) (pos 127) (now s) ⌝ }
     ensures { λ r. ⌜ r ≡ movedOf (now (e .entry)) (now (s .entry)) ⌝ }
 {
@@ -85,51 +93,8 @@ fn moved(e: &[u8; 8], s: &[i32; 8]) -> [u8; 8]
     out
 }
 
-// The eight samples after each kind of steps.
-fn unmoved(e: &[u8; 8]) -> [u8; 8]
-    ensures { λ r. ⌜ r ≡ movedOf (now (e .entry)) noSteps ⌝ }
-{
-    let s = sides(0, 0, 0, 0, 0, 0);
-    moved(e, &s)
-}
-
-fn common(e: &[u8; 8]) -> [u8; 8]
-    ensures { λ r. ⌜ r ≡ movedOf (now (e .entry)) (commonSteps (tapped (samplesAcross (now (e .entry))))) ⌝ }
-{
-    let s = common_steps(tapped(e));
-    moved(e, &s)
-}
-
-fn macroblock(e: &[u8; 8]) -> [u8; 8]
-    ensures { λ r. ⌜ r ≡ movedOf (now (e .entry)) (macroblockSteps (signedByteZ (tapped (samplesAcross (now (e .entry)))))) ⌝ }
-{
-    let s = macroblock_steps(signed_byte(tapped(e)));
-    moved(e, &s)
-}
-
-fn inner(e: &[u8; 8]) -> [u8; 8]
-    ensures { λ r. ⌜ r ≡ movedOf (now (e .entry)) (innerSteps (across (samplesAcross (now (e .entry))))) ⌝ }
-{
-    let s = inner_steps(across(e));
-    moved(e, &s)
-}
-
-// What the rule does. Each arm moves the samples by itself, so that the compiler sees which steps are 0.
-pub fn acted(e: &[u8; 8], rule: Rule) -> [u8; 8]
-    ensures { λ r. ⌜ r ≡ movedOf (now (e .entry)) (stepsOf rule (samplesAcross (now (e .entry)))) ⌝ }
-{
-    match rule {
-        Rule::EdgeFailed => unmoved(e),
-        Rule::Rough(_) => unmoved(e),
-        Rule::Simple => common(e),
-        Rule::HighVariance => common(e),
-        Rule::MacroblockEdge => macroblock(e),
-        Rule::InnerEdge => inner(e),
-    }
-}
-
-// What the rule adds to each sample, before the sum is clipped.
-pub fn added(e: &[u8; 8], rule: Rule) -> [i32; 8]
+// What the rule adds to each sample.
+fn steps(e: &[u8; 8], rule: Rule) -> [i16; 8]
     ensures { λ r. ⌜ r ≡ stepsOf rule (samplesAcross (now (e .entry))) ⌝ }
 {
     match rule {
@@ -140,4 +105,34 @@ pub fn added(e: &[u8; 8], rule: Rule) -> [i32; 8]
         Rule::MacroblockEdge => macroblock_steps(signed_byte(tapped(e))),
         Rule::InnerEdge => inner_steps(across(e)),
     }
+}
+
+// What the rule does.
+pub fn acted(e: &[u8; 8], rule: Rule) -> [u8; 8]
+    ensures { λ r. ⌜ r ≡ movedOf (now (e .entry)) (stepsOf rule (samplesAcross (now (e .entry)))) ⌝ }
+{
+    let s = steps(e, rule);
+    moved(e, &s)
+}
+
+// The same steps in 32 bits.
+fn widened(s: &[i16; 8]) -> [i32; 8]
+    requires { ⌜ Each (negsuc 126) (pos 127) (now s) ⌝ }
+    ensures { λ r. ⌜ r ≡ build 8 (λ k. getD (now (s .entry)) k (pos 0)) ⌝ }
+{
+    let mut out = [0; 8];
+    let mut i = 0;
+    while i < 8 {
+        out[i] = s[i] as i32;
+        i += 1;
+    }
+    out
+}
+
+// What the rule adds to each sample, before the sum is clipped, in 32 bits.
+pub fn added(e: &[u8; 8], rule: Rule) -> [i32; 8]
+    ensures { λ r. ⌜ r ≡ stepsOf rule (samplesAcross (now (e .entry))) ⌝ }
+{
+    let s = steps(e, rule);
+    widened(&s)
 }

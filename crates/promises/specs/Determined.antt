@@ -26,6 +26,7 @@ use Rattle.transform.specs.Lanes.{residualsOf}
 use Rattle.transform.specs.Transform.{transformOf}
 use Rattle.filter.specs.declared.answers.Rule.{Rule}
 use Rattle.filter.specs.Kernel.{samplesAcross, ruleOf, stepsOf, movedOf, filterOf, pixelOf}
+use Rattle.filter.specs.Straight.{actsOf, straightOf}
 use Rattle.modes.specs.Answers.{eachBelow, prefixAnswer, mainAnswer, blockAnswer, smallAnswer, modesAnswer}
 use Rattle.filter.specs.Explain.{explainOf}
 use Rattle.modes.specs.Modes as Modes
@@ -255,6 +256,14 @@ filter-rule e simple edge limit inner threshold = determined (ruleOf (samplesAcr
 -- filter::steps::acted
 pub filter-acted : (e : List ℕ) (rule : Rule) → One (λ o. o ≡ movedOf e (stepsOf rule (samplesAcross e)))
 filter-acted e rule = determined (movedOf e (stepsOf rule (samplesAcross e)))
+
+-- filter::straight::acts
+pub filter-acts : (e : List ℕ) (simple : Bool) (limit inner : ℕ) → One (λ o. o ≡ actsOf (samplesAcross e) simple limit inner)
+filter-acts e simple limit inner = determined (actsOf (samplesAcross e) simple limit inner)
+
+-- filter::straight::straight
+pub filter-straight : (e : List ℕ) (simple edge : Bool) (threshold : ℕ) (acts : Bool) → One (λ o. o ≡ straightOf e simple edge threshold acts)
+filter-straight e simple edge threshold acts = determined (straightOf e simple edge threshold acts)
 
 -- filter::strengths::at_level
 pub filter-at-level : (level sharp : ℕ) (inside : Bool) → One (λ o. o ≡ strengthAnswer level sharp inside)

@@ -1,29 +1,35 @@
--- `put_six` meets its contract: a store on either side of four.
-use Prim.Native.Nat.{ℕ, _+_, _*_}
-use mathlib.Core.List.{List}
-use mathlib.Core.Path.{ap}
+-- `put_six` meets its contract: a sample a turn.
+use Prim.Native.Nat.{_-_, _≤_}
+use mathlib.Core.Path.{_≡_, sym}
 use native.Mathlib.Omega.{arith}
-use borrow.Author.Needs.{needs}
-use lib.ListN.{getD, set, length-set}
-use Rattle.deblock.specs.DeblockLaws.{length-six}
+use Rattle.deblock.specs.Deblock.{laidBack}
+use Rattle.deblock.specs.DeblockLaws.{laid-first, laid-next, length-laid}
 use Rattle.deblock.proofs.edges.put_six.Statement.{statement}
 use Rattle.deblock.proofs.edges.put_six.Tie as tie
 
-slice-write-p-2 : tie.Need-slice-write-p-2
-slice-write-p-2 c = rw (c .before .before .before .put-four .ensures) (simp length-set (omega arith))
+abbrev Inv-loop : tie.InvT-loop
+Inv-loop t₀ i e k₀ t k = (k ≤ 6) × (t ≡ laidBack t₀ i 16 e k)
 
-same-length : tie.Need-same-length
-same-length c =
-    let a = c .before .before .before .before .before .before .before .args in
-    length-six (a .p .now) (a .at) (a .step) (a .e .now) (a .at + a .step) (a .at + 6 * a .step) (getD (a .e .now) 1 0) (getD (a .e .now) 6 0) (c .before .before .before .put-four .ensures)
+abbrev μ-loop : tie.MeasureT-loop
+μ-loop t₀ i e k₀ t k = 6 - k
 
-returns : tie.Need-returns
-returns c =
-    let a = c .before .before .before .before .before .before .before .args in
-    ap (λ (l : List ℕ). set l (a .at + 6 * a .step) (getD (a .e .now) 6 0)) (c .before .before .before .put-four .ensures)
+add-t-3 : tie.Need-add-t-3 Inv-loop μ-loop
+add-t-3 c = omega (arith, c .before .before .before .pre)
+
+slice-write-t : tie.Need-slice-write-t Inv-loop μ-loop
+slice-write-t c = rw (c .before .before .loop .inv .1, length-laid) (omega (arith, c .before .before .before .pre))
+
+loop-again : tie.Need-loop-again Inv-loop μ-loop
+loop-again c = (omega arith, rw (c .before .before .loop .inv .1) (laid-next _ _ _ _ _))
+
+same-length : tie.Need-same-length Inv-loop μ-loop
+same-length c = rw (c .before .loop .inv .1) (length-laid _ _ _ _ _)
+
+returns : tie.Need-returns Inv-loop μ-loop
+returns c = let e : c .before .loop .k ≡ 6 = omega arith in rw e at (c .before .loop .inv .1)
 
 pub put-six-spec : {M : Type 1} → statement M
 put-six-spec =
     tie.close
-    (tie.spec (λ c. search needs) (λ c. search needs) (λ c. search needs) (λ c κs. search needs) (λ c. search needs) (λ c. search needs)
-    (λ c. search needs) slice-write-p-2 same-length returns)
+    (tie.spec Inv-loop μ-loop (λ c. (omega arith, sym (laid-first _ _ _ _))) (λ c. omega arith) (λ c. omega arith) (λ c. omega arith) (λ c. omega arith)
+    add-t-3 slice-write-t (λ c. omega arith) (λ c. omega arith) loop-again same-length returns)

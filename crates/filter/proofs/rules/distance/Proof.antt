@@ -1,18 +1,14 @@
--- `distance` meets its contract.
-use mathlib.Core.Path.{ap, _∙_}
+-- `distance` meets its contract: the greater less the other.
+use Rattle.filter.specs.KernelLaws.{apart-below, apart-above}
 use borrow.Author.Needs.{needs}
-use lib.IntN.{ℤ, pos, natAbs}
-use mir.Syntax.{w32}
-use Rattle.numbers.specs.Know.{inside-read}
-use Rattle.numbers.specs.Hand.{called, passed}
 use Rattle.filter.proofs.rules.distance.Statement.{statement}
 use Rattle.filter.proofs.rules.distance.Tie as tie
 
 returns : tie.Need-returns
-returns c =
-    let m = c .before .minus .ensures in
-    let k = called w32 (c .abs .ensures .0 ∙ ap (λ (z : ℤ). pos (natAbs z)) (called w32 (m .0) (m .1) tt .eq)) (c .abs .ensures .1) tt in
-    (k .eq, inside-read k)
+returns c = apart-below _ _ (c .if1 .taken)
+
+returns-2 : tie.Need-returns-2
+returns-2 c = apart-above _ _ (c .if1 .left)
 
 pub distance-spec : {M : Type 1} → statement M
-distance-spec = tie.close (tie.spec (λ c κs. search needs) (λ c κs. passed w32 (c .minus .ensures .1) tt tt) returns)
+distance-spec = tie.close (tie.spec (λ c. search needs) returns returns-2)

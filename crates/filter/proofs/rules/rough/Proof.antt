@@ -1,42 +1,32 @@
--- `rough` meets its contract: each way out has the tests before it, and its own.
-use Rattle.filter.specs.Kernel.{roughAt}
-use Rattle.filter.specs.KernelLaws.{first-none, first-here, first-later}
-use borrow.Author.Needs.{needs}
+-- `rough` meets its contract: none of the pairs before the kth fails.
+use Prim.Native.Nat.{_-_, _≤_}
+use mathlib.Core.Path.{sym, _∙_}
+use native.Mathlib.Omega.{arith}
+use borrow.Author.Tests.{not-true, not-false}
+use Rattle.filter.specs.Kernel.{samplesAcross, firstFalse, roughAt}
+use Rattle.filter.specs.KernelLaws.{pairs, first-here, first-later, first-end}
 use Rattle.filter.proofs.rules.rough.Statement.{statement}
 use Rattle.filter.proofs.rules.rough.Tie as tie
 
-returns : tie.Need-returns
-unfolding roughAt
-returns c = first-here _ _ (rw (c .before .smooth .ensures) at (c .if1 .taken))
+abbrev Inv-loop : tie.InvT-loop
+Inv-loop e inner k₀ k = (k ≤ 6) × (k ≤ firstFalse (pairs (samplesAcross e) inner))
 
-returns-2 : tie.Need-returns-2
-unfolding roughAt
-returns-2 c = first-later _ _ (rw (c .before .before .before .before .before .smooth .ensures) at (c .before .before .before .before .if1 .left)) (first-here _ _ (rw (c .before .smooth2 .ensures) at (c .if2 .taken)))
+abbrev μ-loop : tie.MeasureT-loop
+μ-loop e inner k₀ k = 6 - k
 
-returns-3 : tie.Need-returns-3
+returns : tie.Need-returns Inv-loop μ-loop
 unfolding roughAt
-returns-3 c = first-later _ _ (rw (c .before .before .before .before .before .before .before .before .before .smooth .ensures) at (c .before .before .before .before .before .before .before .before .if1 .left)) (first-later _ _ (rw (c .before .before .before .before .before .smooth2 .ensures) at (c .before .before .before .before .if2 .left)) (first-here _ _ (rw (c .before .smooth3 .ensures) at (c .if3 .taken))))
+returns c = let l = c .before .before .before .loop in first-here _ _ (l .inv .1) (sym (c .before .near .ensures) ∙ not-true _ (c .if1 .taken))
 
-returns-4 : tie.Need-returns-4
-unfolding roughAt
-returns-4 c = first-later _ _ (rw (c .before .before .before .before .before .before .before .before .before .before .before .before .before .smooth .ensures) at (c .before .before .before .before .before .before .before .before .before .before .before .before .if1 .left)) (first-later _ _ (rw (c .before .before .before .before .before .before .before .before .before .smooth2 .ensures) at (c .before .before .before .before .before .before .before .before .if2 .left)) (first-later _ _ (rw (c .before .before .before .before .before .smooth3 .ensures) at (c .before .before .before .before .if3 .left)) (first-here _ _ (rw (c .before .smooth4 .ensures) at (c .if4 .taken)))))
+loop-again : tie.Need-loop-again Inv-loop μ-loop
+loop-again c = let l = c .before .before .before .loop in (omega arith, first-later _ _ (omega arith) (l .inv .1) (sym (c .before .near .ensures) ∙ not-false _ (c .if1 .left)))
 
-returns-5 : tie.Need-returns-5
+returns-2 : tie.Need-returns-2 Inv-loop μ-loop
 unfolding roughAt
-returns-5 c = first-later _ _ (rw (c .before .before .before .before .before .before .before .before .before .before .before .before .before .before .before .before .before .smooth .ensures) at (c .before .before .before .before .before .before .before .before .before .before .before .before .before .before .before .before .if1 .left)) (first-later _ _ (rw (c .before .before .before .before .before .before .before .before .before .before .before .before .before .smooth2 .ensures) at (c .before .before .before .before .before .before .before .before .before .before .before .before .if2 .left)) (first-later _ _ (rw (c .before .before .before .before .before .before .before .before .before .smooth3 .ensures) at (c .before .before .before .before .before .before .before .before .if3 .left)) (first-later _ _ (rw (c .before .before .before .before .before .smooth4 .ensures) at (c .before .before .before .before .if4 .left)) (first-here _ _ (rw (c .before .smooth5 .ensures) at (c .if5 .taken))))))
-
-returns-6 : tie.Need-returns-6
-unfolding roughAt
-returns-6 c = first-later _ _ (rw (c .before .before .before .before .before .before .before .before .before .before .before .before .before .before .before .before .before .before .before .before .before .smooth .ensures) at (c .before .before .before .before .before .before .before .before .before .before .before .before .before .before .before .before .before .before .before .before .if1 .left)) (first-later _ _ (rw (c .before .before .before .before .before .before .before .before .before .before .before .before .before .before .before .before .before .smooth2 .ensures) at (c .before .before .before .before .before .before .before .before .before .before .before .before .before .before .before .before .if2 .left)) (first-later _ _ (rw (c .before .before .before .before .before .before .before .before .before .before .before .before .before .smooth3 .ensures) at (c .before .before .before .before .before .before .before .before .before .before .before .before .if3 .left)) (first-later _ _ (rw (c .before .before .before .before .before .before .before .before .before .smooth4 .ensures) at (c .before .before .before .before .before .before .before .before .if4 .left)) (first-later _ _ (rw (c .before .before .before .before .before .smooth5 .ensures) at (c .before .before .before .before .if5 .left)) (first-here _ _ (rw (c .before .smooth6 .ensures) at (c .if6 .taken)))))))
-
-returns-7 : tie.Need-returns-7
-unfolding roughAt
-returns-7 c = first-later _ _ (rw (c .before .before .before .before .before .before .before .before .before .before .before .before .before .before .before .before .before .before .before .before .before .smooth .ensures) at (c .before .before .before .before .before .before .before .before .before .before .before .before .before .before .before .before .before .before .before .before .if1 .left)) (first-later _ _ (rw (c .before .before .before .before .before .before .before .before .before .before .before .before .before .before .before .before .before .smooth2 .ensures) at (c .before .before .before .before .before .before .before .before .before .before .before .before .before .before .before .before .if2 .left)) (first-later _ _ (rw (c .before .before .before .before .before .before .before .before .before .before .before .before .before .smooth3 .ensures) at (c .before .before .before .before .before .before .before .before .before .before .before .before .if3 .left)) (first-later _ _ (rw (c .before .before .before .before .before .before .before .before .before .smooth4 .ensures) at (c .before .before .before .before .before .before .before .before .if4 .left)) (first-later _ _ (rw (c .before .before .before .before .before .smooth5 .ensures) at (c .before .before .before .before .if5 .left)) (first-later _ _ (rw (c .before .smooth6 .ensures) at (c .if6 .left)) first-none)))))
+returns-2 c = sym (first-end _ (c .before .loop .k) (omega arith) (c .before .loop .inv .1))
 
 pub rough-spec : {M : Type 1} → statement M
 rough-spec =
     tie.close
-    (tie.spec (λ c. search needs) (λ c. search needs) (λ c κs. search needs) returns (λ c. search needs) (λ c. search needs) (λ c κs. search needs)
-    returns-2 (λ c. search needs) (λ c. search needs) (λ c κs. search needs) returns-3 (λ c. search needs) (λ c. search needs) (λ c κs. search needs)
-    returns-4 (λ c. search needs) (λ c. search needs) (λ c κs. search needs) returns-5 (λ c. search needs) (λ c. search needs) (λ c κs. search needs)
-    returns-6 returns-7)
+    (tie.spec Inv-loop μ-loop (λ c. (omega arith, omega arith)) (λ c κs. omega arith) (λ c. omega arith) returns (λ c. omega arith) (λ c. omega arith)
+    loop-again returns-2)

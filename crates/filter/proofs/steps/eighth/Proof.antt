@@ -3,7 +3,7 @@ use mathlib.Core.Path.{ap, _∙_}
 use mathlib.Core.List.{[], _∷_}
 use borrow.Author.Needs.{needs}
 use lib.IntN.{ℤ}
-use mir.Syntax.{w32}
+use mir.Syntax.{w16}
 use Rattle.numbers.specs.Eval.{v, shr, is}
 use Rattle.numbers.specs.Hand.{known, any, answered}
 use Rattle.numbers.specs.Clamp.{signedTo}
@@ -16,7 +16,7 @@ returns : tie.Need-returns
 unfolding kernel.eighth
 returns c =
     let s = c .before in
-    answered w32 (c .signed-to .ensures ∙ ap (λ (z : ℤ). signedTo 15 z) (is w32 (known (any w32 (s .fits .a)) ∷ []) (shr (v 0) 3) tt)) (eighth-in (s .args .a)) tt .eq
+    answered w16 (c .clamp .ensures ∙ ap (λ (z : ℤ). signedTo 15 z) (is w16 (known (any w16 (s .fits .a)) ∷ []) (shr (v 0) 3) tt)) (eighth-in (s .args .a)) tt .eq
 
 pub eighth-spec : {M : Type 1} → statement M
 eighth-spec = tie.close (tie.spec (λ c κs. search needs) returns)

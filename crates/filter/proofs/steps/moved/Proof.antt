@@ -4,7 +4,7 @@ use mathlib.Core.Path.{refl, ap, _∙_}
 use native.Mathlib.Omega.{arith}
 use lib.IntN.{ℤ, pos, _+ℤ_}
 use lib.ListN.{getD}
-use mir.Syntax.{w32}
+use mir.Syntax.{w16}
 use Rattle.numbers.specs.Hand.{there, passed}
 use Rattle.numbers.specs.Clamp.{clipZ}
 use Rattle.numbers.specs.Lists.{Filled, filled-none, filled-next, filled-all}
@@ -19,14 +19,14 @@ abbrev μ-loop : tie.MeasureT-loop
 μ-loop e s out₀ i₀ out i = 8 - i
 
 plus-requires : tie.Need-plus-requires Inv-loop μ-loop
-plus-requires c κs = passed w32 (c .before .before .before .before .pre .at _) tt tt
+plus-requires c κs = passed w16 (c .before .before .before .before .pre .at _) tt tt
 
 loop-again : tie.Need-loop-again Inv-loop μ-loop
 loop-again c =
     let l = c .before .before .before .before .loop in
     let s = c .before .before .before .before .before in
     filled-next (c .plus .result) (omega arith)
-    (c .plus .ensures ∙ ap (λ (z : ℤ). clipZ (pos (getD (s .args .e .now) (l .i) 0) +ℤ z)) (there w32 (s .pre .at (l .i)) tt .eq)) (l .inv)
+    (c .plus .ensures ∙ ap (λ (z : ℤ). clipZ (pos (getD (s .args .e .now) (l .i) 0) +ℤ z)) (there w16 (s .pre .at (l .i)) tt .eq)) (l .inv)
 
 returns : tie.Need-returns Inv-loop μ-loop
 unfolding movedOf

@@ -3,7 +3,7 @@ use mathlib.Core.Path.{ap, _∙_}
 use mathlib.Core.List.{List, [], _∷_}
 use borrow.Author.Needs.{needs}
 use lib.IntN.{ℤ}
-use mir.Syntax.{w32}
+use mir.Syntax.{w16}
 use Rattle.numbers.specs.Know.{inside-read}
 use Rattle.numbers.specs.Eval.{Var, v, _⊕_, fits, know}
 use Rattle.numbers.specs.Hand.{known, called, answered}
@@ -18,15 +18,15 @@ abbrev ρ : tie.After-signed-byte → List Var
 ρ c =
     let m = c .before .minus .ensures in
     let a = c .before .before .before .before .across .ensures in
-    known (called w32 (a .0) (a .1) tt)
-    ∷ known (answered w32 (c .signed-byte .ensures ∙ ap (λ (z : ℤ). signedByteZ z) (called w32 (m .0) (m .1) tt .eq)) (signed-in 127 _) tt) ∷ []
+    known (called w16 (a .0) (a .1) tt)
+    ∷ known (answered w16 (c .signed-byte .ensures ∙ ap (λ (z : ℤ). signedByteZ z) (called w16 (m .0) (m .1) tt .eq)) (signed-in 127 _) tt) ∷ []
 
 add-result : tie.Need-add-result
-add-result c = fits w32 (ρ c) (v 0 ⊕ v 1) tt
+add-result c = fits w16 (ρ c) (v 0 ⊕ v 1) tt
 
 returns : tie.Need-returns
 unfolding kernel.tapped
-returns c = let k = know w32 (ρ c) (v 0 ⊕ v 1) tt in (k .eq, inside-read k)
+returns c = let k = know w16 (ρ c) (v 0 ⊕ v 1) tt in (k .eq, inside-read k)
 
 pub tapped-spec : {M : Type 1} → statement M
 tapped-spec =
