@@ -28,7 +28,8 @@ use Rattle.reader.specs.BooleanLaws.{Bytes}
 use Rattle.reader.specs.Extra.{extra}
 use Rattle.reader.specs.Reading.{Reading, done, ask, symbol, _>>=_}
 use Rattle.reader.specs.Token.{tokenTree, token, elevenAt}
-use Rattle.reader.specs.TokenLaws.{eleven-at}
+use Rattle.reader.specs.TokenLaws.{eleven-at, eleven-bytes}
+use Rattle.reader.specs.TreesLaws.{walk-below}
 use Rattle.reader.specs.Trees.{branchAt, follow, walk}
 use Rattle.reader.specs.declared.trees.Branch.{Branch}
 use Rattle.reader.specs.declared.trees.Branch.the-variants as B
@@ -38,11 +39,11 @@ use Rattle.wide.specs.CountedLaws.{costs-then, costs-extra, costs-walk, depthsO
 use Rattle.wide.specs.Padded.{runPadded}
 use Rattle.wide.specs.Wide as wide
 use Rattle.wide.specs.WideLaws.{Sim}
-use Rattle.wide.specs.WideRuns.{WideReads, Going, going-start, going-fill, going-bit, going-as, going-weaken, going-cost, going-told, reads-then, walk-asks}
+use Rattle.wide.specs.WideRuns.{WideReads, Going, going-start, going-fill, going-bit, going-as, going-weaken, going-cost, going-told, going-fresh, call-fresh, fill-fresh, going-half, reads-then, walk-asks}
 use Rattle.wide.specs.declared.wide.Bit.{Bit}
 use Rattle.wide.specs.declared.wide.Wide.{Wide}
 use Rattle.coefficients.specs.Fast.{sixteenAt, stored, depths, extras, Coded, CodedWhere, roomOf}
-use Rattle.coefficients.specs.BlockLaws.{SixteenBits}
+use Rattle.coefficients.specs.BlockLaws.{SixteenBits, magnitude-within}
 use Rattle.coefficients.specs.BlockSteps.{zigzag-below, context-more, arguments-fact}
 use Rattle.coefficients.specs.Block.{categories, category, magnitude, signOf, signedValue, bands, zigzag, probabilityPlace, probabilitiesAt, quantizerAt, contextAfter, Coefficients, blockFrom, block, blockArguments}
 use Rattle.coefficients.specs.declared.fast.Number.{Number}
@@ -401,13 +402,13 @@ pub record Counting (s ps : List ℕ) (w : Wide) (q : Number) : Type 0 where
   pub place : q .near ≡ ctx * 11
   pub small : q .value ≤ 2114
   pub least : q .reads ≤ 18
-  pub leads : (E : (Coefficients × ℕ) × Reader) (lim n c m : ℕ) (f : ℕ → Reading Coefficients) (h : ℕ → ℕ → Reading Coefficients) → ((t : ℕ) → 2 ≤ t → f t ≡ (magnitude t >>= h (contextAfter t))) → Going s E lim 18 (n + 72) (counted (suc (suc c)) (walk (suc (suc (suc (suc (suc m))))) ps tokenTree 2 >>= f)) w → Going s E lim 8 n (counted (c + q .reads) (h ctx (q .value))) (q .next)
+  pub leads : (E : (Coefficients × ℕ) × Reader) (lim n c m : ℕ) (f : ℕ → Reading Coefficients) (h : ℕ → ℕ → Reading Coefficients) → ((t : ℕ) → 2 ≤ t → f t ≡ (magnitude t >>= h (contextAfter t))) → Going s E lim 18 (n + 72) (counted (suc (suc c)) (walk (suc (suc (suc (suc (suc m))))) ps tokenTree 2 >>= f)) w → Going s E lim 8 n (counted (c + q .reads) (h ctx (q .value))) (q .next) × (q .next .top < 254)
 
 one-is : (h : ℕ → ℕ → Reading Coefficients) → (magnitude 2 >>= h (contextAfter 2)) ≡ h 1 1
 unfolding magnitude contextAfter
 one-is h = refl
 
-module _ (s table : List ℕ) (p : ℕ) {w : Wide} {q : Bit} (y : Bytes s) (l : getD table (p + 2) 0 < 256) (o : q ≡ wide.wideBitOf w (getD table (p + 2) 0)) where
+module _ (s table : List ℕ) (p : ℕ) {w : Wide} {q : Bit} (y : Bytes s) (z : Bytes table) (o : q ≡ wide.wideBitOf w (getD table (p + 2) 0)) where
   pub counting-one : q .on ≡ false → Counting s (elevenAt table p) w (record { value = 1; near = 11; reads = 3; next = q .next })
   counting-one v =
       record {
@@ -419,29 +420,32 @@ module _ (s table : List ℕ) (p : ℕ) {w : Wide} {q : Bit} (y : Bytes s) (l : 
         leads =
             λ E lim n c m f h i a.
             let e : suc (suc (suc c)) ≡ c + 3 = omega arith in
-            let b = step-leaf (elevenAt table p) 2 10 (suc (suc (suc (suc m)))) (suc (suc c)) f y l (eleven-at table p 2 (lit< tt)) a o v refl in
-            going-weaken 8 n (going-as (λ j. counted (e j) ((i 2 (lit≤ tt) ∙ one-is h) j)) b) (lit≤ tt) (omega arith);
+            let b = step-leaf (elevenAt table p) 2 10 (suc (suc (suc (suc m)))) (suc (suc c)) f y (z (p + 2)) (eleven-at table p 2 (lit< tt)) a o v refl in
+            (going-weaken 8 n (going-as (λ j. counted (e j) ((i 2 (lit≤ tt) ∙ one-is h) j)) b) (lit≤ tt) (omega arith), going-fresh 10 y (z (p + 2)) a o);
       }
 
-  pub counting-more : {t v r : ℕ} {x z next : Wide} → q .on ≡ true → 3 ≤ t → t < 12 → ((m : ℕ) → WideReads s 0 4 (walk (suc (suc (suc (suc m)))) (elevenAt table p) tokenTree 3) (q .next) t x) → WideReads s 0 64 (magnitude t) x v z → v ≤ 2114 → r ≡ getD tokenSymbols t 0 → next ≡ wide.fillOf s z → Counting s (elevenAt table p) w (record { value = v; near = 22; reads = r; next = next })
-  counting-more {t} {v} {r} {x} {z} {next} b d e g j k u fl =
+  pub counting-more : {t v r : ℕ} {x k next : Wide} → q .on ≡ true → 3 ≤ t → t < 12 → ((m : ℕ) → WideReads s 0 4 (walk (suc (suc (suc (suc m)))) (elevenAt table p) tokenTree 3) (q .next) t x) → WideReads s 0 64 (magnitude t) x v k → v ≤ 2114 → r ≡ getD tokenSymbols t 0 → next ≡ wide.fillOf s k → Counting s (elevenAt table p) w (record { value = v; near = 22; reads = r; next = next })
+  counting-more {t} {v} {r} {x} {k} {next} b d e g j few u fl =
       record {
         ctx = 2;
         few = lit< tt;
         place = refl;
-        small = k;
+        small = few;
         least = omega (arith, u, symbols-most t e);
         leads =
             λ E lim n c m f h i a.
             let ps = elevenAt table p in
             let c3 = suc (suc (suc c)) in
-            let a1 = step-node (elevenAt table p) 2 10 (suc (suc (suc (suc m)))) (suc (suc c)) f y l (eleven-at table p 2 (lit< tt)) a o b refl in
+            let a1 = step-node (elevenAt table p) 2 10 (suc (suc (suc (suc m)))) (suc (suc c)) f y (z (p + 2)) (eleven-at table p 2 (lit< tt)) a o b refl in
             let a2 = going-cost (n + 68) 4 c3 (walk (suc (suc (suc (suc m)))) ps tokenTree 3) f (costs-walk 4 (suc (suc (suc (suc m)))) (λ t. getD depths t 0 - 3) ps tokenTree 0 3 (omega arith) above-walked) a1 (g m) (lit≤ tt) (omega arith) in
             let c4 = c3 + (getD depths t 0 - 3) in
             let a3 = going-cost (n + 4) 64 c4 (magnitude t) (h (contextAfter t)) (magnitude-costs t e) (going-as (ap (counted c4) (i t (omega arith))) a2) j (lit≤ tt) (omega arith) in
             let s1 : c4 + getD extras t 0 ≡ c + r = omega (arith, u, symbols-is t (omega arith) e, depth-deep t (omega arith) e) in
             let s2 : contextAfter t ≡ 2 = sym (context-more t (λ h. omega arith)) in
-            going-weaken 8 n (going-as (λ j. counted (s1 j) (h (s2 j) v)) (going-fill n a3 fl)) (lit≤ tt) (omega arith);
+            let f1 = going-fresh 10 y (z (p + 2)) a o in
+            let f2 = call-fresh a1 f1 (walk-below 4 (suc (suc (suc (suc m)))) 12 ps tokenTree 3 (omega arith) (eleven-bytes table p z) refl) (g m) (lit≤ tt) (omega arith) in
+            let f3 = call-fresh a2 f2 (magnitude-within t (omega arith) (omega arith)) j (lit≤ tt) (omega arith) in
+            (going-weaken 8 n (going-as (λ j. counted (s1 j) (h (s2 j) v)) (going-fill n a3 fl)) (lit≤ tt) (omega arith), omega (arith, ap (λ (w : Wide). w .top) fl, fill-fresh s k, f3));
       }
 
 -- its sign
@@ -514,7 +518,7 @@ module _ (s table : List ℕ) (kind q0 q1 : ℕ) (g : Reading Coefficients) (sta
             promised f d (λ r m a b. let x = k .ended q0 q1 (c .values) (whole r) (start .at + 1216) (suc (reads + (n - first))) j (blocking-goes i r m b) in going-told (going-weaken 0 0 x (omega arith) (omega arith)) refl u)
 
         -- the list keeps the number as the machine reads it back
-        pub blocking-number : {d : Number} {a : ℤ} {x : Wide} {t u : ℕ} → q .on ≡ true → z .n < 16 → Counting s (elevenAt table (z .place)) (z .next) d → t ≡ quantizerAt (z .n) q0 q1 → x ≡ wide.wideBitOf (d .next) 128 .next → a ≡ wrapZ (signOf (wide.wideBitOf (d .next) 128 .on) (d .value * t)) → SixteenBits a → u ≡ getD zigzag (z .n) 0 → Blocking (z .n + 1) (d .near) (reads + d .reads) x (set out (at + u) (round w32 a))
+        pub blocking-number : {d : Number} {a : ℤ} {x : Wide} {t u : ℕ} → q .on ≡ true → z .n < 16 → Counting s (elevenAt table (z .place)) (z .next) d → t ≡ quantizerAt (z .n) q0 q1 → x ≡ wide.halfOf (d .next) .next → a ≡ wrapZ (signOf (wide.halfOf (d .next) .on) (d .value * t)) → SixteenBits a → u ≡ getD zigzag (z .n) 0 → Blocking (z .n + 1) (d .near) (reads + d .reads) x (set out (at + u) (round w32 a))
         blocking-number {d} {a} {x} {t} {u} i j p e4 e5 e6 six e7 =
             let w : round w32 a ≡ a = there w32 six tt .eq in
             record {
@@ -535,12 +539,13 @@ module _ (s table : List ℕ) (kind q0 q1 : ℕ) (g : Reading Coefficients) (sta
                   let s1 : suc (reads + (n - first)) + (z .n - n) + 1 ≡ suc (suc (reads + (z .n - first))) = omega (arith, c .low, k .low) in
                   let a2 = going-as (ap (λ (v : ℕ). counted v (walk (suc (suc (suc (suc (suc (a1 .fuel)))))) (elevenAt table (z .place)) tokenTree 2 >>= restOf table kind q0 q1 left (z .n) (c .values))) s1) (a1 .going) in
                   let a3 = p .leads (whole r) (start .at + 1216) way (reads + (z .n - first)) (a1 .fuel) (restOf table kind q0 q1 left (z .n) (c .values)) (signOn table kind q0 q1 left (z .n) (c .values)) (rest-number table kind q0 q1 left (z .n) (c .values)) a2 in
-                  let a4 = sign-read y (reads + (z .n - first) + d .reads) (λ v. blockFrom table kind q0 q1 left (z .n + 1) (p .ctx) false (set (c .values) (getD zigzag (z .n) 0) (wrapZ (signOf v (d .value * quantizerAt (z .n) q0 q1))))) a3 in
+                  let half = going-half (a3 .0) (a3 .1) in
+                  let a4 = sign-read y (reads + (z .n - first) + d .reads) (λ v. blockFrom table kind q0 q1 left (z .n + 1) (p .ctx) false (set (c .values) (getD zigzag (z .n) 0) (wrapZ (signOf v (d .value * quantizerAt (z .n) q0 q1))))) (a3 .0) in
                   let s2 : suc (reads + (z .n - first) + d .reads) ≡ reads + d .reads + (z .n + 1 - first) = omega (arith, c .low, k .low) in
                   let n1 : left ≡ 16 - (z .n + 1) = omega arith in
-                  let v1 : wrapZ (signOf (wide.wideBitOf (d .next) 128 .on) (d .value * quantizerAt (z .n) q0 q1)) ≡ a = sym (e6 ∙ ap (λ (v : ℕ). wrapZ (signOf (wide.wideBitOf (d .next) 128 .on) (d .value * v))) e4) in
+                  let v1 : wrapZ (signOf (wide.wideBitOf (d .next) 128 .on) (d .value * quantizerAt (z .n) q0 q1)) ≡ a = sym (e6 ∙ (λ v. wrapZ (signOf (half v .on) (d .value * e4 v)))) in
                   let a5 = going-as (λ v. counted (s2 v) (blockFrom table kind q0 q1 (n1 v) (z .n + 1) (p .ctx) false (set (c .values) (getD zigzag (z .n) 0) (v1 v)))) a4 in
-                  rw e5 (going-weaken 0 (76 * (16 - (z .n + 1))) a5 (omega arith) (omega arith));
+                  rw (e5 ∙ ap (λ (v : Bit). v .next) half) (going-weaken 0 (76 * (16 - (z .n + 1))) a5 (omega arith) (omega arith));
             }
 
 pub blocking-start : (s table : List ℕ) (kind q0 q1 : ℕ) {ctx first : ℕ} {near : ℕ} {at : ℕ} {old : List ℤ} {w : Wide} → ctx < 3 → first ≤ 1 → near ≡ 11 * ctx → at + 16 ≤ length old → Blocking s table kind q0 q1 (block table kind q0 q1 ctx first (sixteenAt old at)) w at old first first near 0 w old

@@ -20,7 +20,7 @@ ghost use Rattle.header.specs.Entries.{probabilityCount};
 ghost use Rattle.numbers.specs.Wrap.{wrapZ};
 ghost use Rattle.wide.specs.WideRuns.{WideReads};
 ghost use Rattle.coefficients.specs.BlockLaws.{SixteenBits};
-ghost use Rattle.wide.specs.Wide.{wideBitOf};
+ghost use Rattle.wide.specs.Wide.{halfOf};
 ghost use Rattle.reader.specs.Token.{elevenAt};
 ghost use Rattle.coefficients.specs.Block.{category, magnitude, signOf, bands, block};
 ghost use Rattle.coefficients.specs.Fast.{roomOf, Coded, CodedWhere};
@@ -138,12 +138,12 @@ fn product(v: u32, q: u16, negative: bool) -> i32
     (raised(v, q, negative) % 65536) as i32 - 32768
 }
 
-// The sign of a number.
+// The sign of a number, which follows another symbol.
 fn signed(w: Wide, v: u32, q: u16) -> Valued
     requires { ⌜ v ≤ 2114 ⌝ }
-    ensures { λ a. ⌜ (a .next ≡ wideBitOf w 128 .next) × ((a .value ≡ wrapZ (signOf (wideBitOf w 128 .on) (v * q))) × SixteenBits (a .value)) ⌝ }
+    ensures { λ a. ⌜ (a .next ≡ halfOf w .next) × ((a .value ≡ wrapZ (signOf (halfOf w .on) (v * q))) × SixteenBits (a .value)) ⌝ }
 {
-    let g = w.even(128);
+    let g = w.half();
     let x = g.next;
     Valued {
         value: product(v, q, g.on),

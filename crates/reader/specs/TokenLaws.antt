@@ -98,7 +98,7 @@ token-reach false = refl
 pub token-within : (ps : List ℕ) (z : Bool) → Bytes ps → Within (λ t. t < 12) 7 (token ps z)
 token-within ps z y = walk-below 7 32 12 ps tokenTree (tokenStart z) (lit≤ tt) y (token-reach z)
 
-eleven-bytes : (table : List ℕ) (at : ℕ) → Bytes table → Bytes (elevenAt table at)
+pub eleven-bytes : (table : List ℕ) (at : ℕ) → Bytes table → Bytes (elevenAt table at)
 unfolding elevenAt
 eleven-bytes table at y i =
     ⊎-elim

@@ -11,7 +11,6 @@ use borrow.Author.Tests.{lt-ltb, le-leb, eq-eqb}
 use lib.IntN.{ℤ, pos}
 use lib.ListN.{length, getD, set, replicate, take, drop, length-append, length-drop, drop-of-length-le}
 use lib.Seq.{getD-drop, drop-at, drop-set-lt, drop-set-add, length-take-le, take-all}
-use mir.Val.{boolByte}
 use Rattle.header.specs.Entries.{probabilityCount}
 use Rattle.numbers.specs.Flags.{bitOf}
 use Rattle.numbers.specs.Lists.{getD-build, build-same, build-constant, getD-constant}
@@ -275,11 +274,6 @@ module _ (s table : List ℕ) (f : Factors) (small : Bool) (g : Reading Model) (
         go : (n : ℕ) → j + n ≡ 25 → Going s (runPadded (counted 0 g) s r) (start .at + 30400) 0 (1216 * n) (counted (m .reads) (partsFrom table f small n j (modelAt m flat))) (m .next) → Gave s (runPadded (counted 0 g) s r) (start .at + 30400) (modelAt m flat, m .reads) (m .next)
         go zero e h = going-told h refl refl
         go (suc n) e h = absurd (omega arith)
-
--- a bool as the code's number
-pub byte-bit : (b : Bool) → boolByte b ≡ bitOf b
-byte-bit true = refl
-byte-bit false = refl
 
 first-part : (b : Bool) → bitOf b + (25 - bitOf b) ≡ 25
 first-part true = refl

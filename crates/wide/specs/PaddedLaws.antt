@@ -1,5 +1,5 @@
 -- The laws of runs over padded bytes. THE LAW is `padded-run`: where such a run ends inside the partition, the run that refuses gives the same.
-use Prim.Native.Nat.{ℕ, zero, suc, _+_, _-_, _*_, _≤_}
+use Prim.Native.Nat.{ℕ, zero, suc, _+_, _-_, _*_, _≤_, _<_}
 use native.Mathlib.Omega.{arith}
 use mathlib.Core.Path.{_≡_, refl, _∙_}
 use mathlib.Core.Bool.{Bool, true, false}
@@ -10,7 +10,7 @@ use borrow.Author.Tests.{le-leb}
 use Rattle.numbers.specs.Tests.{lt-or, eq-or}
 use Rattle.reader.specs.declared.boolean.Reader.{Reader}
 use Rattle.reader.specs.Boolean.{given, splitOf, chosenOf, shifted, loaded, grow, decidedOf, symbolOf}
-use Rattle.reader.specs.BooleanLaws.{grow-stop, grow-shift, grow-load, decided-fact, symbol-is}
+use Rattle.reader.specs.BooleanLaws.{grow-stop, grow-shift, grow-load, split-is, decided-fact, symbol-is}
 use Rattle.reader.specs.Reading.{Reading, done, ask, _>>=_, run, Within, ends, asks}
 use Rattle.reader.specs.ReadingLaws.{run-done, run-got}
 use Rattle.wide.specs.Padded.{paddedBit, paddedNext, runPadded, passed}
@@ -94,3 +94,51 @@ padded-run (ask p k) s r h e =
 -- the same by the test that the code has
 pub padded-inside : {A : Type 0} (g : Reading A) (s : List ℕ) (r : Reader) → 2 ≤ r .at → decidedOf s (runPadded g s r .1) ≡ true → run g s r ≡ given (runPadded g s r .0) (runPadded g s r .1)
 padded-inside g s r h e = padded-run g s r h (decided-fact s (runPadded g s r .1) e)
+
+-- ---- after a symbol the range is below 255
+twice : (n : ℕ) → n < 128 → n * 2 < 255
+twice n l = omega arith
+
+grow-range : (n : ℕ) (s : List ℕ) (r : Reader) → r .range < 255 → (r .range ≤ grow n s r .range) × (grow n s r .range < 255)
+unfolding grow
+grow-range zero s r h = (omega arith, h)
+grow-range (suc n) s r h =
+    ⊎-elim
+    (λ l. ⊎-elim
+    (λ e. let i = grow-range n s (loaded (getD s (r .at) 0) r) (twice (r .range) l) in rw (grow-load n s r l e) (omega (arith, i .0), i .1))
+    (λ e. let i = grow-range n s (shifted r) (twice (r .range) l) in rw (grow-shift n s r l e) (omega (arith, i .0), i .1))
+    (eq-or (r .shifts) 7))
+    (λ g. rw (grow-stop (suc n) s r g) (omega arith, h))
+    (lt-or (r .range) 128)
+
+grow-two : (n : ℕ) (s : List ℕ) (r : Reader) → 1 ≤ r .range → r .range < 255 → 2 ≤ grow (suc n) s r .range
+grow-two n s r p h =
+    ⊎-elim
+    (λ l. ⊎-elim
+    (λ e. let i = grow-range n s (loaded (getD s (r .at) 0) r) (twice (r .range) l) in rw (grow-load n s r l e) (omega (arith, i .0)))
+    (λ e. let i = grow-range n s (shifted r) (twice (r .range) l) in rw (grow-shift n s r l e) (omega (arith, i .0)))
+    (eq-or (r .shifts) 7))
+    (λ g. rw (grow-stop (suc n) s r g) (omega arith))
+    (lt-or (r .range) 128)
+
+pub record Fresh (r : Reader) : Type 0 where
+  pub low : 2 ≤ r .range
+  pub high : r .range < 255
+
+pub fresh-next : (s : List ℕ) (r : Reader) (p : ℕ) → p < 256 → 2 ≤ r .range → r .range < 256 → Fresh (paddedNext s r p)
+unfolding paddedNext
+fresh-next s r p h l m = go (paddedBit r p)
+  where
+    go : (b : Bool) → Fresh (grow 7 s (chosenOf r (splitOf (r .range) p) b))
+    go true =
+        let i = split-is (r .range) p l h in
+        record { low = grow-two 6 s (chosenOf r (splitOf (r .range) p) true) (omega (arith, i .1, i .2)) (omega (arith, i .1, i .2)); high = grow-range 7 s (chosenOf r (splitOf (r .range) p) true) (omega (arith, i .1, i .2)) .1 }
+    go false =
+        let i = split-is (r .range) p l h in
+        record { low = grow-two 6 s (chosenOf r (splitOf (r .range) p) false) (omega (arith, i .1, i .2)) (omega (arith, i .1, i .2)); high = grow-range 7 s (chosenOf r (splitOf (r .range) p) false) (omega (arith, i .1, i .2)) .1 }
+
+-- and stays so
+pub fresh-run : {A : Type 0} {P : A → Type 0} {n : ℕ} {g : Reading A} (s : List ℕ) (r : Reader) → Within P n g → Fresh r → Fresh (runPadded g s r .1)
+unfolding runPadded
+fresh-run s r (ends h) f = f
+fresh-run s r (asks {p} h k) f = fresh-run s (paddedNext s r p) (k (paddedBit r p)) (fresh-next s r p h (f .low) (omega (arith, f .high)))

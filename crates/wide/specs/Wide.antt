@@ -5,6 +5,7 @@ use mathlib.Core.Bool.{Bool, true, false}
 use lib.ListN.{length, getD}
 use lib.Dec.{ltb, leb}
 use lib.Count.{leadingZeros}
+use Rattle.numbers.specs.Flags.{bitOf}
 use Rattle.reader.specs.declared.boolean.Reader.{Reader}
 use Rattle.wide.specs.declared.wide.Wide.{Wide}
 use Rattle.wide.specs.declared.wide.Bit.{Bit}
@@ -64,6 +65,18 @@ wideBitOf w prob =
       on = onOf w prob;
       next = liftedOf w (w .value - takenOff (lowOf w prob) (onOf w prob)) (rangeOf (w .top % 256) (lowOf w prob) (onOf w prob));
     }
+
+-- ---- one symbol at probability 128 where the range is below 255: a half of it, doubled once, less one
+abbrev pub oddOf : ℕ → Bool → ℕ
+oddOf top on = less32 top (bitOf on) / 2 * 2 + 1
+
+-- one doubling
+abbrev pub doubledOf : Wide → (value top : ℕ) → Wide
+doubledOf w value top = record { at = w .at; value = value * 2 ^ 1 % 2 ^ 64; top = top; count = less32 (w .count) 1 }
+
+-- the symbol and the reader after it
+unfoldable pub halfOf : Wide → Bit
+halfOf w = record { on = onOf w 128; next = doubledOf w (w .value - takenOff (lowOf w 128) (onOf w 128)) (oddOf (w .top % 256) (onOf w 128)) }
 
 -- ---- from a reader of sixteen bits and back
 unfoldable pub widenOf : Reader → Wide

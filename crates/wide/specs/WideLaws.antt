@@ -19,7 +19,9 @@ use Rattle.wide.specs.declared.wide.Bit.{Bit}
 use Rattle.reader.specs.Boolean.{splitOf, chosenOf, shifted, loaded, grow, decidedOf}
 use Rattle.reader.specs.BooleanLaws.{Bytes, Valid, grow-stop, grow-shift, grow-load, split-is}
 use Rattle.wide.specs.Padded.{paddedBit, paddedNext}
-use Rattle.wide.specs.Wide.{fourOf, moreOf, fillOf, lowOf, onOf, rangeOf, takenOff, liftedOf, wideBitOf, widenOf, insideOf, backOf, shiftsOf, narrowOf, less32, less64}
+use mir.Val.{boolByte}
+use Rattle.numbers.specs.Flags.{bitOf}
+use Rattle.wide.specs.Wide.{fourOf, moreOf, fillOf, lowOf, onOf, rangeOf, takenOff, liftedOf, wideBitOf, oddOf, doubledOf, halfOf, widenOf, insideOf, backOf, shiftsOf, narrowOf, less32, less64}
 
 -- ---- a number and the n bytes from `at` on behind it
 unfoldable pub ahead : List ℕ → ℕ → ℕ → ℕ → ℕ
@@ -442,3 +444,42 @@ taken-fits x v false e = omega arith
 pub range-fits : (top x : ℕ) (b : Bool) → top < 256 → x < 255 → rangeOf top x b < 256
 range-fits top x true h l = omega arith
 range-fits top x false h l = omega arith
+
+-- a bool as the code's number
+pub byte-bit : (b : Bool) → boolByte b ≡ bitOf b
+byte-bit true = refl
+byte-bit false = refl
+
+-- one symbol at probability 128, from its parts
+pub half-from : (w : Wide) (b : Bool) {x h v t : ℕ} {q : Wide} → x ≡ lowOf w 128 → h ≡ w .value / 2 ^ 56 → b ≡ ltb x h → v ≡ w .value - takenOff x b → t ≡ oddOf (w .top % 256) b → q ≡ doubledOf w v t → record { on = b; next = q } ≡ halfOf w
+unfolding halfOf
+half-from w b ex eh eb ev et eq = rw (eq, ev, et, eb, ex, eh)
+
+odd-is : (t : ℕ) (b : Bool) → 1 ≤ t → t < 254 → oddOf t b ≡ less32 (rangeOf t (t / 2) b * 2 ^ 1) 1
+odd-is t true l h =
+    let a : less32 t 1 ≡ t - 1 = omega arith in
+    let c : less32 ((t - t / 2) * 2 ^ 1) 1 ≡ (t - t / 2) * 2 - 1 = omega arith in
+    let d : (t - 1) / 2 * 2 + 1 ≡ (t - t / 2) * 2 - 1 = ⊎-elim (λ (e : t % 2 < 1). omega arith) (λ (e : 1 ≤ t % 2). omega arith) (lt-or (t % 2) 1) in
+    ap (λ (n : ℕ). n / 2 * 2 + 1) a ∙ d ∙ sym c
+odd-is t false l h =
+    let a : less32 t 0 ≡ t = omega arith in
+    let c : less32 ((t / 2 + 1) * 2 ^ 1) 1 ≡ t / 2 * 2 + 1 = omega arith in
+    ap (λ (n : ℕ). n / 2 * 2 + 1) a ∙ sym c
+
+half-range : (t : ℕ) (b : Bool) → 127 ≤ t → t < 254 → (rangeOf t (t / 2) b < 128) × (128 ≤ 2 * rangeOf t (t / 2) b + 1)
+half-range t true l h = (omega arith, omega arith)
+half-range t false l h = (omega arith, omega arith)
+
+half-bit : (w : Wide) (b : Bool) {t x : ℕ} → t ≡ w .top → x ≡ w .top / 2 → 127 ≤ w .top → w .top < 254 → _≡_ {A = Bit} (record { on = b; next = doubledOf w (w .value - takenOff x b) (oddOf t b) }) (record { on = b; next = liftedOf w (w .value - takenOff x b) (rangeOf t x b) })
+half-bit w b {t} {x} e f l h =
+    let v : ℕ = w .value - takenOff x b in
+    let g : ℕ = rangeOf t x b in
+    let r : (g < 128) × (128 ≤ 2 * g + 1) = rw (f, e) (half-range (w .top) b l h) in
+    let k : 1 ≡ leadingZeros 8 g = leading-unique 8 g 1 7 (omega arith) (r .0) (r .1) in
+    let o : oddOf t b ≡ less32 (g * 2 ^ 1) 1 = rw (f, e) (odd-is (w .top) b (omega arith) h) in
+    (λ i. record { on = b; next = record { at = w .at; value = v * 2 ^ k i % 2 ^ 64; top = (o ∙ ap (λ (j : ℕ). less32 (g * 2 ^ j) 1) k) i; count = less32 (w .count) (k i) } })
+
+-- THE LAW of it: a range of 128 to 254 has a half of seven bits
+pub half-is : (w : Wide) → 127 ≤ w .top → w .top < 254 → halfOf w ≡ wideBitOf w 128
+unfolding halfOf wideBitOf
+half-is w l h = half-bit w (onOf w 128) (omega arith) (omega arith) l h

@@ -4,6 +4,7 @@ use native.Mathlib.Omega.{arith}
 use mathlib.Core.Path.{_≡_, refl, sym, _∙_, ap}
 use mathlib.Core.Bool.{Bool, true, false}
 use mathlib.Core.List.{List}
+use mathlib.Core.Logic.{⊎-elim}
 use lib.IntN.{ℤ}
 use lib.ListN.{length, getD, drop}
 use lib.Pow.{pow-add, pow-mono}
@@ -13,7 +14,9 @@ use Rattle.wide.specs.declared.wide.Wide.{Wide}
 use Rattle.wide.specs.declared.wide.Bit.{Bit}
 use Rattle.reader.specs.Boolean.{given}
 use Rattle.reader.specs.BooleanLaws.{Bytes, Valid}
-use Rattle.reader.specs.Reading.{Reading, done, ask, _>>=_, run}
+use Rattle.reader.specs.Reading.{Reading, done, ask, _>>=_, run, Within}
+use borrow.Author.Tests.{le-leb, lt-leb}
+use Rattle.numbers.specs.Tests.{lt-or}
 use Rattle.numbers.specs.Flags.{bit-small}
 use Rattle.numbers.specs.Flags as flags
 use Rattle.reader.specs.Extra.{extraFrom, extra}
@@ -22,9 +25,9 @@ use Rattle.reader.specs.Trees.{branchAt, step, follow, walk}
 use Rattle.wide.specs.Counted.{counted, Costs}
 use Rattle.wide.specs.CountedLaws.{Ran, counted-run, counted-then, counted-next, counted-costs}
 use Rattle.wide.specs.Padded.{paddedBit, paddedNext, runPadded}
-use Rattle.wide.specs.PaddedLaws.{padded-then, padded-inside}
-use Rattle.wide.specs.Wide.{fillOf, wideBitOf, widenOf, insideOf, narrowOf}
-use Rattle.wide.specs.WideLaws.{Sim, sim-widen, sim-fill, sim-bit, sim-inside, sim-narrow}
+use Rattle.wide.specs.PaddedLaws.{padded-then, padded-inside, fresh-next, fresh-run}
+use Rattle.wide.specs.Wide.{fillOf, wideBitOf, halfOf, widenOf, insideOf, narrowOf}
+use Rattle.wide.specs.WideLaws.{Sim, half-is, sim-widen, sim-fill, sim-bit, sim-inside, sim-narrow}
 
 -- what a reader that w stands for ends with: the grammar's value, and q stands for the reader after it, at most at `lim`
 pub record Gave {A : Type 0} (s : List ℕ) (E : A × Reader) (lim : ℕ) (a : A) (q : Wide) : Type 0 where
@@ -100,6 +103,34 @@ going-as e c = rw e at c
 -- with fewer bits and less way
 pub going-weaken : {A : Type 0} {s : List ℕ} {E : A × Reader} {lim k n : ℕ} {g : Reading A} {w : Wide} (j m : ℕ) → Going s E lim k n g w → j ≤ k → m ≤ n → Going s E lim j m g w
 going-weaken j m c l h = record { r = c .r; sim = c .sim; same = c .same; loaded = omega (arith, c .loaded); near = omega (arith, c .near); fits = c .fits }
+
+-- ---- after a symbol a reader's range is below 255, and stays so: then `half` reads at probability 128
+pub going-fresh : {A : Type 0} {s : List ℕ} {E : A × Reader} {lim n : ℕ} {g : Reading A} {w : Wide} {q : Bit} {p : ℕ} (k : ℕ) → Bytes s → p < 256 → Going s E lim (suc k + 7) n g w → q ≡ wideBitOf w p → q .next .top < 254
+going-fresh {s} {w} {p} k y h c e =
+    let m = sim-bit s w (c .r) p y h (omega (arith, c .loaded)) (c .sim) in
+    let i = c .sim in
+    let f = fresh-next s (c .r) p h (omega (arith, i .least)) (i .most) in
+    let j = m .next .sim in
+    rw e (omega (arith, j .range, f .high))
+
+pub call-fresh : {A D : Type 0} {P : D → Type 0} {s : List ℕ} {E : A × Reader} {lim k m j i n : ℕ} {g : Reading A} {h : Reading D} {a : D} {w q : Wide} → Going s E lim k m g w → w .top < 254 → Within P n h → WideReads s j i h w a q → j ≤ k → i ≤ m → q .top < 254
+call-fresh {s} c t b f l o =
+    let v = f (c .r) (c .sim) (omega (arith, c .loaded)) (omega (arith, c .near, c .fits)) in
+    let i = c .sim in
+    let z = v .sim in
+    let x = fresh-run s (c .r) b (record { low = omega (arith, i .least); high = omega (arith, i .range) }) in
+    omega (arith, z .range, x .high)
+
+pub fill-fresh : (s : List ℕ) (w : Wide) → fillOf s w .top ≡ w .top
+unfolding fillOf
+fill-fresh s w =
+    ⊎-elim
+    (λ (h : w .count < 32). rw (lt-leb 32 (w .count) h, fillOf) refl)
+    (λ (h : 32 ≤ w .count). rw (le-leb 32 (w .count) h, fillOf) refl)
+    (lt-or (w .count) 32)
+
+pub going-half : {A : Type 0} {s : List ℕ} {E : A × Reader} {lim k n : ℕ} {g : Reading A} {w : Wide} → Going s E lim k n g w → w .top < 254 → halfOf w ≡ wideBitOf w 128
+going-half {w} c h = let i = c .sim in half-is w (omega (arith, i .range, i .least)) h
 
 -- ---- a way that counts: a callee whose value tells its cost, a callee that counts, or counts on, the end
 module _ {A : Type 0} {s : List ℕ} {E : (A × ℕ) × Reader} {lim : ℕ} where

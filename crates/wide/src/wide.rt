@@ -9,7 +9,7 @@ ghost use mathlib.Core.Bool.{Bool, true, false};
 ghost use Prim.Native.Nat.{_<_, _≤_, _+_, _-_, _*_, _/_, _%_, _^_};
 ghost use lib.ListN.{length, getD};
 ghost use lib.Count.{leadingZeros};
-ghost use Rattle.wide.specs.Wide.{fourOf, fillOf, lowOf, rangeOf, takenOff, liftedOf, wideBitOf, widenOf, insideOf, backOf, narrowOf};
+ghost use Rattle.wide.specs.Wide.{fourOf, fillOf, lowOf, rangeOf, takenOff, liftedOf, wideBitOf, oddOf, doubledOf, halfOf, widenOf, insideOf, backOf, narrowOf};
 
 // `at` is the next byte's place; `value` the loaded bits from the top on, less what was subtracted; `top` the range less one; `count` how
 // many bits are loaded.
@@ -121,6 +121,26 @@ fn scaled(w: Wide, value: u64, range: u32) -> Wide
     }
 }
 
+// A half of the range, doubled, less one.
+fn odd(top: u32, on: bool) -> u32
+    requires { ⌜ top < 256 ⌝ }
+    ensures { λ r. ⌜ r ≡ oddOf top on ⌝ }
+{
+    wrapping_sub_u32(top, on as u32) / 2 * 2 + 1
+}
+
+// One doubling.
+fn doubled(w: Wide, value: u64, top: u32) -> Wide
+    ensures { λ q. ⌜ q ≡ doubledOf w value top ⌝ }
+{
+    Wide {
+        at: w.at,
+        value: value << 1,
+        top: top,
+        count: wrapping_sub_u32(w.count, 1),
+    }
+}
+
 // The same; where the range is 128 or more, nothing: that is every other symbol.
 fn lifted(w: Wide, value: u64, range: u32) -> Wide
     requires { ⌜ range < 256 ⌝ }
@@ -183,6 +203,20 @@ impl Wide {
         Bit {
             on: on,
             next: scaled(self, self.value - taken(x, on), part_of(top, x, on)),
+        }
+    }
+
+    // The same at probability 128 after another symbol, when the range is below 255: what is chosen is then doubled once.
+    pub fn half(self) -> Bit
+        ensures { λ q. ⌜ q ≡ halfOf self ⌝ }
+    {
+        let top = self.top % 256;
+        let x = low(top, 128);
+        let on = x < high(self.value);
+        let value = self.value - taken(x, on);
+        Bit {
+            on: on,
+            next: doubled(self, value, odd(top, on)),
         }
     }
 }

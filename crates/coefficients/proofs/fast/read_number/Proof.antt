@@ -1,4 +1,3 @@
-use Prim.Native.Nat.{_+_}
 use borrow.Author.Needs.{needs}
 use Rattle.coefficients.specs.FastLaws.{counting-one, counting-more}
 use Rattle.coefficients.proofs.fast.read_number.Statement.{statement}
@@ -30,12 +29,12 @@ returns c =
     let a = c .before .before .before .before .before .before .before .before .before .before .before .before .args in
     let t = c .before .before .before .before .before .above .ensures in
     let m = c .before .before .before .coded-magnitude .ensures in
-    counting-more (a .s .now) (a .table .now) (a .at) (λ i. c .before .before .before .before .before .before .before .before .before .before .before .shared-slice-known .given i .fits) (c .before .before .before .before .before .before .before .before .before .before .shared-slice-known2 .given (a .at + 2) .fits) (c .before .before .before .before .before .before .before .before .bit .ensures) (c .before .before .before .before .before .before .if1 .taken) (t .1 .0) (t .1 .1) (t .0) (m .0) (m .1) (c .symbols .ensures .0) (c .before .fill .ensures)
+    counting-more (a .s .now) (a .table .now) (a .at) (λ i. c .before .before .before .before .before .before .before .before .before .before .before .shared-slice-known .given i .fits) (λ i. c .before .before .before .before .before .before .before .before .before .before .shared-slice-known2 .given i .fits) (c .before .before .before .before .before .before .before .before .bit .ensures) (c .before .before .before .before .before .before .if1 .taken) (t .1 .0) (t .1 .1) (t .0) (m .0) (m .1) (c .symbols .ensures .0) (c .before .fill .ensures)
 
 returns-2 : tie.Need-returns-2
 returns-2 c =
     let a = c .before .before .before .before .before .before .args in
-    counting-one (a .s .now) (a .table .now) (a .at) (λ i. c .before .before .before .before .before .shared-slice-known .given i .fits) (c .before .before .before .before .shared-slice-known2 .given (a .at + 2) .fits) (c .before .before .bit .ensures) (c .if1 .left)
+    counting-one (a .s .now) (a .table .now) (a .at) (λ i. c .before .before .before .before .before .shared-slice-known .given i .fits) (λ i. c .before .before .before .before .shared-slice-known2 .given i .fits) (c .before .before .bit .ensures) (c .if1 .left)
 
 pub read-number-spec : {M : Type 1} → statement M
 read-number-spec =

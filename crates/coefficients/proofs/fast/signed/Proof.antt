@@ -10,8 +10,8 @@ use Rattle.coefficients.specs.Block.{signOf}
 use Rattle.coefficients.proofs.fast.signed.Statement.{statement}
 use Rattle.coefficients.proofs.fast.signed.Tie as tie
 
-even-requires : tie.Need-even-requires
-even-requires c κs = search needs
+half-requires : tie.Need-half-requires
+half-requires c κs = search needs
 
 product-requires : tie.Need-product-requires
 product-requires c κs = search needs
@@ -19,9 +19,9 @@ product-requires c κs = search needs
 returns : tie.Need-returns
 returns c =
     let a = c .before .before .before .args in
-    let g = c .before .before .even .ensures in
+    let g = c .before .before .half .ensures in
     let e = answered w32 (c .product .ensures) (wrap-in _) tt .eq in
     (ap (λ (b : Bit). b .next) g, (e ∙ ap (λ (b : Bit). wrapZ (signOf (b .on) (a .v * a .q))) g, rw e (wrap-in _)))
 
 pub signed-spec : {M : Type 1} → statement M
-signed-spec = tie.close (tie.spec even-requires product-requires returns)
+signed-spec = tie.close (tie.spec half-requires product-requires returns)

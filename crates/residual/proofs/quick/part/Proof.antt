@@ -5,8 +5,9 @@ use mathlib.Core.Path.{refl, ap}
 use lib.Dec.{ltb}
 use lib.ListN.{getD, set}
 use Rattle.coefficients.specs.FastLaws.{coded-read}
+use Rattle.wide.specs.WideLaws.{byte-bit}
 use Rattle.residual.specs.Quick.{widerOf}
-use Rattle.residual.specs.QuickLaws.{coded-room, part-read, byte-bit}
+use Rattle.residual.specs.QuickLaws.{coded-room, part-read}
 use borrow.Author.Needs.{needs}
 use Rattle.residual.proofs.quick.part.Statement.{statement}
 use Rattle.residual.proofs.quick.part.Tie as tie

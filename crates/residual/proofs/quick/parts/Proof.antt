@@ -3,9 +3,10 @@ use native.Mathlib.Omega.{arith}
 use mathlib.Core.Bool.{false}
 use mathlib.Core.Path.{sym, _∙_, ap}
 use lib.ListN.{length}
+use Rattle.wide.specs.WideLaws.{byte-bit}
 use Rattle.residual.specs.Quick.{widerOf}
 use Rattle.residual.specs.Residual.{residualOf}
-use Rattle.residual.specs.QuickLaws.{Parting, parting-start, parting-next, parting-end, byte-bit}
+use Rattle.residual.specs.QuickLaws.{Parting, parting-start, parting-next, parting-end}
 use Rattle.residual.proofs.quick.parts.Statement.{statement}
 use Rattle.residual.proofs.quick.parts.Tie as tie
 
