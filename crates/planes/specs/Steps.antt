@@ -5,7 +5,7 @@ use mathlib.Core.Bool.{Bool, true, false, cond}
 use mathlib.Core.List.{List, [], _∷_}
 use mathlib.Core.Logic.{inl, inr}
 use mathlib.Core.Path.{_≡_, refl, sym, _∙_, ap, ap₂, subst}
-use native.Mathlib.Nat.{add-zero, add-assoc, one-mul, add-mul, mod-lt, div-add-mod'}
+use native.Mathlib.Nat.{zero-add, add-zero, add-assoc, one-mul, add-mul, mod-lt, div-add-mod'}
 use native.Mathlib.Omega.{arith}
 use lib.IntN.{ℤ, pos, negsuc, _+ℤ_}
 use lib.ListN.{length, getD, set, replicate, getD-replicate}
@@ -15,7 +15,7 @@ use Rattle.numbers.specs.Bounds.{each-[], each-∷}
 use Rattle.numbers.specs.Clamp.{clampZ, clipZ, signedTo}
 use Rattle.numbers.specs.ClampLaws.{clamp-tests, clamp-cases, clamp-low, clamp-high, upTo-is, upTo-same}
 use Rattle.numbers.specs.In.{In, Each}
-use Rattle.numbers.specs.Lists.{build, built, build-same, getD-build, getD-constant}
+use Rattle.numbers.specs.Lists.{build, built, build-same, getD-build, getD-constant, _∷≡_}
 use Rattle.numbers.specs.Parts.{up, nlt-le, of-le, add-parts, lt-parts}
 use Rattle.numbers.specs.Runs.{placed, placed-none, placed-next, placed-same, length-placed, copied}
 use Rattle.numbers.specs.Tests.{cond-at}
@@ -56,9 +56,16 @@ blockCopied p w at b = row (row (row (row p at 0) (at + w) 4) (at + 2 * w) 8) (a
     row : List ℕ → (at from : ℕ) → List ℕ
     row q at from = placed q at (λ k. getD b (from + k) 0) 4
 
--- r added to four samples, and four rows to four rows
+-- r added to four samples
+abbrev pub sumAt : List ℕ → (at : ℕ) (r : List ℤ) (k : ℕ) → ℕ
+sumAt p at r k = clipZ (pos (getD p (at + k) 0) +ℤ getD r k (pos 0))
+
+unfoldable pub sumsOf : List ℕ → (at : ℕ) (r : List ℤ) → List ℕ
+sumsOf p at r = build 4 (sumAt p at r)
+
+-- the same in their place, and four rows added to four rows
 unfoldable pub rowAdded : List ℕ → (at : ℕ) (r : List ℤ) → List ℕ
-rowAdded p at r = placed p at (λ k. clipZ (pos (getD p (at + k) 0) +ℤ getD r k (pos 0))) 4
+rowAdded p at r = placed p at (sumAt p at r) 4
 
 abbrev pub blockAdded : List ℕ → (w at : ℕ) (a b c d : List ℤ) → List ℕ
 blockAdded p w at a b c d = rowAdded (rowAdded (rowAdded (rowAdded p at a) (at + w) b) (at + 2 * w) c) (at + 3 * w) d
@@ -160,17 +167,20 @@ module _ (p : List ℕ) (w x y n mode : ℕ) {e : Edge} {q : List ℕ} (d : e �
       → q ≡ rowsPlaced p w x y n (largeAt mode (dcOf n (edgeOf p w x y n)) (edgeOf p w x y n)) n
   predicted-left m g = g ∙ rw (m, d)
 
--- ---- a row added, store by store
+-- ---- a row added
 module _ (p : List ℕ) (at : ℕ) (r : List ℤ) where
   pub length-added : length (rowAdded p at r) ≡ length p
   unfolding rowAdded
   length-added = length-placed p at _ 4
 
-  pub added-four : {a b c d : ℕ} → a ≡ clipZ (pos (getD p at 0) +ℤ getD r 0 (pos 0)) → b ≡ clipZ (pos (getD p (at + 1) 0) +ℤ getD r 1 (pos 0))
-      → c ≡ clipZ (pos (getD p (at + 2) 0) +ℤ getD r 2 (pos 0)) → d ≡ clipZ (pos (getD p (at + 3) 0) +ℤ getD r 3 (pos 0))
-      → set (set (set (set p at a) (at + 1) b) (at + 2) c) (at + 3) d ≡ rowAdded p at r
-  unfolding rowAdded
-  added-four e f g h = rw (e, f, g, h) (rw add-zero at (placed-four p at (λ k. clipZ (pos (getD p (at + k) 0) +ℤ getD r k (pos 0)))))
+  pub four-sums : {a b c d : ℕ} → a ≡ clipZ (pos (getD p at 0) +ℤ getD r 0 (pos 0)) → b ≡ sumAt p at r 1 → c ≡ sumAt p at r 2 → d ≡ sumAt p at r 3
+      → a ∷ b ∷ c ∷ d ∷ [] ≡ sumsOf p at r
+  unfolding sumsOf build
+  four-sums e f g h = (e ∙ ap (λ (n : ℕ). clipZ (pos (getD p n 0) +ℤ getD r 0 (pos 0))) (sym (add-zero at))) ∷≡ f ∷≡ g ∷≡ h ∷≡ refl
+
+  pub sums-placed : {b q : List ℕ} → b ≡ sumsOf p at r → q ≡ placed p at (λ k. getD b (0 + k) 0) 4 → q ≡ rowAdded p at r
+  unfolding rowAdded sumsOf
+  sums-placed e f = f ∙ placed-same p at _ (sumAt p at r) 4 (λ k h. rw (e, zero-add) (getD-build 4 (sumAt p at r) k 0 h))
 
 -- the same length after it
 pub kept : (p : List ℕ) (at : ℕ) (r : List ℤ) {n : ℕ} {q : List ℕ} → length p ≡ n → q ≡ rowAdded p at r → length q ≡ n

@@ -1,4 +1,5 @@
 // The residual, added to what stands in the plane (RFC 6386, section 14.5).
+use crate::put::copy_row;
 ghost use mathlib.Core.Path.{_≡_};
 ghost use mathlib.Core.Bool.{cond};
 ghost use Prim.Native.Nat.{_+_, _<_, _≤_};
@@ -8,7 +9,7 @@ ghost use Rattle.numbers.specs.Clamp.{clipZ};
 ghost use Rattle.numbers.specs.In.{In, Each};
 ghost use Rattle.numbers.specs.Lists.{Bytes};
 ghost use Rattle.transform.specs.LanesLaws.{laneRow};
-ghost use Rattle.planes.specs.Steps.{noLess, noMore, rowAdded, laneAdded, meanOf, meanAdded, Residual};
+ghost use Rattle.planes.specs.Steps.{noLess, noMore, sumsOf, rowAdded, laneAdded, meanOf, meanAdded, Residual};
 ghost use Rattle.planes.specs.Places.{Block};
 
 // v as a sample. One test after the other, so that the compiler can take several samples at once.
@@ -38,20 +39,27 @@ fn sum(p: u8, r: i32) -> u8
     clipped(p as i32 + r)
 }
 
-// Four of them, side by side.
+// Four of them, side by side: all are read before one is stored.
+fn sums(p: &[u8], at: usize, r: [i32; 4]) -> [u8; 4]
+    requires { ⌜ at + 4 ≤ length (now p) ⌝ }
+    requires { ⌜ Each (negsuc 150000) (pos 150001) r ⌝ }
+    ensures { λ q. ⌜ q ≡ sumsOf (now (p .entry)) at r ⌝ }
+{
+    [
+        sum(p[at], r[0]),
+        sum(p[at + 1], r[1]),
+        sum(p[at + 2], r[2]),
+        sum(p[at + 3], r[3]),
+    ]
+}
+
 fn add_row(p: &mut [u8], at: usize, r: [i32; 4])
     requires { ⌜ at + 4 ≤ length (now p) ⌝ }
     requires { ⌜ Each (negsuc 150000) (pos 150001) r ⌝ }
     ensures { λ _. ⌜ now (p .exit) ≡ rowAdded (now (p .entry)) at r ⌝ }
 {
-    let w = sum(p[at], r[0]);
-    let x = sum(p[at + 1], r[1]);
-    let y = sum(p[at + 2], r[2]);
-    let z = sum(p[at + 3], r[3]);
-    p[at] = w;
-    p[at + 1] = x;
-    p[at + 2] = y;
-    p[at + 3] = z;
+    let b = sums(&p[..], at, r);
+    copy_row(p, at, &b[..], 0);
 }
 
 // A row of the residual of a block, of sixteen blocks by position.

@@ -16,7 +16,7 @@ ghost use Rattle.planes.specs.Steps.{blockCopied};
 ghost use Rattle.planes.specs.Places.{Square, Block};
 
 // Four samples of b, from its place `from`, into p from the place `at` on.
-fn copy_row(p: &mut [u8], at: usize, b: &[u8], from: usize)
+pub(crate) fn copy_row(p: &mut [u8], at: usize, b: &[u8], from: usize)
     requires { ⌜ (at + 4 ≤ length (now p)) × (from + 4 ≤ length (now b)) ⌝ }
     ensures { λ _. ⌜ now (p .exit) ≡ placed (now (p .entry)) at (λ k. getD (now (b .entry)) (from + k) 0) 4 ⌝ }
 {

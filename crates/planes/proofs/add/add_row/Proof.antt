@@ -1,34 +1,11 @@
--- `add_row` meets its contract: four sums are read before four are stored.
-use mathlib.Core.Path.{_≡_, ap, _∙_}
-use Prim.Native.Nat.{ℕ}
-use native.Mathlib.Omega.{arith}
+-- `add_row` meets its contract: the sums, copied over what they are sums of.
 use borrow.Author.Needs.{needs}
-use lib.IntN.{ℤ, pos, _+ℤ_}
-use lib.ListN.{length-set, getD}
-use mir.Syntax.{w32}
-use Rattle.numbers.specs.Hand.{passed, there}
-use Rattle.numbers.specs.Clamp.{clipZ}
-use Rattle.numbers.specs.Know.{round}
-use Rattle.planes.specs.Steps.{added-four}
+use Rattle.planes.specs.Steps.{sums-placed}
 use Rattle.planes.proofs.add.add_row.Statement.{statement}
 use Rattle.planes.proofs.add.add_row.Tie as tie
 
 returns : tie.Need-returns
-returns c =
-    let z = c in
-    let y = z .before .before .before in
-    let x = y .before .before .before in
-    let w = x .before .before .before in
-    let s = w .before .before .before .before in
-    let e : (k : ℕ) (q : ℕ) → clipZ (pos q +ℤ round w32 (getD (s .args .t3) k (pos 0))) ≡ clipZ (pos q +ℤ getD (s .args .t3) k (pos 0)) = λ k q. ap (λ (r : ℤ). clipZ (pos q +ℤ r)) (there w32 (s .pre .1 .at k) tt .eq) in
-    added-four _ _ _ (w .sum .ensures ∙ e 0 _) (x .sum2 .ensures ∙ e 1 _) (y .sum3 .ensures ∙ e 2 _) (z .sum4 .ensures ∙ e 3 _)
+returns c = sums-placed _ _ _ (c .before .before .before .before .before .sums .ensures) (c .before .before .copy-row .ensures)
 
 pub add-row-spec : {M : Type 1} → statement M
-add-row-spec =
-    tie.close
-    (tie.spec (λ c. search needs) (λ c. search needs) (λ c κs. passed w32 (c .before .before .before .pre .1 .at 0) tt tt)
-    (λ c. search needs) (λ c. search needs) (λ c. search needs) (λ c κs. passed w32 (c .before .before .before .before .before .before .pre .1 .at 1) tt tt)
-    (λ c. search needs) (λ c. search needs) (λ c. search needs) (λ c κs. passed w32 (c .before .before .before .before .before .before .before .before .before .pre .1 .at 2) tt tt)
-    (λ c. search needs) (λ c. search needs) (λ c. search needs) (λ c κs. passed w32 (c .before .before .before .before .before .before .before .before .before .before .before .before .pre .1 .at 3) tt tt)
-    (λ c. search needs) (λ c. search needs) (λ c. simp length-set (omega arith)) (λ c. search needs) (λ c. simp length-set (omega arith))
-    (λ c. search needs) (λ c. simp length-set (omega arith)) (λ c. search needs) returns)
+add-row-spec = tie.close (tie.spec (λ c κs. search needs) (λ c. search needs) (λ c κs. search needs) (λ c. search needs) returns)
