@@ -33,13 +33,13 @@ unfoldable pub extras : List ℕ
 extras = 0 ∷ 0 ∷ 0 ∷ 0 ∷ 0 ∷ 0 ∷ 1 ∷ 2 ∷ 3 ∷ 4 ∷ 5 ∷ 11 ∷ []
 
 -- ---- the call: at most 1216 bytes are read, and the list changes in its sixteen places alone
-pub record Coded (s : List ℕ) (w : Wide) (g : List ℤ → Reading Coefficients) (at : ℕ) (old new : List ℤ) (q : WideBlock) : Type 0 where
+pub record BlockCoded (s : List ℕ) (w : Wide) (g : List ℤ → Reading Coefficients) (at : ℕ) (old new : List ℤ) (q : WideBlock) : Type 0 where
   pub read : WideReads s 0 1216 (counted 0 (g (sixteenAt old at))) w (record { end = q .end; values = sixteenAt new at }, q .reads) (q .next)
   pub kept : new ≡ stored old at (sixteenAt new at)
 
 -- where an argument is out of range or the list is too short, nothing is read
 abbrev pub CodedWhere : Bool → List ℕ → Wide → (List ℤ → Reading Coefficients) → ℕ → List ℤ → List ℤ → WideBlock → Type 0
-CodedWhere true s w g at old new q = Coded s w g at old new q
+CodedWhere true s w g at old new q = BlockCoded s w g at old new q
 CodedWhere false s w g at old new q = (q ≡ record { end = 0; reads = 0; next = w }) × (new ≡ old)
 
 abbrev pub roomOf : (table : List ℕ) → (kind ctx first : ℕ) → (size at : ℕ) → Bool

@@ -42,7 +42,7 @@ use Rattle.wide.specs.WideLaws.{Sim}
 use Rattle.wide.specs.WideRuns.{WideReads, Going, going-start, going-fill, going-bit, going-as, going-weaken, going-cost, going-told, going-fresh, call-fresh, fill-fresh, going-half, reads-then, walk-asks}
 use Rattle.wide.specs.declared.wide.Bit.{Bit}
 use Rattle.wide.specs.declared.wide.Wide.{Wide}
-use Rattle.coefficients.specs.Fast.{sixteenAt, stored, depths, extras, Coded, CodedWhere, roomOf}
+use Rattle.coefficients.specs.Fast.{sixteenAt, stored, depths, extras, BlockCoded, CodedWhere, roomOf}
 use Rattle.coefficients.specs.BlockLaws.{SixteenBits, magnitude-within}
 use Rattle.coefficients.specs.BlockSteps.{zigzag-below, context-more, arguments-fact}
 use Rattle.coefficients.specs.Block.{categories, category, magnitude, signOf, signedValue, bands, zigzag, probabilityPlace, probabilitiesAt, quantizerAt, contextAfter, Coefficients, blockFrom, block, blockArguments}
@@ -192,14 +192,14 @@ pub room-fact : (table : List ℕ) (kind ctx first size at : ℕ) → roomOf tab
 room-fact table kind ctx first size at e = (arguments-fact table kind ctx first (both-left _ _ e), leb-true _ _ (both-right (blockArguments table kind ctx first) _ e))
 
 module _ (s : List ℕ) (w : Wide) (g : List ℤ → Reading Coefficients) (at : ℕ) (old new : List ℤ) (q : WideBlock) where
-  pub coded-some : {b : Bool} → b ≡ true → Coded s w g at old new q → CodedWhere b s w g at old new q
+  pub coded-some : {b : Bool} → b ≡ true → BlockCoded s w g at old new q → CodedWhere b s w g at old new q
   coded-some e h = rw e h
 
   pub coded-none : {b : Bool} → b ≡ false → q ≡ record { end = 0; reads = 0; next = w } → new ≡ old → CodedWhere b s w g at old new q
   coded-none e h k = rw e (h, k)
 
   -- THE LAW for callers
-  pub coded-read : {b : Bool} → b ≡ true → CodedWhere b s w g at old new q → Coded s w g at old new q
+  pub coded-read : {b : Bool} → b ≡ true → CodedWhere b s w g at old new q → BlockCoded s w g at old new q
   coded-read e h = rw e at h
 
 -- ---- what symbols cost
@@ -482,12 +482,12 @@ module _ (s table : List ℕ) (kind q0 q1 : ℕ) (g : Reading Coefficients) (sta
 
   module _ (room : at + 16 ≤ length old) {n near reads : ℕ} {w : Wide} {out : List ℤ} (c : Blocking n near reads w out) where
     -- what the call promises, of a list that was stored
-    promised : {end symbols : ℕ} {next : Wide} (f : List ℤ → Reading Coefficients) → g ≡ f (sixteenAt old at) → WideReads s 0 1216 (counted 0 g) start (record { end = end; values = c .values }, symbols) next → Coded s start f at old out (record { end = end; reads = symbols; next = next })
+    promised : {end symbols : ℕ} {next : Wide} (f : List ℤ → Reading Coefficients) → g ≡ f (sixteenAt old at) → WideReads s 0 1216 (counted 0 g) start (record { end = end; values = c .values }, symbols) next → BlockCoded s start f at old out (record { end = end; reads = symbols; next = next })
     promised {end} {symbols} {next} f e h =
         let v : sixteenAt out at ≡ c .values = ap (λ (o : List ℤ). sixteenAt o at) (c .kept) ∙ sixteen-stored old at room (c .values) (c .long) in
         record { read = rw (sym e, v) h; kept = c .kept ∙ ap (stored old at) (sym v) }
 
-    pub blocking-end : (f : List ℤ → Reading Coefficients) → g ≡ f (sixteenAt old at) → 16 ≤ n → Coded s start f at old out (record { end = n; reads = reads + (n - first); next = w })
+    pub blocking-end : (f : List ℤ → Reading Coefficients) → g ≡ f (sixteenAt old at) → 16 ≤ n → BlockCoded s start f at old out (record { end = n; reads = reads + (n - first); next = w })
     blocking-end f e l =
         let i : 16 - n ≡ 0 = omega arith in
         promised f e (λ r m k b. going-told (going-as (ap (counted (reads + (n - first))) (ap (λ (x : ℕ). blockFrom table kind q0 q1 x n (c .ctx) false (c .values)) i ∙ block-none table kind q0 q1 n (c .ctx) false (c .values))) (c .going r m b)) refl refl)
@@ -503,7 +503,7 @@ module _ (s table : List ℕ) (kind q0 q1 : ℕ) (g : Reading Coefficients) (sta
           ∙ ap (λ (x : ℕ). walk 32 (elevenAt table x) tokenTree 0 >>= restOf table kind q0 q1 (15 - n) n (c .values)) (sym (place-is kind n (c .ctx) (c .place) e)) in
           going-fill (76 * (15 - n) + 72) (going-weaken 0 (76 * (15 - n) + 72 + 4) (going-as (ap (counted (reads + (n - first))) j) (c .going r m b)) (omega arith) (omega arith)) fl
 
-      pub blocking-stops : (f : List ℤ → Reading Coefficients) → g ≡ f (sixteenAt old at) → q .on ≡ false → Coded s start f at old out (record { end = n; reads = reads + (n - first) + 1; next = q .next })
+      pub blocking-stops : (f : List ℤ → Reading Coefficients) → g ≡ f (sixteenAt old at) → q .on ≡ false → BlockCoded s start f at old out (record { end = n; reads = reads + (n - first) + 1; next = q .next })
       blocking-stops f z i =
           let k : reads + (n - first) + 1 ≡ suc (reads + (n - first)) = omega arith in
           promised f z (λ r m a b. going-told (going-as (ap (counted (suc (reads + (n - first)))) (rest-ends table kind q0 q1 (15 - n) n (c .values))) (step-leaf (elevenAt table here) 0 24 31 (reads + (n - first)) (restOf table kind q0 q1 (15 - n) n (c .values)) y h (first-of table here) (asked r m b) o i refl)) refl k)
@@ -512,7 +512,7 @@ module _ (s table : List ℕ) (kind q0 q1 : ℕ) (g : Reading Coefficients) (sta
       blocking-goes i r m b = record { fuel = 25; going = step-node (elevenAt table here) 0 24 31 (reads + (n - first)) (restOf table kind q0 q1 (15 - n) n (c .values)) y h (first-of table here) (asked r m b) o i refl }
 
       module _ {z : Zeros} (k : Zeroed s table kind n here (q .next) z) where
-        pub blocking-zeros : (f : List ℤ → Reading Coefficients) → g ≡ f (sixteenAt old at) → q .on ≡ true → z .n ≡ 16 → Coded s start f at old out (record { end = 16; reads = reads + (16 - first) + 1; next = z .next })
+        pub blocking-zeros : (f : List ℤ → Reading Coefficients) → g ≡ f (sixteenAt old at) → q .on ≡ true → z .n ≡ 16 → BlockCoded s start f at old out (record { end = 16; reads = reads + (16 - first) + 1; next = z .next })
         blocking-zeros f d i j =
             let u : reads + (16 - first) + 1 ≡ suc (reads + (n - first)) + (16 - n) = omega (arith, c .low) in
             promised f d (λ r m a b. let x = k .ended q0 q1 (c .values) (whole r) (start .at + 1216) (suc (reads + (n - first))) j (blocking-goes i r m b) in going-told (going-weaken 0 0 x (omega arith) (omega arith)) refl u)

@@ -23,7 +23,7 @@ ghost use Rattle.coefficients.specs.BlockLaws.{SixteenBits};
 ghost use Rattle.wide.specs.Wide.{halfOf};
 ghost use Rattle.reader.specs.Token.{elevenAt};
 ghost use Rattle.coefficients.specs.Block.{category, magnitude, signOf, bands, block};
-ghost use Rattle.coefficients.specs.Fast.{roomOf, Coded, CodedWhere};
+ghost use Rattle.coefficients.specs.Fast.{roomOf, BlockCoded, CodedWhere};
 ghost use Rattle.coefficients.specs.FastLaws.{raisedOf, bandPlaces, tokenSymbols, Counting, Zeroed};
 
 // Where the 33 probabilities of a position's band stand among those of its kind.
@@ -260,7 +260,7 @@ fn read_block(
 ) -> WideBlock
     requires { ⌜ (length (now table) ≡ probabilityCount) × ((kind < 4) × ((ctx < 3) × (first ≤ 1))) ⌝ }
     requires { ⌜ at + 16 ≤ length (now out) ⌝ }
-    ensures { λ q. ⌜ Coded (now (s .entry)) w (block (now (table .entry)) kind q0 q1 ctx first) at (now (out .entry)) (now (out .exit)) q
+    ensures { λ q. ⌜ BlockCoded (now (s .entry)) w (block (now (table .entry)) kind q0 q1 ctx first) at (now (out .entry)) (now (out .exit)) q
         × (q .reads ≤ 304) ⌝ }
 {
     let bases = BAND_PLACES;

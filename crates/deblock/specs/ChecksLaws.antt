@@ -17,12 +17,12 @@ use Rattle.tile.specs.ChecksLaws.{sides-fact, sides-test}
 use Rattle.lent.specs.Records.{recordsIn, strengthWidth, strengthAt}
 use Rattle.lent.specs.Sizes.{lumaFine, chromaFine, strengthsFine}
 use Rattle.lent.specs.SizesLaws.{long-fact, long-test, luma-area, chroma-area}
-use Rattle.deblock.specs.Deblock.{deblockLengths, Lengths, limitsOf, deblockRefusal, Outcome, when, rasterOf, planesDeblocked, deblockOf, deblockNumberOf}
+use Rattle.deblock.specs.Deblock.{deblockLengths, DeblockLengths, limitsOf, deblockRefusal, Outcome, when, rasterOf, planesDeblocked, deblockOf, deblockNumberOf}
 use Rattle.macroblock.specs.Macroblock.{Planes}
 use Rattle.deblock.specs.declared.Deblocked.the-variants.{Done, Refused}
-use Rattle.deblock.specs.Located.{Beside, Whole}
+use Rattle.deblock.specs.Located.{Beside, WholePlane}
 
-pub lengths : (w h y u v s : ℕ) → deblockLengths w h y u v s ≡ true → Lengths w h y u v s
+pub lengths : (w h y u v s : ℕ) → deblockLengths w h y u v s ≡ true → DeblockLengths w h y u v s
 unfolding deblockLengths
 lengths w h y u v s e =
     let a = lumaFine w h y in
@@ -63,7 +63,7 @@ module _ (w h y u v : ℕ) (s : List ℕ) where
 -- ---- past all checks
 pub record Fine (w h y u v : ℕ) (s : List ℕ) : Type 0 where
   pub sides : Sides w h
-  pub lengths : Lengths w h y u v (length s)
+  pub lengths : DeblockLengths w h y u v (length s)
   pub limits : (k : ℕ) → k < recordsIn strengthWidth s → strengthAt s k .limit ≤ 189
 
 three : (a b c : Bool) → _≡_ {A = ℕ} 0 (cond a (cond b (cond c 0 11) 4) 1) → (a ≡ true) × (b ≡ true) × (c ≡ true)
@@ -83,7 +83,7 @@ all-true : (f : ℕ → Bool) (n : ℕ) → ((k : ℕ) → k < n → f k ≡ tru
 all-true f zero h = refl
 all-true f (suc n) h = both-true (h n (omega arith)) (all-true f n (λ k l. h k (omega arith)))
 
-lengths-test : (w h y u v s : ℕ) → Sides w h → Lengths w h y u v s → deblockLengths w h y u v s ≡ true
+lengths-test : (w h y u v s : ℕ) → Sides w h → DeblockLengths w h y u v s → deblockLengths w h y u v s ≡ true
 unfolding deblockLengths
 lengths-test w h y u v s z l =
     both-true (both-true (both-true (long-test w h y z (l .luma)) (long-test w h u z (l .blue))) (long-test w h v z (l .red))) (long-test w h s z (l .records))
@@ -102,10 +102,10 @@ module _ (w h y u v : ℕ) (s : List ℕ) where
   refused-side n = stop-side w h y u v s (sym (not-so _ (λ e. n (sides-fact w h e))))
 
   module _ (a : Sides w h) where
-    pub refused-lengths : (Lengths w h y u v (length s) → ⊥) → 4 ≡ deblockRefusal w h y u v s
+    pub refused-lengths : (DeblockLengths w h y u v (length s) → ⊥) → 4 ≡ deblockRefusal w h y u v s
     refused-lengths n = stop-lengths w h y u v s (sides-test w h a) (sym (not-so _ (λ e. n (lengths w h y u v (length s) e))))
 
-    pub refused-limit : Lengths w h y u v (length s) → (k : ℕ) → k < recordsIn strengthWidth s → 189 < strengthAt s k .limit → 11 ≡ deblockRefusal w h y u v s
+    pub refused-limit : DeblockLengths w h y u v (length s) → (k : ℕ) → k < recordsIn strengthWidth s → 189 < strengthAt s k .limit → 11 ≡ deblockRefusal w h y u v s
     refused-limit l k i n =
         stop-limits w h y u v s (sides-test w h a) (lengths-test w h y u v (length s) a l) (sym (not-so _ (λ e. omega (arith, limits s e k i))))
 
@@ -113,20 +113,20 @@ module _ {w h y u v : ℕ} {s : List ℕ} (f : Fine w h y u v s) where
   below : (k : ℕ) → k < w / 16 * (h / 16) → strengthAt s k .limit ≤ 189
   below k l = f .limits k (omega (arith, f .lengths .records))
 
-  pub luma-whole : Whole y 16 (w / 16) (h / 16) s
+  pub luma-whole : WholePlane y 16 (w / 16) (h / 16) s
   luma-whole =
       let z : y ≡ h / 16 * 16 * (w / 16 * 16) = f .lengths .luma ∙ luma-area (f .sides) in
       record { grid = record { size = inr refl; across = omega (arith, f .sides .width .most); down = omega (arith, f .sides .height .most); area = omega (arith, z) }; long = f .lengths .records; limits = below }
 
-  chroma-whole : (q : ℕ) → q ≡ w / 2 * (h / 2) → Whole q 8 (w / 16) (h / 16) s
+  chroma-whole : (q : ℕ) → q ≡ w / 2 * (h / 2) → WholePlane q 8 (w / 16) (h / 16) s
   chroma-whole q e =
       let z : q ≡ h / 16 * 8 * (w / 16 * 8) = e ∙ chroma-area (f .sides) in
       record { grid = record { size = inl refl; across = omega (arith, f .sides .width .most); down = omega (arith, f .sides .height .most); area = omega (arith, z) }; long = f .lengths .records; limits = below }
 
-  pub blue-whole : Whole u 8 (w / 16) (h / 16) s
+  pub blue-whole : WholePlane u 8 (w / 16) (h / 16) s
   blue-whole = chroma-whole u (f .lengths .blue)
 
-  pub red-whole : Whole v 8 (w / 16) (h / 16) s
+  pub red-whole : WholePlane v 8 (w / 16) (h / 16) s
   red-whole = chroma-whole v (f .lengths .red)
 
   -- red goes beside blue

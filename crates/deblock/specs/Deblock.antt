@@ -121,7 +121,7 @@ unfoldable pub deblockLengths : (w h y u v strengths : ℕ) → Bool
 deblockLengths w h y u v strengths = lumaFine w h y && chromaFine w h u && chromaFine w h v && strengthsFine w h strengths
 
 -- as a fact
-pub record Lengths (w h y u v s : ℕ) : Type 0 where
+pub record DeblockLengths (w h y u v s : ℕ) : Type 0 where
   pub luma : y ≡ w * h
   pub blue : u ≡ w / 2 * (h / 2)
   pub red : v ≡ w / 2 * (h / 2)

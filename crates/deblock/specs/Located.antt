@@ -34,7 +34,7 @@ pub record Beside (n lp lq : ℕ) : Type 0 where
   pub one : n ≡ 16 → lq ≡ 0
 
 -- a plane of squares with strengths for each
-pub record Whole (len n wide high : ℕ) (strengths : List ℕ) : Type 0 where
+pub record WholePlane (len n wide high : ℕ) (strengths : List ℕ) : Type 0 where
   pub grid : PlaneGrid len n wide high
   pub long : length strengths ≡ strengthWidth * (wide * high)
   pub limits : (k : ℕ) → k < wide * high → strengthAt strengths k .limit ≤ 189

@@ -14,7 +14,7 @@ ghost use Rattle.planes.specs.Predict.{Size};
 ghost use Rattle.planes.specs.Places.{Square};
 ghost use Rattle.deblock.specs.Deblock.{outerEdge, innerEdge, verticalEdges, horizontalEdges, verticalsOf, horizontalsOf, squareOf};
 ghost use Rattle.deblock.specs.Deblock.{rasterOf};
-ghost use Rattle.deblock.specs.Located.{Upright, Level, Beside, Whole};
+ghost use Rattle.deblock.specs.Located.{Upright, Level, Beside, WholePlane};
 
 // What the kernel is told of a macroblock's own edges, and of the inner ones.
 fn outer_of(simple: bool, t: Strength) -> Edge
@@ -144,7 +144,7 @@ pub(crate) fn squares(
     simple: bool,
     strengths: &[u8],
 )
-    requires { ⌜ Whole (length (now p)) n wide high (now strengths) ⌝ }
+    requires { ⌜ WholePlane (length (now p)) n wide high (now strengths) ⌝ }
     requires { ⌜ Beside n (length (now p)) (length (now q)) ⌝ }
     ensures { λ _. ⌜ now (p .exit) ≡ rasterOf simple (now (strengths .entry)) n wide (wide * high) (now (p .entry)) ⌝ }
     ensures { λ _. ⌜ now (q .exit) ≡ rasterOf simple (now (strengths .entry)) n wide (wide * high) (now (q .entry)) ⌝ }

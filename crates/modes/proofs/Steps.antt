@@ -15,7 +15,7 @@ use Rattle.reader.specs.BooleanLaws.{Bytes, Valid}
 use Rattle.reader.specs.Reading.{Reading, done, _>>=_, symbol, run}
 use Rattle.reader.specs.Trees.{leaf, branchOf, branchAt, walk}
 use Rattle.wide.specs.Padded.{runPadded}
-use Rattle.wide.specs.Wide.{fillOf, wideBitOf, widenOf, insideOf, narrowOf}
+use Rattle.wide.specs.Wide.{fillOf, wideBitOf, widenOf, eightInside, narrowOf}
 use Rattle.wide.specs.WideLaws.{Sim}
 use Rattle.wide.specs.WideRuns.{WideReads, Gave, Going, going-start, going-fill, going-bit, going-done, going-call, going-last, reads-as, reads-then, walking-start, walking-node, walking-leaf, wide-run}
 use Rattle.wide.specs.declared.wide.Bit.{Bit}
@@ -157,6 +157,6 @@ reads-modes s a above left {p} {l} g h k r m i b =
     going-done (going-call 0 4 (largeMode true) (λ c. done (record { segment = p .segment; skip = p .skip; small = p .small; modes = l; chroma = c })) y k (omega arith) (omega arith)) refl
 
 -- ---- back to a reader: read inside the partition
-pub wide-stage : (s : List ℕ) (a : Announced) (r : Reader) (above left : List ℕ) → Bytes s → Valid s r → length s < 2 ^ 63 → {x q : Wide} {k : Kinds} {l : List ℕ} {b : Bool} {n : Reader} → x ≡ widenOf r → WideReads s 0 144 (modesOf a above left) x (macroblockOf k l) q → b ≡ insideOf s q → b ≡ true → n ≡ narrowOf s q → record { answer = S.Read k n; modes = l } ≡ toStaged zeros (run (modesOf a above left) s r)
+pub wide-stage : (s : List ℕ) (a : Announced) (r : Reader) (above left : List ℕ) → Bytes s → Valid s r → length s < 2 ^ 63 → {x q : Wide} {k : Kinds} {l : List ℕ} {b : Bool} {n : Reader} → x ≡ widenOf r → WideReads s 0 144 (modesOf a above left) x (macroblockOf k l) q → b ≡ eightInside s q → b ≡ true → n ≡ narrowOf s q → record { answer = S.Read k n; modes = l } ≡ toStaged zeros (run (modesOf a above left) s r)
 wide-stage s a r above left y v f {k} {l} e h i j n =
     sym (ap (toStaged zeros) (wide-run s r (modesOf a above left) 144 y v (omega (arith, v .inside)) (rw e at h) (sym i ∙ j) ∙ ap (given (macroblockOf k l)) (sym n)))

@@ -22,21 +22,21 @@ use Rattle.promises.specs.GreyLaws.{finished-or-grey}
 use Rattle.promises.specs.CostLaws.{same-costs}
 use Rattle.promises.specs.Isolation.{Alike}
 use Rattle.promises.specs.IsolationLaws.{isolated}
-use Rattle.promises.specs.Called.{Eight, CalledEnds, CalledIsolated}
+use Rattle.promises.specs.Called.{EightEach, CalledEnds, CalledIsolated}
 
 module _ (starts lengths : List ℕ) (c : Call) (m : Memory) where
   -- with eight starts and eight lengths
-  called-is : Eight starts lengths → calledOf starts lengths c m ≡ toPictureCalled (pictureOf c m) (costOf c m)
+  called-is : EightEach starts lengths → calledOf starts lengths c m ≡ toPictureCalled (pictureOf c m) (costOf c m)
   called-is e = sym (called-picture starts lengths c m (e .first) (e .second) refl refl refl refl)
 
-  called-not : (Eight starts lengths → ⊥) → calledOf starts lengths c m ≡ calledNumbers 9 0 0 0 m
+  called-not : (EightEach starts lengths → ⊥) → calledOf starts lengths c m ≡ calledNumbers 9 0 0 0 m
   called-not n = ⊎-elim
       (λ s. sym (called-lengths starts lengths c m s (λ l. n (record { first = s; second = l }))))
       (λ s. sym (called-starts starts lengths c m s))
       (eq-or (length starts) 8)
 
   -- a number other than 0, 6 and 7 is a refusal's
-  called-refused : (n : ℕ) → 1 ≤ n → n ≤ 5 → Eight starts lengths → number c m ≡ n → calledOf starts lengths c m ≡ calledNumbers n 0 0 0 m
+  called-refused : (n : ℕ) → 1 ≤ n → n ≤ 5 → EightEach starts lengths → number c m ≡ n → calledOf starts lengths c m ≡ calledNumbers n 0 0 0 m
   called-refused n least most e f = ⊎-elim
       (λ z. absurd (good z))
       (λ z. let r = refused-changes-nothing c m z in let k = cost-bad c m refl z in called-is e ∙ (λ i. calledNumbers (f i) (r .none i) (k i .first) (k i .tokens) (r .unchanged i)))
@@ -94,6 +94,6 @@ two-calls p t u m n a e f b d =
     }
 
 -- THE PROMISE
-pub called-isolated : (p : ℕ) (starts lengths starts′ lengths′ : List ℕ) (t u : Call) (m n : Memory) → Eight starts lengths → Eight starts′ lengths′
+pub called-isolated : (p : ℕ) (starts lengths starts′ lengths′ : List ℕ) (t u : Call) (m n : Memory) → EightEach starts lengths → EightEach starts′ lengths′
     → Alike p t u → Fine t m → Fine u n → Bytes (t .bytes) → Bytes (u .bytes) → CalledIsolated p t u (calledOf starts lengths t m) (calledOf starts′ lengths′ u n)
 called-isolated p starts lengths starts′ lengths′ t u m n g h a e f b d = rw (called-is starts lengths t m g, called-is starts′ lengths′ u n h) (two-calls p t u m n a e f b d)

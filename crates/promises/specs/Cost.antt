@@ -5,7 +5,7 @@ use mathlib.Core.Path.{_≡_}
 use mathlib.Core.List.{List, [], _++_}
 use lib.ListN.{length, getD}
 use Rattle.reader.specs.Boolean.{Given, given, missing, noReader}
-use Rattle.reader.specs.Trace.{Coded, trace}
+use Rattle.reader.specs.Trace.{CodedSymbol, trace}
 use Rattle.header.specs.Frame.{factorsAt}
 use Rattle.modes.specs.Modes.{Macroblock, modesOf}
 use Rattle.residual.specs.Residual.{residualOf}
@@ -34,11 +34,11 @@ pub record CostAtMost (t : Call) (m : Memory) : Type 0 where
 
 -- ---- what is counted: the symbols of the definition, in order
 -- those of macroblock k's modes, and those of its coefficients; where a byte is missing, the ones before it
-abbrev pub modeSymbols : Picture → ℕ → State → List Coded
+abbrev pub modeSymbols : Picture → ℕ → State → List CodedSymbol
 modeSymbols P k S = let a = aroundAt S (columnOf P k) in trace (modesOf (P .frame .announced) (a .top .modes) (a .left .modes)) (P .first) (S .reader)
 
 -- those of its coefficients, its modes being given or not
-abbrev pub symbolsAfter : Picture → ℕ → State → Given Macroblock → List Coded
+abbrev pub symbolsAfter : Picture → ℕ → State → Given Macroblock → List CodedSymbol
 symbolsAfter P k S missing = []
 symbolsAfter P k S (given m next) =
     let a = aroundAt S (columnOf P k) in
@@ -46,11 +46,11 @@ symbolsAfter P k S (given m next) =
     (P .token (partitionOf P k)) (getD (S .readers) (partitionOf P k) noReader)
 
 -- and by what its modes are
-abbrev pub tokenSymbols : Picture → ℕ → State → List Coded
+abbrev pub tokenSymbols : Picture → ℕ → State → List CodedSymbol
 tokenSymbols P k S = symbolsAfter P k S (modesAsked P k S)
 
 -- one list a macroblock, n of them from number k on, until one is refused, and that one's too
-unfoldable pub symbolsFrom : (Picture → ℕ → State → List Coded) → ℕ → Picture → ℕ → State → List Coded
+unfoldable pub symbolsFrom : (Picture → ℕ → State → List CodedSymbol) → ℕ → Picture → ℕ → State → List CodedSymbol
 symbolsFrom f zero P k S = []
 symbolsFrom f (suc n) P k S =
     elim (stepAt P k S) [

@@ -9,7 +9,7 @@ use lib.ListN.{length, length-append}
 use Rattle.numbers.specs.Tests.{lt-or, eq-or}
 use Rattle.reader.specs.Boolean.{Given, given, missing}
 use Rattle.reader.specs.BooleanLaws.{Bytes}
-use Rattle.reader.specs.Trace.{Coded, trace, count}
+use Rattle.reader.specs.Trace.{CodedSymbol, trace, count}
 use Rattle.modes.specs.Modes.{Macroblock}
 use Rattle.lent.specs.Memory.{Memory, sizesOf}
 use Rattle.tile.specs.Partitions.{pickOf}
@@ -69,7 +69,7 @@ module _ (P : Picture) (k : ℕ) (S : State) where
   unfolding readsOf count
   listed = reads-at P k S ∙ (λ i. record { first = length (modeSymbols P k S); tokens = after-count (modesAsked P k S) i })
 
-finished-length : (f : Picture → ℕ → State → List Coded) (n : ℕ) (P : Picture) (k : ℕ) (S : State) (x : Finished) → stepAt P k S ≡ finished x
+finished-length : (f : Picture → ℕ → State → List CodedSymbol) (n : ℕ) (P : Picture) (k : ℕ) (S : State) (x : Finished) → stepAt P k S ≡ finished x
     → length (f P k S) + length (symbolsFrom f n P (k + 1) (nextOf P k S x)) ≡ length (symbolsFrom f (suc n) P k S)
 unfolding symbolsFrom
 finished-length f n P k S x e =

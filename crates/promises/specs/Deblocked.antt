@@ -15,9 +15,9 @@ use Rattle.picture.specs.Checks.{Call}
 use Rattle.picture.specs.Picture.{pictureOf, planesIn}
 use Rattle.deblock.specs.declared.edges.Edge.{Edge}
 use Rattle.deblock.specs.declared.Deblocked.the-variants.{Done}
-use Rattle.deblock.specs.Deblock.{sweepOf, Lengths, Outcome, deblockOf, deblockNumberOf}
+use Rattle.deblock.specs.Deblock.{sweepOf, DeblockLengths, Outcome, deblockOf, deblockNumberOf}
 use Rattle.promises.specs.Places.{Plane, luma, blue, red, planeSide, blockAt}
-use Rattle.promises.specs.Grey.{Inside, done}
+use Rattle.promises.specs.Grey.{InPlane, done}
 use Rattle.promises.specs.Isolation.{SameTokens}
 
 -- ---- THE PROMISE of one edge of n positions. Sample k of position j is p3, p2, p1, p0 for k = 0 to 3 and q0, q1, q2, q3 for k = 4 to 7
@@ -34,8 +34,8 @@ pub record EdgeReaches (g : Edge) (at along step n : ℕ) : Type 0 where
 
 -- ---- THE PROMISE of the call's refusals: 1, 4 and 11 in this order, each exactly where its check fails and none before it does; then nothing
 -- changes
-abbrev pub Sized : Planes → (strengths : List ℕ) → (w h : ℕ) → Type 0
-Sized d s w h = Lengths w h (length (d .y)) (length (d .u)) (length (d .v)) (length s)
+abbrev pub DeblockSized : Planes → (strengths : List ℕ) → (w h : ℕ) → Type 0
+DeblockSized d s w h = DeblockLengths w h (length (d .y)) (length (d .u)) (length (d .v)) (length s)
 
 -- the number that the deblocking call answers
 abbrev pub numbered : Planes → (strengths : List ℕ) → (w h : ℕ) (simple : Bool) → ℕ
@@ -45,9 +45,9 @@ numbered d s w h simple = deblockNumberOf (deblockOf d s w h simple .answer)
 pub record DeblockRefused (d : Planes) (s : List ℕ) (w h : ℕ) (simple : Bool) : Type 0 where
   pub unchanged : (numbered d s w h simple ≡ 0 → ⊥) → deblockOf d s w h simple .planes ≡ d
   pub side : (Sides w h → ⊥) → numbered d s w h simple ≡ 1
-  pub sized : Sides w h → (Sized d s w h → ⊥) → numbered d s w h simple ≡ 4
-  pub limit : Sides w h → Sized d s w h → (k : ℕ) → k < recordsIn strengthWidth s → 189 < strengthAt s k .limit → numbered d s w h simple ≡ 11
-  pub none : Sides w h → Sized d s w h → ((k : ℕ) → k < recordsIn strengthWidth s → strengthAt s k .limit ≤ 189) → numbered d s w h simple ≡ 0
+  pub sized : Sides w h → (DeblockSized d s w h → ⊥) → numbered d s w h simple ≡ 4
+  pub limit : Sides w h → DeblockSized d s w h → (k : ℕ) → k < recordsIn strengthWidth s → 189 < strengthAt s k .limit → numbered d s w h simple ≡ 11
+  pub none : Sides w h → DeblockSized d s w h → ((k : ℕ) → k < recordsIn strengthWidth s → strengthAt s k .limit ≤ 189) → numbered d s w h simple ≡ 0
 
 -- ---- the deblocking call on what the picture call leaves
 abbrev pub deblockedOf : Call → Memory → Bool → Outcome
@@ -66,7 +66,7 @@ sampleAfter t m simple a c r = sampleAt (plane a (deblockedOf t m simple .planes
 -- THE PROMISE, after 0, 6 and 7: it is never refused; and no sample of an unfinished macroblock moves, so that grey stays grey
 pub record GreyStays (t : Call) (m : Memory) (simple : Bool) : Type 0 where
   pub answer : deblockedOf t m simple .answer ≡ Done
-  pub grey : (a : Plane) (c r : ℕ) → Inside t a c r → done t m ≤ blockAt (t .tile .width / 16) a c r → sampleAfter t m simple a c r ≡ 128
+  pub grey : (a : Plane) (c r : ℕ) → InPlane t a c r → done t m ≤ blockAt (t .tile .width / 16) a c r → sampleAfter t m simple a c r ≡ 128
 
 -- THE PROMISE, of the calls for two tiles alike in all but the bytes of token partition p
 pub record IsolatedDeblocked (p : ℕ) (t u : Call) (m n : Memory) (simple : Bool) : Type 0 where

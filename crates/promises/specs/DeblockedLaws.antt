@@ -34,7 +34,7 @@ use Rattle.promises.specs.KeptLaws.{sound, live-reached}
 use Rattle.promises.specs.Valid.{limits-at-most-189}
 use Rattle.promises.specs.Isolation.{Alike, Isolated}
 use Rattle.promises.specs.IsolationLaws.{isolated}
-use Rattle.promises.specs.Grey.{Inside, done, FinishedOrGrey}
+use Rattle.promises.specs.Grey.{InPlane, done, FinishedOrGrey}
 use Rattle.promises.specs.GreyLaws.{finished-or-grey}
 use Rattle.promises.specs.Deblocked.{EdgeReaches, DeblockRefused, deblockedOf, plane, sampleAfter, GreyStays, IsolatedDeblocked}
 
@@ -139,7 +139,7 @@ module _ (t : Call) (m : Memory) (e : Fine t m) (b : Bytes (t .bytes)) (simple :
       → getD (chroma simple (there .strengths) across (t .tile .height / 16) (planesIn there) p) (r * (across * 8) + c) 0 ≡ getD p (r * (across * 8) + c) 0
   unmoved-chroma g p c r i h = when-same (not simple) _ p (r * (across * 8) + c) (unmoved g p c r i h)
 
-  part-stays : (a : Plane) (c r : ℕ) → Inside t a c r → done t m ≤ blockAt across a c r
+  part-stays : (a : Plane) (c r : ℕ) → InPlane t a c r → done t m ≤ blockAt across a c r
       → getD (parts simple (there .strengths) across (t .tile .height / 16) (planesIn there) a) (r * (across * planeSide a) + c) 0 ≡ getD (plane a (planesIn there)) (r * (across * planeSide a) + c) 0
   part-stays luma c r i h = unmoved (checks.luma-whole (fine t m e b) .grid) (there .y) c r (i .across) h
   part-stays blue c r i h = unmoved-chroma (checks.blue-whole (fine t m e b) .grid) (there .u) c r (i .across) h
@@ -150,7 +150,7 @@ module _ (t : Call) (m : Memory) (e : Fine t m) (b : Bytes (t .bytes)) (simple :
   plane-is blue = refl
   plane-is red = refl
 
-  stays-grey : (a : Plane) (c r : ℕ) → Inside t a c r → done t m ≤ blockAt across a c r → sampleAfter t m simple a c r ≡ 128
+  stays-grey : (a : Plane) (c r : ℕ) → InPlane t a c r → done t m ≤ blockAt across a c r → sampleAfter t m simple a c r ≡ 128
   stays-grey a c r i h =
       ap (λ (E : Outcome). getD (plane a (E .planes)) (r * (across * planeSide a) + c) 0) (is t m e b simple)
       ∙ ap (λ (q : List ℕ). getD q (r * (across * planeSide a) + c) 0) (parts-is simple (there .strengths) across (t .tile .height / 16) (planesIn there) a)

@@ -15,7 +15,7 @@ use Rattle.header.specs.Header.{presentOf, probabilityOf, presentAt, probabilit
 use Rattle.reader.specs.Token.{tokenAnswer}
 use Rattle.reader.specs.Trees.{walkAnswer}
 use Rattle.reader.specs.declared.boolean.Reader.{Reader}
-use Rattle.wide.specs.Wide.{fillOf, wideBitOf, widenOf, insideOf, narrowOf}
+use Rattle.wide.specs.Wide.{fillOf, wideBitOf, widenOf, eightInside, narrowOf}
 use Rattle.wide.specs.declared.wide.Wide.{Wide}
 use Rattle.header.specs.Levels.{levelAnswer}
 use Rattle.header.specs.Quantizers.{quantizersOf}
@@ -154,8 +154,8 @@ pub wide-widen : (r : Reader) → One (λ o. o ≡ widenOf r)
 wide-widen r = determined (widenOf r)
 
 -- wide::wide::inside
-pub wide-inside : (s : List ℕ) (w : Wide) → One (λ o. o ≡ insideOf s w)
-wide-inside s w = determined (insideOf s w)
+pub wide-inside : (s : List ℕ) (w : Wide) → One (λ o. o ≡ eightInside s w)
+wide-inside s w = determined (eightInside s w)
 
 -- wide::wide::narrow
 pub wide-narrow : (s : List ℕ) (w : Wide) → One (λ o. o ≡ narrowOf s w)

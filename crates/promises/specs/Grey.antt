@@ -13,7 +13,7 @@ use Rattle.promises.specs.Reached.{Reached}
 use Rattle.promises.specs.Places.{Plane, planeSide, sampleOf, modeByte, strengthByte, blockAt}
 
 -- column c of row r lies in a plane of the tile
-pub record Inside (t : Call) (a : Plane) (c r : ℕ) : Type 0 where
+pub record InPlane (t : Call) (a : Plane) (c r : ℕ) : Type 0 where
   pub across : c < t .tile .width / 16 * planeSide a
   pub down : r < t .tile .height / 16 * planeSide a
 
@@ -24,7 +24,7 @@ pub record Made (t : Call) (m : Memory) (k : ℕ) : Type 0 where
   pub made : Finished
   pub reached : Reached (picturedOf t) (begunOf t m) k found
   pub step : stepAt (picturedOf t) k found ≡ finished made
-  pub samples : (a : Plane) (c r : ℕ) → Inside t a c r → blockAt (t .tile .width / 16) a c r ≡ k
+  pub samples : (a : Plane) (c r : ℕ) → InPlane t a c r → blockAt (t .tile .width / 16) a c r ≡ k
       → sampleOf (t .tile .width / 16) a c r (pictureOf t m .mem) ≡ sampleOf (t .tile .width / 16) a c r (nextOf (picturedOf t) k found made .mem)
   pub kinds : (i : ℕ) → i < modeWidth → modeByte (k * modeWidth + i) (pictureOf t m .mem) ≡ getD (modeRecord (kindsOf (made .modes)) (made .modes .modes)) i 0
   pub strength : (i : ℕ) → i < strengthWidth → strengthByte (k * strengthWidth + i) (pictureOf t m .mem) ≡ getD (strengthRecord (made .strength)) i 0
@@ -37,7 +37,7 @@ done t m = valuesOf (pictureOf t m .answer)
 -- and strengths 0; and all memory, the columns too, is as after the last one that is finished
 pub record FinishedOrGrey (t : Call) (m : Memory) : Type 0 where
   pub before : (k : ℕ) → k < done t m → Made t m k
-  pub grey : (a : Plane) (c r : ℕ) → Inside t a c r → done t m ≤ blockAt (t .tile .width / 16) a c r → sampleOf (t .tile .width / 16) a c r (pictureOf t m .mem) ≡ 128
+  pub grey : (a : Plane) (c r : ℕ) → InPlane t a c r → done t m ≤ blockAt (t .tile .width / 16) a c r → sampleOf (t .tile .width / 16) a c r (pictureOf t m .mem) ≡ 128
   pub no-kinds : (i : ℕ) → done t m * modeWidth ≤ i → modeByte i (pictureOf t m .mem) ≡ 0
   pub no-strengths : (i : ℕ) → done t m * strengthWidth ≤ i → strengthByte i (pictureOf t m .mem) ≡ 0
   pub state : State

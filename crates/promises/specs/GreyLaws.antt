@@ -25,7 +25,7 @@ use Rattle.promises.specs.ReachedLaws.{ending, Last, last, reached-befor
 use Rattle.promises.specs.Stops.{macroblocks}
 use Rattle.promises.specs.Places.{Plane, luma, blue, red, planeOf, planeSide, sampleOf, modeByte, strengthByte}
 use Rattle.promises.specs.KeptLaws.{Sound, sound, Keeps, keeps-sample, keeps-mode, keeps-strength, live-reached, reached-keeps, rest-keeps}
-use Rattle.promises.specs.Grey.{Inside, Made, done, FinishedOrGrey}
+use Rattle.promises.specs.Grey.{InPlane, Made, done, FinishedOrGrey}
 
 -- ---- places
 -- a sample lies outside every macroblock but its own
@@ -60,7 +60,7 @@ module _ (t : Call) (m : Memory) (z : Sound (picturedOf t) (begunOf t m)) where
   blank-plane blue = refl
   blank-plane red = refl
 
-  blank-sample : (a : Plane) (c r : ℕ) → Inside t a c r → sampleOf (t .tile .width / 16) a c r (begunOf t m .mem) ≡ 128
+  blank-sample : (a : Plane) (c r : ℕ) → InPlane t a c r → sampleOf (t .tile .width / 16) a c r (begunOf t m .mem) ≡ 128
   blank-sample a c r h =
       ap (λ (p : List ℕ). getD p (r * (t .tile .width / 16 * planeSide a) + c) 0) (blank-plane a)
       ∙ getD-replicate (length (planeOf a m)) (r * (t .tile .width / 16 * planeSide a) + c) 128 0

@@ -57,12 +57,12 @@ written-what-was-read bytes out start len b e =
     }
 
 -- ---- the frame that is found lies inside the bytes, and at most a pad byte stands behind it
-pub record Inside (bytes : List ℕ) (start len : ℕ) : Type 0 where
+pub record FrameInside (bytes : List ℕ) (start len : ℕ) : Type 0 where
   pub first : start ≡ 20
   pub ends : start + len ≤ length bytes
   pub pad : length bytes ≤ start + len + 1
 
-pub found-inside : (bytes : List ℕ) (start len : ℕ) → findOf bytes ≡ F.At start len → Inside bytes start len
+pub found-inside : (bytes : List ℕ) (start len : ℕ) → findOf bytes ≡ F.At start len → FrameInside bytes start len
 found-inside bytes start len e =
     let p = found bytes e in
     record { first = p .first; ends = omega (arith, p .first, p .size, p .fits .ends); pad = omega (arith, p .first, p .size, p .fits .ends) }

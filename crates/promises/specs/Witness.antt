@@ -58,8 +58,8 @@ abbrev pub witnessBytes : ℕ → List ℕ
 witnessBytes x = shared ++ tokensOf x
 
 -- a header of zeros
-abbrev pub header : List ℤ
-header = replicate 1096 (pos 0)
+abbrev pub witnessHeader : List ℤ
+witnessHeader = replicate 1096 (pos 0)
 
 -- where the two token partitions lie
 abbrev pub spans : List Span
@@ -69,7 +69,7 @@ spans = record { start = 32; len = 32 } ∷ record { start = 64; len = 32 } ∷ 
 abbrev pub witnessTile : ℕ → Call
 witnessTile x = callOf (witnessBytes x)
     (record { first = record { start = 0; len = 32 }; tokens = spans; reader = firstReader (replicate 32 0); count = 2; width = 16; height = 32 })
-    header
+    witnessHeader
 
 -- memory of the right lengths that holds x everywhere
 abbrev pub heldOf : ℕ → Memory
@@ -92,7 +92,7 @@ bytes-fine x h i = ⊎-elim
     later zero = h
     later (suc j) = rw (getD-constant {A = ℕ} 31 j 0) (omega arith)
 
-bounded : Bounded header
+bounded : Bounded witnessHeader
 bounded = record { at = λ i. rw (getD-constant 1096 i (pos 0)) (record { low = of-le (omega arith); high = of-le (omega arith) }) }
 
 fine : (x y : ℕ) → Fine (witnessTile x) (heldOf y)
@@ -174,11 +174,11 @@ unfolding build upTo clampZ placed copied wrapZ announcedOf frameOf segmentedOf 
 computed = (refl, refl, refl, refl, refl, refl)
 
 -- both tiles are finished: two macroblocks each, number 0
-pub record Whole : Type 0 where
+pub record BothWhole : Type 0 where
   pub first : (number (witnessTile 0) (heldOf 7) ≡ 0) × (valuesOf (pictureOf (witnessTile 0) (heldOf 7) .answer) ≡ 2)
   pub second : (number (witnessTile 128) (heldOf 9) ≡ 0) × (valuesOf (pictureOf (witnessTile 128) (heldOf 9) .answer) ≡ 2)
 
-pub both-whole : Whole
+pub both-whole : BothWhole
 both-whole = record {
   first = (ap (λ (E : Ended). numberOf (E .answer)) (picture-is 0 7) ∙ computed .0, ap (λ (E : Ended). valuesOf (E .answer)) (picture-is 0 7) ∙ computed .1);
   second = (ap (λ (E : Ended). numberOf (E .answer)) (picture-is 128 9) ∙ computed .3, ap (λ (E : Ended). valuesOf (E .answer)) (picture-is 128 9) ∙ computed .4);

@@ -28,9 +28,9 @@ wanted [] = []
 wanted (r ∷ rs) = r .must ∷ wanted rs
 
 -- samples as numbers with a sign
-abbrev signed : List ℕ → List ℤ
-signed [] = []
-signed (x ∷ xs) = pos x ∷ signed xs
+abbrev asSigned : List ℕ → List ℤ
+asSigned [] = []
+asSigned (x ∷ xs) = pos x ∷ asSigned xs
 
 -- a block whose first coefficient alone is not 0, and sixteen samples that are all one value
 abbrev dc : ℤ → List ℤ
@@ -50,7 +50,7 @@ flat = 100 ∷ 100 ∷ 100 ∷ 100 ∷ 110 ∷ 110 ∷ 110 ∷ 110 ∷ []
 
 -- what the kernel makes of them, inner number and threshold 0
 abbrev edge : Bool → Bool → ℕ → List ℤ
-edge simple macroblock limit = signed (filterOf flat simple macroblock limit 0 0)
+edge simple macroblock limit = asSigned (filterOf flat simple macroblock limit 0 0)
 
 -- THE TABLE
 abbrev pub table : List Row
@@ -75,13 +75,13 @@ table =
     ∷ record { gives = product false 2048 32; must = pos 0 ∷ [] }
     ∷ record { gives = product false 2114 157; must = pos 4218 ∷ [] }
     -- an edge between 100 and 110, inner 0, threshold 0: limit 24 changes nothing
-    ∷ record { gives = edge false true 24; must = signed flat }
-    ∷ record { gives = edge false false 24; must = signed flat }
-    ∷ record { gives = edge true false 24; must = signed flat }
+    ∷ record { gives = edge false true 24; must = asSigned flat }
+    ∷ record { gives = edge false false 24; must = asSigned flat }
+    ∷ record { gives = edge true false 24; must = asSigned flat }
     -- limit 25: a macroblock edge, an inner edge, the simple kind
-    ∷ record { gives = edge false true 25; must = signed (100 ∷ 101 ∷ 103 ∷ 104 ∷ 106 ∷ 107 ∷ 109 ∷ 110 ∷ []) }
-    ∷ record { gives = edge false false 25; must = signed (100 ∷ 100 ∷ 102 ∷ 104 ∷ 106 ∷ 108 ∷ 110 ∷ 110 ∷ []) }
-    ∷ record { gives = edge true false 25; must = signed (100 ∷ 100 ∷ 100 ∷ 102 ∷ 107 ∷ 110 ∷ 110 ∷ 110 ∷ []) }
+    ∷ record { gives = edge false true 25; must = asSigned (100 ∷ 101 ∷ 103 ∷ 104 ∷ 106 ∷ 107 ∷ 109 ∷ 110 ∷ []) }
+    ∷ record { gives = edge false false 25; must = asSigned (100 ∷ 100 ∷ 102 ∷ 104 ∷ 106 ∷ 108 ∷ 110 ∷ 110 ∷ []) }
+    ∷ record { gives = edge true false 25; must = asSigned (100 ∷ 100 ∷ 100 ∷ 102 ∷ 107 ∷ 110 ∷ 110 ∷ 110 ∷ []) }
     ∷ []
 
 pub worked : given table ≡ wanted table

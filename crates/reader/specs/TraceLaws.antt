@@ -10,7 +10,7 @@ use Rattle.reader.specs.Boolean.{Given, given, missing, symbolOf}
 use Rattle.reader.specs.BooleanLaws.{Bytes, Valid}
 use Rattle.reader.specs.Reading.{Reading, done, ask, _>>=_, run, Within, ends, asks}
 use Rattle.reader.specs.ReadingLaws.{never-both, run-done, run-missing, run-got}
-use Rattle.reader.specs.Trace.{Coded, trace, count, Follows, stop, take, Answers, none, more}
+use Rattle.reader.specs.Trace.{CodedSymbol, trace, count, Follows, stop, take, Answers, none, more}
 
 -- ---- one question
 pub trace-done : {A : Type 0} (a : A) (s : List ℕ) (r : Reader) → trace (done a) s r ≡ []
@@ -36,8 +36,8 @@ module _ {A B : Type 0} (f : A → Reading B) (s : List ℕ) where
       go ih missing g = absurd (never-both e (run-missing p k s r g))
       go ih (given b q) g =
           trace-got p (λ b. k b >>= f) s r b q g
-          ∙ ap (λ (l : List Coded). record { prob = p; bit = b } ∷ l) (ih b q (sym (run-got p k s r b q g) ∙ e))
-          ∙ ap (λ (l : List Coded). l ++ trace (f a) s r2) (sym (trace-got p k s r b q g))
+          ∙ ap (λ (l : List CodedSymbol). record { prob = p; bit = b } ∷ l) (ih b q (sym (run-got p k s r b q g) ∙ e))
+          ∙ ap (λ (l : List CodedSymbol). l ++ trace (f a) s r2) (sym (trace-got p k s r b q g))
 
   pub trace-stops : (m : Reading A) (r : Reader) → run m s r ≡ missing → trace (m >>= f) s r ≡ trace m s r
   unfolding run trace
@@ -48,7 +48,7 @@ module _ {A B : Type 0} (f : A → Reading B) (s : List ℕ) where
       go ih missing g = trace-missing p (λ b. k b >>= f) s r g ∙ sym (trace-missing p k s r g)
       go ih (given b q) g =
           trace-got p (λ b. k b >>= f) s r b q g
-          ∙ ap (λ (l : List Coded). record { prob = p; bit = b } ∷ l) (ih b q (sym (run-got p k s r b q g) ∙ e))
+          ∙ ap (λ (l : List CodedSymbol). record { prob = p; bit = b } ∷ l) (ih b q (sym (run-got p k s r b q g) ∙ e))
           ∙ sym (trace-got p k s r b q g)
 
 -- ---- M-103: no run reads more symbols than the grammar's depth
@@ -95,14 +95,14 @@ unfolding count
 count-within s r h = trace-within s r h
 
 -- ---- a probability that a grammar asks is a byte
-pub data Each (P : Coded → Type 0) : List Coded → Type 0 where
+pub data Each (P : CodedSymbol → Type 0) : List CodedSymbol → Type 0 where
   nil : Each P []
-  cons : {q : Coded} {qs : List Coded} → P q → Each P qs → Each P (q ∷ qs)
+  cons : {q : CodedSymbol} {qs : List CodedSymbol} → P q → Each P qs → Each P (q ∷ qs)
 
-abbrev pub Byte : Coded → Type 0
+abbrev pub Byte : CodedSymbol → Type 0
 Byte q = q .prob < 256
 
-pub each-append : {P : Coded → Type 0} {xs ys : List Coded} → Each P xs → Each P ys → Each P (xs ++ ys)
+pub each-append : {P : CodedSymbol → Type 0} {xs ys : List CodedSymbol} → Each P xs → Each P ys → Each P (xs ++ ys)
 each-append nil h = h
 each-append (cons p g) h = cons p (each-append g h)
 
@@ -115,15 +115,15 @@ trace-bytes s r (asks {n} {p} {k} h f) = go (λ b q. trace-bytes s q (f b)) (sym
     go ih (given b q) g = rw (trace-got p k s r b q g) (cons h (ih b q))
 
 -- ---- M-112: a list that the grammar follows and the reader answers IS the run
-pub run-of : {A : Type 0} {m : Reading A} {qs : List Coded} {s : List ℕ} {r : Reader} {a : A} {r2 : Reader} → Follows m qs a → Answers s r qs r2 → run m s r ≡ given a r2
+pub run-of : {A : Type 0} {m : Reading A} {qs : List CodedSymbol} {s : List ℕ} {r : Reader} {a : A} {r2 : Reader} → Follows m qs a → Answers s r qs r2 → run m s r ≡ given a r2
 unfolding run
 run-of stop none = refl
 run-of {s} {r} (take {p} {k} b f) (more {t} e h) = run-got p k s r b t e ∙ run-of f h
 
-pub trace-of : {A : Type 0} {m : Reading A} {qs : List Coded} {s : List ℕ} {r : Reader} {a : A} {r2 : Reader} → Follows m qs a → Answers s r qs r2 → trace m s r ≡ qs
+pub trace-of : {A : Type 0} {m : Reading A} {qs : List CodedSymbol} {s : List ℕ} {r : Reader} {a : A} {r2 : Reader} → Follows m qs a → Answers s r qs r2 → trace m s r ≡ qs
 unfolding trace
 trace-of stop none = refl
-trace-of {s} {r} (take {p} {k} b {qs} f) (more {t} e h) = trace-got p k s r b t e ∙ ap (λ (l : List Coded). record { prob = p; bit = b } ∷ l) (trace-of f h)
+trace-of {s} {r} (take {p} {k} b {qs} f) (more {t} e h) = trace-got p k s r b t e ∙ ap (λ (l : List CodedSymbol). record { prob = p; bit = b } ∷ l) (trace-of f h)
 
 -- a run that gives a value follows its trace, and its reader answers it
 pub trace-follows : {A : Type 0} (m : Reading A) (s : List ℕ) (r : Reader) {a : A} {r2 : Reader} → run m s r ≡ given a r2 → Follows m (trace m s r) a × Answers s r (trace m s r) r2
@@ -146,11 +146,11 @@ module _ {A : Type 0} (m : Reading A) (s : List ℕ) (r : Reader) {a : A} {r2 : 
   retraced = trace-of (trace-follows m s r e .0) h
 
 -- ---- several parts, one after the other in one partition
-pub record Parted (s : List ℕ) (r : Reader) (xs ys : List Coded) (r2 : Reader) : Type 0 where
+pub record Parted (s : List ℕ) (r : Reader) (xs ys : List CodedSymbol) (r2 : Reader) : Type 0 where
   pub middle : Reader
   pub before : Answers s r xs middle
   pub after : Answers s middle ys r2
 
-pub answers-part : {s : List ℕ} {r : Reader} (xs : List Coded) {ys : List Coded} {r2 : Reader} → Answers s r (xs ++ ys) r2 → Parted s r xs ys r2
+pub answers-part : {s : List ℕ} {r : Reader} (xs : List CodedSymbol) {ys : List CodedSymbol} {r2 : Reader} → Answers s r (xs ++ ys) r2 → Parted s r xs ys r2
 answers-part {r} [] h = record { middle = r; before = none; after = h }
 answers-part (x ∷ xs) (more e h) = let p = answers-part xs h in record { middle = p .middle; before = more e (p .before); after = p .after }

@@ -20,7 +20,7 @@ use Rattle.reader.specs.BooleanLaws.{Bytes, Valid}
 use Rattle.reader.specs.Reading.{Reading, done, _>>=_}
 use Rattle.reader.specs.declared.boolean.Reader.{Reader}
 use Rattle.header.specs.declared.quantizers.Factors.{Factors}
-use Rattle.coefficients.specs.Fast.{Coded, roomOf}
+use Rattle.coefficients.specs.Fast.{BlockCoded, roomOf}
 use Rattle.coefficients.specs.BlockLaws.{block-within}
 use Rattle.coefficients.specs.Block.{Coefficients, block}
 use Rattle.coefficients.specs.declared.fast.WideBlock.{WideBlock}
@@ -31,7 +31,7 @@ use Rattle.wide.specs.Counted.{counted}
 use Rattle.wide.specs.CountedLaws.{within-counted}
 use Rattle.wide.specs.Padded.{runPadded}
 use Rattle.wide.specs.PaddedLaws.{padded-within}
-use Rattle.wide.specs.Wide.{widenOf, insideOf, narrowOf}
+use Rattle.wide.specs.Wide.{widenOf, eightInside, narrowOf}
 use Rattle.wide.specs.WideLaws.{Sim}
 use Rattle.wide.specs.WideRuns.{WideReads, Gave, Going, going-start, going-as, going-weaken, going-counted, going-next, going-told, wide-counted}
 use Rattle.wide.specs.declared.wide.Wide.{Wide}
@@ -207,7 +207,7 @@ module _ (table : List ℕ) (f : Factors) (small : Bool) (m : Wider) (flat one :
 -- THE LAW of a part
 module _ (s table : List ℕ) (f : Factors) (small : Bool) (m : Wider) (j : ℕ) (flat one new : List ℤ) (b : WideBlock) (y : Bytes table) (h : Ready table m j flat) where
   pub part-read : {k : Kind} {p : FlagsAt} {ctx : ℕ} {top left : List ℕ} {empty : Bool} → k ≡ kindAt f small j → p ≡ placeAt j → ctx ≡ getD (m .top) (p .x) 0 + getD (m .left) (p .y) 0
-      → Coded s (m .next) (block table (k .kind) (k .q0) (k .q1) ctx (k .first)) (16 * j) flat one b → b .reads ≤ 304 → new ≡ settledOf j one → empty ≡ emptyAfter j (b .end) (m .empty) one
+      → BlockCoded s (m .next) (block table (k .kind) (k .q0) (k .q1) ctx (k .first)) (16 * j) flat one b → b .reads ≤ 304 → new ≡ settledOf j one → empty ≡ emptyAfter j (b .end) (m .empty) one
       → top ≡ set (m .top) (p .x) (bitOf (ltb (k .first) (b .end))) → left ≡ set (m .left) (p .y) (bitOf (ltb (k .first) (b .end)))
       → Parted s table f small m j flat (record { next = b .next; reads = m .reads + b .reads; top = top; left = left; empty = empty }) new
   part-read {k} {p} {ctx} {top} {left} {empty} ek ep ec c few en ee et el =
@@ -227,7 +227,7 @@ module _ (s table : List ℕ) (f : Factors) (small : Bool) (m : Wider) (j : ℕ)
         };
       }
     where
-      d : Coded s (m .next) (coded table (kindAt f small j) (placeAt j) (m .top) (m .left)) (16 * j) flat one b
+      d : BlockCoded s (m .next) (coded table (kindAt f small j) (placeAt j) (m .top) (m .left)) (16 * j) flat one b
       d = rw (ek, ec, ep) at c
 
       long : length one ≡ 400
@@ -298,7 +298,7 @@ parting-start s table f small m {flat} {j} e n z t l k i =
 
 -- ---- THE LAW of the macroblock: where its end was not passed
 pub quick-fine : (s : List ℕ) (r : Reader) (table : List ℕ) (f : Factors) (small : Bool) (top left : List ℕ) (old : List ℤ) (m : Wider) (flat : List ℤ) {start : Wide} → Bytes s → Valid s r → length s < 2 ^ 63 → start ≡ widenOf r
-    → WideReads s 0 30400 (counted 0 (residualOf table f small false top left)) start (modelAt m flat, m .reads) (m .next) → insideOf s (m .next) ≡ true → {x : Reader} → x ≡ narrowOf s (m .next)
+    → WideReads s 0 30400 (counted 0 (residualOf table f small false top left)) start (modelAt m flat, m .reads) (m .next) → eightInside s (m .next) ≡ true → {x : Reader} → x ≡ narrowOf s (m .next)
     → length flat ≡ 400 → {new : List ℤ} → new ≡ take 384 (drop 16 flat)
     → QuickWhere true s r table f small top left old new (record { fine = true; read = record { residual = record { answer = E.Done x (m .empty); top = m .top; left = m .left }; reads = m .reads } })
 quick-fine s r table f small top left old m flat y v n w h i {x} e l {new} k =

@@ -83,8 +83,8 @@ unfoldable pub widenOf : Reader → Wide
 widenOf r = record { at = r .at; value = r .window * 2 ^ 48 % 2 ^ 64; top = less32 (r .range) 1; count = 16 - r .shifts % 8 }
 
 -- whether the next eight bits lie in s
-unfoldable pub insideOf : List ℕ → Wide → Bool
-insideOf s w = ltb (w .at) (length s + w .count / 8)
+unfoldable pub eightInside : List ℕ → Wide → Bool
+eightInside s w = ltb (w .at) (length s + w .count / 8)
 
 -- how many bytes the reader of sixteen bits is behind: those loaded, a begun one counted whole
 abbrev pub backOf : ℕ → ℕ

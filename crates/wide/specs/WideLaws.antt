@@ -21,7 +21,7 @@ use Rattle.reader.specs.BooleanLaws.{Bytes, Valid, grow-stop, grow-shift, grow-
 use Rattle.wide.specs.Padded.{paddedBit, paddedNext}
 use mir.Val.{boolByte}
 use Rattle.numbers.specs.Flags.{bitOf}
-use Rattle.wide.specs.Wide.{fourOf, moreOf, fillOf, lowOf, onOf, rangeOf, takenOff, liftedOf, wideBitOf, oddOf, doubledOf, halfOf, widenOf, insideOf, backOf, shiftsOf, narrowOf, less32, less64}
+use Rattle.wide.specs.Wide.{fourOf, moreOf, fillOf, lowOf, onOf, rangeOf, takenOff, liftedOf, wideBitOf, oddOf, doubledOf, halfOf, widenOf, eightInside, backOf, shiftsOf, narrowOf, less32, less64}
 
 -- ---- a number and the n bytes from `at` on behind it
 unfoldable pub ahead : List ℕ → ℕ → ℕ → ℕ → ℕ
@@ -397,8 +397,8 @@ module _ (s : List ℕ) (w : Wide) (r : Reader) (m : Sim s w r) where
       (λ i. record { at = ea i; range = er i; shifts = shifts-is i; window = ew i })
 
   -- whether the next eight bits lie in s
-  pub sim-inside : insideOf s w ≡ decidedOf s r
-  unfolding insideOf decidedOf
+  pub sim-inside : eightInside s w ≡ decidedOf s r
+  unfolding eightInside decidedOf
   sim-inside =
       ⊎-elim
       (λ l. lt-ltb _ _ l ∙ sym (le-leb (8 * (r .at - 2) + r .shifts + 8) (8 * length s) (omega (arith, m .place, m .placed, m .tied .few))))

@@ -26,7 +26,7 @@ use Rattle.wide.specs.Counted.{counted, Costs}
 use Rattle.wide.specs.CountedLaws.{Ran, counted-run, counted-then, counted-next, counted-costs}
 use Rattle.wide.specs.Padded.{paddedBit, paddedNext, runPadded}
 use Rattle.wide.specs.PaddedLaws.{padded-then, padded-inside, fresh-next, fresh-run}
-use Rattle.wide.specs.Wide.{fillOf, wideBitOf, halfOf, widenOf, insideOf, narrowOf}
+use Rattle.wide.specs.Wide.{fillOf, wideBitOf, halfOf, widenOf, eightInside, narrowOf}
 use Rattle.wide.specs.WideLaws.{Sim, half-is, sim-widen, sim-fill, sim-bit, sim-inside, sim-narrow}
 
 -- what a reader that w stands for ends with: the grammar's value, and q stands for the reader after it, at most at `lim`
@@ -235,7 +235,7 @@ pub taking-end : {s ps : List ℕ} {start w : Wide} {v i : ℕ} → Taking s ps 
 taking-end {ps} {v} {i} t h r m k f = going-done (going-as (extra-ends ps v i h) (t .going r m f)) refl
 
 -- ---- THE LAWS for callers: widen a reader in range, read, look once whether the end was passed, and go back
-pub wide-run : {A : Type 0} (s : List ℕ) (r : Reader) (g : Reading A) (n : ℕ) {a : A} {q : Wide} → Bytes s → Valid s r → r .at + n + 4 < 2 ^ 64 → WideReads s 0 n g (widenOf r) a q → insideOf s q ≡ true → run g s r ≡ given a (narrowOf s q)
+pub wide-run : {A : Type 0} (s : List ℕ) (r : Reader) (g : Reading A) (n : ℕ) {a : A} {q : Wide} → Bytes s → Valid s r → r .at + n + 4 < 2 ^ 64 → WideReads s 0 n g (widenOf r) a q → eightInside s q ≡ true → run g s r ≡ given a (narrowOf s q)
 unfolding widenOf
 wide-run s r g n {a} {q} y v f h e =
     let m = h r (sim-widen s r v) (omega arith) (omega arith) in
@@ -244,5 +244,5 @@ wide-run s r g n {a} {q} y v f h e =
     ∙ (λ i. given (sym (m .value) i) (sym z i))
 
 -- with the count of M-103
-pub wide-counted : {A : Type 0} (s : List ℕ) (r : Reader) (g : Reading A) (n : ℕ) {a : A} {c : ℕ} {q : Wide} → Bytes s → Valid s r → r .at + n + 4 < 2 ^ 64 → WideReads s 0 n (counted 0 g) (widenOf r) (a, c) q → insideOf s q ≡ true → Ran g s r a c (narrowOf s q)
+pub wide-counted : {A : Type 0} (s : List ℕ) (r : Reader) (g : Reading A) (n : ℕ) {a : A} {c : ℕ} {q : Wide} → Bytes s → Valid s r → r .at + n + 4 < 2 ^ 64 → WideReads s 0 n (counted 0 g) (widenOf r) (a, c) q → eightInside s q ≡ true → Ran g s r a c (narrowOf s q)
 wide-counted s r g n y v f h e = counted-run g s r (wide-run s r (counted 0 g) n y v f h e)

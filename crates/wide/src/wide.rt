@@ -9,7 +9,7 @@ ghost use mathlib.Core.Bool.{Bool, true, false};
 ghost use Prim.Native.Nat.{_<_, _≤_, _+_, _-_, _*_, _/_, _%_, _^_};
 ghost use lib.ListN.{length, getD};
 ghost use lib.Count.{leadingZeros};
-ghost use Rattle.wide.specs.Wide.{fourOf, fillOf, lowOf, rangeOf, takenOff, liftedOf, wideBitOf, oddOf, doubledOf, halfOf, widenOf, insideOf, backOf, narrowOf};
+ghost use Rattle.wide.specs.Wide.{fourOf, fillOf, lowOf, rangeOf, takenOff, liftedOf, wideBitOf, oddOf, doubledOf, halfOf, widenOf, eightInside, backOf, narrowOf};
 
 // `at` is the next byte's place; `value` the loaded bits from the top on, less what was subtracted; `top` the range less one; `count` how
 // many bits are loaded.
@@ -235,7 +235,7 @@ pub fn widen(r: Reader) -> Wide
 
 // Whether the eight bits after those lie in s.
 pub fn inside(s: &[u8], w: Wide) -> bool
-    ensures { λ b. ⌜ b ≡ insideOf (now (s .entry)) w ⌝ }
+    ensures { λ b. ⌜ b ≡ eightInside (now (s .entry)) w ⌝ }
 {
     w.at < s.len() + (w.count / 8) as usize
 }

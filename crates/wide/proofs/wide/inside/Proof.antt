@@ -1,5 +1,5 @@
 use mathlib.Core.Path.{refl}
-use Rattle.wide.specs.Wide.{insideOf}
+use Rattle.wide.specs.Wide.{eightInside}
 use borrow.Author.Needs.{needs}
 use Rattle.wide.proofs.wide.inside.Statement.{statement}
 use Rattle.wide.proofs.wide.inside.Tie as tie
@@ -11,7 +11,7 @@ add-result : tie.Need-add-result
 add-result c = search needs
 
 returns : tie.Need-returns
-unfolding insideOf
+unfolding eightInside
 returns c = refl
 
 pub inside-spec : {M : Type 1} → statement M
