@@ -15,7 +15,7 @@ use Rattle.header.specs.Header.{presentOf, probabilityOf, presentAt, probabilit
 use Rattle.reader.specs.Token.{tokenAnswer}
 use Rattle.reader.specs.Trees.{walkAnswer}
 use Rattle.reader.specs.declared.boolean.Reader.{Reader}
-use Rattle.wide.specs.Wide.{fillOf, wideBitOf, widenOf, eightInside, narrowOf}
+use Rattle.wide.specs.Wide.{fillOf, wideBitOf, halfOf, widenOf, eightInside, narrowOf}
 use Rattle.wide.specs.declared.wide.Wide.{Wide}
 use Rattle.header.specs.Levels.{levelAnswer}
 use Rattle.header.specs.Quantizers.{quantizersOf}
@@ -148,6 +148,10 @@ wide-bit self prob = determined (wideBitOf self prob)
 -- wide::wide::Wide::even
 pub wide-even : (self : Wide) (prob : ℕ) → One (λ o. o ≡ wideBitOf self prob)
 wide-even self prob = determined (wideBitOf self prob)
+
+-- wide::wide::Wide::half
+pub wide-half : (self : Wide) → One (λ o. o ≡ halfOf self)
+wide-half self = determined (halfOf self)
 
 -- wide::wide::widen
 pub wide-widen : (r : Reader) → One (λ o. o ≡ widenOf r)
