@@ -2,7 +2,8 @@
 # No product of the transforms leaves 32 bits: tests/outside/products.sh [ARCHIVE]. Reads the machine code of the functions of
 # crate `transform` in the archive and fails where one multiplies 64 bits, calls a routine that does, or where none is found.
 # A multiplication of 64 bits names a 64-bit register (%rax, %r8, not %eax, %r8d) outside an address, or ends in q; an `lea` is an
-# address or a sum and no multiplication. The vector forms that give products of 64 bits count too.
+# address or a sum and no multiplication. The vector forms that give products of 64 bits count too; they are looked for in crate `planes`
+# as well, into whose `paint` the compiler draws the transform of a whole square (there, 64 bits beside no vector are places in a plane).
 set -u
 cd "$(dirname "$0")/../.." || exit 1
 ARCHIVE=${1:-${ARCHIVE:-}}
@@ -41,4 +42,11 @@ if grep -E "$wide" $out/products.txt >&2; then
     echo "a product of the transform has 64 bits" >&2
     exit 1
 fi
-echo "$products products in $functions functions, none of 64 bits"
+# That of a square, eight blocks at once.
+"$dump" -d -C --no-show-raw-insn "$ARCHIVE" 2>/dev/null | awk '/^[0-9a-f]+ <.*>:$/ { on = /<planes::/ } on { print }' | grep -E '\sv?pmul' >$out/square.txt
+together=$(grep -cE 'pmulhw\s' $out/square.txt)
+if [ "$together" -eq 0 ] || grep -E 'pmul(u?dq|lq)\s' $out/square.txt >&2; then
+    echo "the products of a square: $together of sixteen bits together, or one of 64 bits" >&2
+    exit 1
+fi
+echo "$products products in $functions functions, none of 64 bits; $together of eight together, of sixteen bits"
