@@ -26,7 +26,8 @@ ghost use Rattle.reader.specs.BooleanLaws.{Valid};
 ghost use Rattle.reader.specs.Reading.{run};
 ghost use Rattle.reader.specs.Extra.{toNumber};
 ghost use Rattle.coefficients.specs.Block.{category, signOf, bands, zigzag, probabilityPlace, quantizerAt, contextAfter, magnitudeOf};
-ghost use Rattle.coefficients.specs.Block.{signedOf, numericOf, numberAnswer, signedAnswer, blockOf, sixteenBits, blockArguments, blockCallOf};
+ghost use Rattle.coefficients.specs.Block.{signedOf, numericOf, numberAnswer, signedAnswer, blockOf, sixteenBits};
+ghost use Rattle.coefficients.specs.Block.{blockArguments, blockCallOf};
 ghost use Rattle.coefficients.specs.Block.{blockByHeaderOf, tableOf, block, blockReads, blockByHeaderReads};
 ghost use Rattle.coefficients.specs.CountSteps.{costs, countGiven};
 

@@ -260,7 +260,8 @@ fn read_block(
 ) -> WideBlock
     requires { ⌜ (length (now table) ≡ probabilityCount) × ((kind < 4) × ((ctx < 3) × (first ≤ 1))) ⌝ }
     requires { ⌜ at + 16 ≤ length (now out) ⌝ }
-    ensures { λ q. ⌜ BlockCoded (now (s .entry)) w (block (now (table .entry)) kind q0 q1 ctx first) at (now (out .entry)) (now (out .exit)) q
+    ensures { λ q. ⌜ BlockCoded (now (s .entry)) w (block (now (table .entry)) kind q0 q1 ctx first) at
+        (now (out .entry)) (now (out .exit)) q
         × (q .reads ≤ 304) ⌝ }
 {
     let bases = BAND_PLACES;

@@ -60,8 +60,9 @@ fn category(s: &[u8], w: Wide, table: &[u8], at: usize) -> Walked
 // From node 3: two to four, and the categories.
 pub(crate) fn above(s: &[u8], w: Wide, table: &[u8], at: usize) -> Walked
     requires { ⌜ at + 11 ≤ length (now table) ⌝ }
-    ensures { λ q. ⌜ ((m : ℕ) → WideReads (now (s .entry)) 0 4 (walk (suc (suc (suc (suc m)))) (elevenAt (now (table .entry)) at) tokenTree 3) w
-        (q .token) (q .next)) × ((3 ≤ q .token) × (q .token < 12)) ⌝ }
+    ensures { λ q. ⌜ ((m : ℕ)
+        → WideReads (now (s .entry)) 0 4 (walk (suc (suc (suc (suc m)))) (elevenAt (now (table .entry)) at) tokenTree 3)
+        w (q .token) (q .next)) × ((3 ≤ q .token) × (q .token < 12)) ⌝ }
 {
     let v = w.fill(s);
     let a = v.bit(table[at + 3]);

@@ -211,7 +211,8 @@ fn with_tokens(
         (macroblockOf (m .kinds) (m .modes)) (m .next)
         (planesOf (now (y .entry)) (now (u .entry)) (now (v .entry))))
         × (q .reads ≡ readsMade (m .reads)
-        (macroblockTokenReads (now (tokens .entry)) t frame (now (table .entry)) around (given (macroblockOf (m .kinds) (m .modes)) (m .next)))) ⌝ }
+        (macroblockTokenReads (now (tokens .entry)) t frame (now (table .entry)) around
+        (given (macroblockOf (m .kinds) (m .modes)) (m .next)))) ⌝ }
 {
     let kinds = m.kinds;
     let modes = m.modes;

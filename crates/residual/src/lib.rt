@@ -15,7 +15,8 @@ ghost use lib.ListN.{length};
 ghost use Rattle.header.specs.Entries.{probabilityCount};
 ghost use Rattle.reader.specs.BooleanLaws.{Valid};
 ghost use Rattle.reader.specs.Trace.{count};
-ghost use Rattle.residual.specs.Residual.{Flags, noResidual, residualArguments, residualOf, residualAnswer, residualCallOf, residualByHeaderOf};
+ghost use Rattle.residual.specs.Residual.{Flags, noResidual, residualArguments, residualOf, residualAnswer};
+ghost use Rattle.residual.specs.Residual.{residualCallOf, residualByHeaderOf};
 ghost use Rattle.residual.specs.Residual.{residualReads, residualByHeaderReads};
 
 mod blocks;

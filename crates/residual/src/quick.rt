@@ -35,7 +35,8 @@ ghost use Rattle.residual.specs.Residual.{Flags, sixteenAt, residualOf};
 ghost use Rattle.residual.specs.Quick.{widerOf, modelAt, kindAt, placeAt, settledOf, emptyAfter, QuickWhere};
 ghost use Rattle.residual.specs.QuickLaws.{Ready, Parted};
 
-// What goes from block to block. The flags stand beside it, and the numbers: sixteen of the second-order block, then the 384 of the macroblock.
+// What goes from block to block. The flags stand beside it, and the numbers: sixteen of the second-order block, then the 384 of the
+// macroblock.
 pub(crate) struct Passing {
     pub next: Wide,
     pub reads: u64,
@@ -151,7 +152,8 @@ fn parts(
     requires { ⌜ (Flags (now top) × Flags (now left)) × ((start .reads ≡ 0) × (start .empty ≡ true)) ⌝ }
     ensures { λ q. ⌜ WideReads (now (s .entry)) 0 30400
         (counted 0 (residualOf (now (table .entry)) f small false (now (top .entry)) (now (left .entry)))) (start .next)
-        (modelAt (widerOf q (now (top .exit)) (now (left .exit))) (now (flat .exit)), q .reads) (q .next) × (length (now (flat .exit)) ≡ 400) ⌝ }
+        (modelAt (widerOf q (now (top .exit)) (now (left .exit))) (now (flat .exit)), q .reads) (q .next)
+        × (length (now (flat .exit)) ≡ 400) ⌝ }
 {
     let mut m = start;
     let mut j = small as usize;

@@ -1,5 +1,5 @@
-// The residuals of a square of 4 or 16 blocks (RFC 6386, section 14.4), all at once where each coefficient leaves room for sixteen bits. Number
-// k of block i stands at place 16 * k + i, so that the compiler can take eight blocks together.
+// The residuals of a square of 4 or 16 blocks (RFC 6386, section 14.4), all at once where each coefficient leaves room for sixteen bits.
+// Number k of block i stands at place 16 * k + i, so that the compiler can take eight blocks together.
 use crate::samples;
 use crate::short::Short;
 use crate::short::first_pass;
@@ -14,7 +14,8 @@ ghost use Rattle.numbers.specs.In.{Each};
 ghost use Rattle.numbers.specs.Tables.{allBelow};
 ghost use Rattle.transform.specs.Transform.{at, cell, gridOf, resultOf};
 ghost use Rattle.transform.specs.Lanes.{blockOf, laneOf, knownLength, eachFits16, Residuals, residualsOf};
-ghost use Rattle.transform.specs.LanesLaws.{isSmall, cleared, laned, laneRow, coefficientAt, aloneAt, spreadTo, lanesOf, turnedTo, Blocks};
+ghost use Rattle.transform.specs.LanesLaws.{isSmall, cleared, laned, laneRow, coefficientAt, aloneAt, spreadTo, lanesOf};
+ghost use Rattle.transform.specs.LanesLaws.{turnedTo, Blocks};
 
 // Whether so many coefficients are those of 4 or of 16 blocks.
 fn known_length(len: usize) -> bool

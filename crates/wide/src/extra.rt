@@ -21,7 +21,8 @@ fn bit_value(bit: bool) -> u32
 
 // A number of as many bits as there are probabilities, at most sixteen; of more, nothing is read.
 pub fn extra_bits(s: &[u8], w: Wide, probs: &[u8]) -> Numbered
-    ensures { λ q. ⌜ (length (now (probs .entry)) ≤ 16 → WideReads (now (s .entry)) 0 64 (extra (now (probs .entry))) w (q .value) (q .next))
+    ensures { λ q. ⌜ (length (now (probs .entry)) ≤ 16
+        → WideReads (now (s .entry)) 0 64 (extra (now (probs .entry))) w (q .value) (q .next))
         × (q .value < 2 ^ length (now (probs .entry))) ⌝ }
 {
     let mut value: u32 = 0;
