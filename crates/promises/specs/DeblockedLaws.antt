@@ -62,7 +62,7 @@ module _ (t : Call) (m : Memory) (e : Fine t m) (b : Bytes (t .bytes)) where
   abbrev left : Memory
   left = pictureOf t m .mem
 
-  lengths : deblock.Lengths (t .tile .width) (t .tile .height) (length (left .y)) (length (left .u)) (length (left .v)) (length (left .strengths))
+  lengths : deblock.DeblockLengths (t .tile .width) (t .tile .height) (length (left .y)) (length (left .u)) (length (left .v)) (length (left .strengths))
   lengths =
       let s = fine-side t (sizesOf m) e in
       let z = last (ending (picturedOf t) (begunOf t m) (macroblocks t)) in
@@ -208,10 +208,10 @@ module _ (p : ℕ) (t u : Call) (m n : Memory) (a : Alike p t u) (e : Fine t m) 
     filtered-chroma : z ≡ 8 → getD (chroma simple (one .strengths) wide high (planesIn one) P) i 0 ≡ getD (chroma simple (two .strengths) wide high (planesIn two) Q) i 0
     filtered-chroma v = when-local (not simple) _ _ P Q i (rw v at filtered) higher
 
-  long-one : deblock.Lengths (t .tile .width) (t .tile .height) (length (one .y)) (length (one .u)) (length (one .v)) (length (one .strengths))
+  long-one : deblock.DeblockLengths (t .tile .width) (t .tile .height) (length (one .y)) (length (one .u)) (length (one .v)) (length (one .strengths))
   long-one = lengths t m e b
 
-  long-two : deblock.Lengths (u .tile .width) (u .tile .height) (length (two .y)) (length (two .u)) (length (two .v)) (length (two .strengths))
+  long-two : deblock.DeblockLengths (u .tile .width) (u .tile .height) (length (two .y)) (length (two .u)) (length (two .v)) (length (two .strengths))
   long-two = lengths u n f d
 
   parts-same : p ≤ high → (c : Plane) (i : ℕ) → i < (p * planeSide c - 3) * (wide * planeSide c)
