@@ -257,7 +257,8 @@ static void load(const char *name) {
 
 static void damage_all(const struct file *f) {
     static uint8_t s[MOST];
-    for (size_t n = 0; n < f->n; n++) {
+    /* behind the first 4096 bytes a cut falls into tokens, of which the header's call sees the length alone: each seventh */
+    for (size_t n = 0; n < f->n; n += n < 4096 ? 1 : 7) {
         snprintf(where, sizeof where, "%s cut to %zu", f->name, n);
         take(f->bytes, n);
     }
