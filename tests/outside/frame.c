@@ -257,8 +257,8 @@ static void load(const char *name) {
 
 static void damage_all(const struct file *f) {
     static uint8_t s[MOST];
-    /* behind the first 4096 bytes a cut falls into tokens, of which the header's call sees the length alone: each seventh */
-    for (size_t n = 0; n < f->n; n += n < 4096 ? 1 : 7) {
+    /* behind the first partition, which ends below 2048, the header's call sees of a cut the length alone: each 31st */
+    for (size_t n = 0; n < f->n; n += n < 2048 ? 1 : 31) {
         snprintf(where, sizeof where, "%s cut to %zu", f->name, n);
         take(f->bytes, n);
     }
