@@ -17,7 +17,7 @@ use Rattle.header.specs.Entries.{probabilityCount}
 use Rattle.numbers.specs.Flags.{bitOf}
 use Rattle.numbers.specs.Hand.{there}
 use Rattle.numbers.specs.Know.{round}
-use Rattle.numbers.specs.Lists.{length-build, getD-build, built}
+use Rattle.numbers.specs.Lists.{build, length-build, getD-build, built}
 use Rattle.numbers.specs.Parts.{up, dn, of-le, of-eq, add-parts, sub-parts-ℤ, up-times, dn-times}
 use Rattle.numbers.specs.Runs.{length-placed, placed-in, placed-off}
 use Rattle.numbers.specs.Tables.{allBelow, all-below}
@@ -44,7 +44,7 @@ use Rattle.wide.specs.declared.wide.Bit.{Bit}
 use Rattle.wide.specs.declared.wide.Wide.{Wide}
 use Rattle.coefficients.specs.Fast.{sixteenAt, stored, depths, extras, BlockCoded, CodedWhere, roomOf}
 use Rattle.coefficients.specs.BlockLaws.{SixteenBits, magnitude-within}
-use Rattle.coefficients.specs.BlockSteps.{zigzag-below, context-more, arguments-fact}
+use Rattle.coefficients.specs.BlockSteps.{place-below, zigzag-below, context-more, arguments-fact}
 use Rattle.coefficients.specs.Block.{categories, category, magnitude, signOf, signedValue, bands, zigzag, probabilityPlace, probabilitiesAt, quantizerAt, contextAfter, Coefficients, blockFrom, block, blockArguments}
 use Rattle.coefficients.specs.declared.fast.Number.{Number}
 use Rattle.coefficients.specs.declared.fast.WideBlock.{WideBlock}
@@ -119,20 +119,38 @@ unfolding sixteenAt
 length-sixteen l at = length-build 16 _
 
 -- ---- tables that the code has
--- where the probabilities of a position's band stand among those of its kind
-unfoldable pub bandPlaces : List ℕ
-bandPlaces = 0 ∷ 33 ∷ 66 ∷ 99 ∷ 198 ∷ 132 ∷ 165 ∷ 198 ∷ 198 ∷ 198 ∷ 198 ∷ 198 ∷ 198 ∷ 198 ∷ 198 ∷ 231 ∷ []
+-- where the probabilities of the band of the position after each stand among those of its kind; past its end `bands` has 0
+unfoldable pub bandsAfter : List ℕ
+bandsAfter = 33 ∷ 66 ∷ 99 ∷ 198 ∷ 132 ∷ 165 ∷ 198 ∷ 198 ∷ 198 ∷ 198 ∷ 198 ∷ 198 ∷ 198 ∷ 198 ∷ 231 ∷ 0 ∷ []
 
-band-places : allBelow 16 (λ n. eqb (getD bandPlaces n 0) (getD bands n 0 * 33)) ≡ true
-unfolding bandPlaces bands
-band-places = refl
+bands-after : allBelow 16 (λ n. eqb (getD bandsAfter n 0) (getD bands (n + 1) 0 * 33)) ≡ true
+unfolding bandsAfter bands
+bands-after = refl
 
-pub band-place : (n : ℕ) → n < 16 → getD bandPlaces n 0 ≡ getD bands n 0 * 33
-band-place n h = eqb-true _ _ (all-below (λ n. eqb (getD bandPlaces n 0) (getD bands n 0 * 33)) 16 band-places n h)
+-- where the probabilities of the position after each stand, for context 0
+unfoldable pub placesAfter : ℕ → List ℕ
+placesAfter kind = build 16 (λ n. probabilityPlace kind (n + 1) 0)
 
-pub place-is : (kind n ctx : ℕ) {near at : ℕ} → near ≡ ctx * 11 → at ≡ (kind * 8 + getD bands n 0) * 33 + near → at ≡ probabilityPlace kind n ctx
+-- an entry made, an entry read, the place of a first position, and a place for another context
+pub places-after : (kind n : ℕ) → n < 16 → getD bandsAfter n 0 + 264 * kind ≡ probabilityPlace kind (n + 1) 0
 unfolding probabilityPlace
-place-is kind n ctx e f = omega arith
+places-after kind n h =
+    let e : getD bandsAfter n 0 ≡ getD bands (n + 1) 0 * 33 = eqb-true _ _ (all-below (λ n. eqb (getD bandsAfter n 0) (getD bands (n + 1) 0 * 33)) 16 bands-after n h) in
+    omega (arith, e)
+
+pub place-after : (kind n : ℕ) {places : List ℕ} {at : ℕ} → n < 16 → places ≡ placesAfter kind → at ≡ getD places n 0 → at ≡ probabilityPlace kind (n + 1) 0
+unfolding placesAfter
+place-after kind n h e f = f ∙ ap (λ (l : List ℕ). getD l n 0) e ∙ getD-build 16 (λ n. probabilityPlace kind (n + 1) 0) n 0 h
+
+pub place-first : (kind ctx first : ℕ) → first ≤ 1 → kind * 264 + first * 33 + ctx * 11 ≡ probabilityPlace kind first ctx
+unfolding probabilityPlace bands
+place-first kind ctx zero h = omega arith
+place-first kind ctx (suc zero) h = omega arith
+place-first kind ctx (suc (suc n)) h = absurd (omega arith)
+
+pub place-near : (kind n ctx : ℕ) {near at : ℕ} → near ≡ ctx * 11 → at ≡ probabilityPlace kind n 0 → at + near ≡ probabilityPlace kind n ctx
+unfolding probabilityPlace
+place-near kind n ctx e f = omega arith
 
 -- a token's symbols and its extra bits
 unfoldable pub tokenSymbols : List ℕ
@@ -310,13 +328,13 @@ module _ (s table : List ℕ) (kind q0 q1 : ℕ) (values : List ℤ) (E : (Coeff
     zeroed : q .on ≡ false → AtOne n p c w → Going s E lim 18 (76 * (15 - n) + 72) (counted (suc c) (blockFrom table kind q0 q1 (15 - n) (n + 1) 0 true values)) (q .next)
     zeroed v a = going-as (ap (counted (suc c)) (rest-zero table kind q0 q1 (15 - n) n values)) (step-leaf (elevenAt table p) 1 17 (suc (suc (suc (suc (suc (a .fuel)))))) c (restOf table kind q0 q1 (15 - n) n values) y h (eleven-at table p 1 (lit< tt)) (a .going) o v refl)
 
-    one-off : {at : ℕ} {f : Wide} → q .on ≡ false → n + 1 < 16 → at ≡ (kind * 8 + getD bands (n + 1) 0) * 33 + 0 → f ≡ wide.fillOf s (q .next) → AtOne n p c w → AtOne (n + 1) at (suc c) f
+    one-off : {at : ℕ} {f : Wide} → q .on ≡ false → n + 1 < 16 → at ≡ probabilityPlace kind (n + 1) 0 → f ≡ wide.fillOf s (q .next) → AtOne n p c w → AtOne (n + 1) at (suc c) f
     one-off {at} {f} v l e g a =
         let i : 15 - n ≡ suc (15 - (n + 1)) = omega arith in
         let j : blockFrom table kind q0 q1 (15 - n) (n + 1) 0 true values ≡ (walk 32 (elevenAt table at) tokenTree 1 >>= restOf table kind q0 q1 (15 - (n + 1)) (n + 1) values) =
         ap (λ (x : ℕ). blockFrom table kind q0 q1 x (n + 1) 0 true values) i
         ∙ block-asks table kind q0 q1 (15 - (n + 1)) (n + 1) values 0 true
-        ∙ ap (λ (x : ℕ). walk 32 (elevenAt table x) tokenTree 1 >>= restOf table kind q0 q1 (15 - (n + 1)) (n + 1) values) (sym (place-is kind (n + 1) 0 refl e)) in
+        ∙ ap (λ (x : ℕ). walk 32 (elevenAt table x) tokenTree 1 >>= restOf table kind q0 q1 (15 - (n + 1)) (n + 1) values) (sym e) in
         let b = going-weaken 18 (76 * (15 - (n + 1)) + 72 + 4) (going-as (ap (counted (suc c)) j) (zeroed v a)) (omega arith) (omega arith) in
         record { fuel = 26; going = going-weaken 25 (76 * (15 - (n + 1)) + 72) (going-fill (76 * (15 - (n + 1)) + 72) b g) (lit≤ tt) (omega arith) }
 
@@ -375,7 +393,7 @@ module _ (s table : List ℕ) (kind n p : ℕ) (w : Wide) where
           ended = λ q0 q1 values E lim c i a. let e : suc (c + (m - n)) ≡ c + (16 - n) = omega (arith, z .low) in rw e at (one-last s table kind q0 q1 values E lim y h o v k (z .reach q0 q1 values E lim c a));
         }
 
-    pub zeroing-next : {here : ℕ} {f : Wide} → b .on ≡ false → m + 1 < 16 → here ≡ (kind * 8 + getD bands (m + 1) 0) * 33 + 0 → here + 11 ≤ length table → f ≡ wide.fillOf s (b .next) → Zeroing (m + 1) here f
+    pub zeroing-next : {here : ℕ} {f : Wide} → b .on ≡ false → m + 1 < 16 → here ≡ probabilityPlace kind (m + 1) 0 → here + 11 ≤ length table → f ≡ wide.fillOf s (b .next) → Zeroing (m + 1) here f
     zeroing-next {here} {f} v l e i g =
         record {
           low = omega (arith, z .low);
@@ -464,12 +482,12 @@ module _ (s table : List ℕ) (kind q0 q1 : ℕ) (g : Reading Coefficients) (sta
   abbrev Each : (Reader → Type 0) → Type 0
   Each P = (r : Reader) → Sim s start r → start .at + 1216 < 2 ^ 64 → P r
 
-  pub record Blocking (n near reads : ℕ) (w : Wide) (out : List ℤ) : Type 0 where
+  pub record Blocking (n here reads : ℕ) (w : Wide) (out : List ℤ) : Type 0 where
     pub low : first ≤ n
     pub high : n ≤ 16
     pub ctx : ℕ
     pub few : ctx < 3
-    pub place : near ≡ ctx * 11
+    pub place : here ≡ probabilityPlace kind n ctx
     pub most : reads ≤ 18 * (n - first)
     pub values : List ℤ
     pub long : length values ≡ 16
@@ -477,10 +495,14 @@ module _ (s table : List ℕ) (kind q0 q1 : ℕ) (g : Reading Coefficients) (sta
     pub going : Each (λ r. Going s (whole r) (start .at + 1216) 0 (76 * (16 - n)) (counted (reads + (n - first)) (blockFrom table kind q0 q1 (16 - n) n ctx false values)) w)
 
   -- the list is as long as it was
-  pub blocking-long : {n near reads : ℕ} {w : Wide} {out : List ℤ} → Blocking n near reads w out → length out ≡ length old
+  pub blocking-long : {n here reads : ℕ} {w : Wide} {out : List ℤ} → Blocking n here reads w out → length out ≡ length old
   blocking-long c = ap length (c .kept) ∙ length-placed old at (λ j. getD (c .values) j (pos 0)) 16
 
-  module _ (room : at + 16 ≤ length old) {n near reads : ℕ} {w : Wide} {out : List ℤ} (c : Blocking n near reads w out) where
+  -- the eleven probabilities stand in the table
+  pub blocking-inside : {n here reads : ℕ} {w : Wide} {out : List ℤ} → Blocking n here reads w out → length table ≡ probabilityCount → kind < 4 → here + 11 ≤ length table
+  blocking-inside {n} c l k = omega (arith, l, c .place, place-below kind n (c .ctx) k (c .few))
+
+  module _ (room : at + 16 ≤ length old) {n here reads : ℕ} {w : Wide} {out : List ℤ} (c : Blocking n here reads w out) where
     -- what the call promises, of a list that was stored
     promised : {end symbols : ℕ} {next : Wide} (f : List ℤ → Reading Coefficients) → g ≡ f (sixteenAt old at) → WideReads s 0 1216 (counted 0 g) start (record { end = end; values = c .values }, symbols) next → BlockCoded s start f at old out (record { end = end; reads = symbols; next = next })
     promised {end} {symbols} {next} f e h =
@@ -493,14 +515,14 @@ module _ (s table : List ℕ) (kind q0 q1 : ℕ) (g : Reading Coefficients) (sta
         promised f e (λ r m k b. going-told (going-as (ap (counted (reads + (n - first))) (ap (λ (x : ℕ). blockFrom table kind q0 q1 x n (c .ctx) false (c .values)) i ∙ block-none table kind q0 q1 n (c .ctx) false (c .values))) (c .going r m b)) refl refl)
 
     -- whether it goes on
-    module _ {here : ℕ} {v : Wide} {q : Bit} (y : Bytes s) (h : getD table here 0 < 256) (l : n < 16) (e : here ≡ (kind * 8 + getD bands n 0) * 33 + near) (fl : v ≡ wide.fillOf s w) (o : q ≡ wide.wideBitOf v (getD table here 0)) where
+    module _ {v : Wide} {q : Bit} (y : Bytes s) (h : getD table here 0 < 256) (l : n < 16) (fl : v ≡ wide.fillOf s w) (o : q ≡ wide.wideBitOf v (getD table here 0)) where
       asked : Each (λ r. Going s (whole r) (start .at + 1216) 32 (76 * (15 - n) + 72) (counted (reads + (n - first)) (walk 32 (elevenAt table here) tokenTree 0 >>= restOf table kind q0 q1 (15 - n) n (c .values))) v)
       asked r m b =
           let i : 16 - n ≡ suc (15 - n) = omega arith in
           let j : blockFrom table kind q0 q1 (16 - n) n (c .ctx) false (c .values) ≡ (walk 32 (elevenAt table here) tokenTree 0 >>= restOf table kind q0 q1 (15 - n) n (c .values)) =
           ap (λ (x : ℕ). blockFrom table kind q0 q1 x n (c .ctx) false (c .values)) i
           ∙ block-asks table kind q0 q1 (15 - n) n (c .values) (c .ctx) false
-          ∙ ap (λ (x : ℕ). walk 32 (elevenAt table x) tokenTree 0 >>= restOf table kind q0 q1 (15 - n) n (c .values)) (sym (place-is kind n (c .ctx) (c .place) e)) in
+          ∙ ap (λ (x : ℕ). walk 32 (elevenAt table x) tokenTree 0 >>= restOf table kind q0 q1 (15 - n) n (c .values)) (sym (c .place)) in
           going-fill (76 * (15 - n) + 72) (going-weaken 0 (76 * (15 - n) + 72 + 4) (going-as (ap (counted (reads + (n - first))) j) (c .going r m b)) (omega arith) (omega arith)) fl
 
       pub blocking-stops : (f : List ℤ → Reading Coefficients) → g ≡ f (sixteenAt old at) → q .on ≡ false → BlockCoded s start f at old out (record { end = n; reads = reads + (n - first) + 1; next = q .next })
@@ -518,15 +540,15 @@ module _ (s table : List ℕ) (kind q0 q1 : ℕ) (g : Reading Coefficients) (sta
             promised f d (λ r m a b. let x = k .ended q0 q1 (c .values) (whole r) (start .at + 1216) (suc (reads + (n - first))) j (blocking-goes i r m b) in going-told (going-weaken 0 0 x (omega arith) (omega arith)) refl u)
 
         -- the list keeps the number as the machine reads it back
-        pub blocking-number : {d : Number} {a : ℤ} {x : Wide} {t u : ℕ} → q .on ≡ true → z .n < 16 → Counting s (elevenAt table (z .place)) (z .next) d → t ≡ quantizerAt (z .n) q0 q1 → x ≡ wide.halfOf (d .next) .next → a ≡ wrapZ (signOf (wide.halfOf (d .next) .on) (d .value * t)) → SixteenBits a → u ≡ getD zigzag (z .n) 0 → Blocking (z .n + 1) (d .near) (reads + d .reads) x (set out (at + u) (round w32 a))
-        blocking-number {d} {a} {x} {t} {u} i j p e4 e5 e6 six e7 =
+        pub blocking-number : {d : Number} {a : ℤ} {x : Wide} {then t u : ℕ} → q .on ≡ true → z .n < 16 → (p : Counting s (elevenAt table (z .place)) (z .next) d) → then ≡ probabilityPlace kind (z .n + 1) (p .ctx) → t ≡ quantizerAt (z .n) q0 q1 → x ≡ wide.halfOf (d .next) .next → a ≡ wrapZ (signOf (wide.halfOf (d .next) .on) (d .value * t)) → SixteenBits a → u ≡ getD zigzag (z .n) 0 → Blocking (z .n + 1) then (reads + d .reads) x (set out (at + u) (round w32 a))
+        blocking-number {d} {a} {x} {then} {t} {u} i j p e3 e4 e5 e6 six e7 =
             let w : round w32 a ≡ a = there w32 six tt .eq in
             record {
               low = omega (arith, c .low, k .low);
               high = omega arith;
               ctx = p .ctx;
               few = p .few;
-              place = p .place;
+              place = e3;
               most = omega (arith, c .most, c .low, k .low, p .least);
               values = set (c .values) (getD zigzag (z .n) 0) a;
               long = length-set (c .values) (getD zigzag (z .n) 0) a ∙ c .long;
@@ -548,8 +570,8 @@ module _ (s table : List ℕ) (kind q0 q1 : ℕ) (g : Reading Coefficients) (sta
                   rw (e5 ∙ ap (λ (v : Bit). v .next) half) (going-weaken 0 (76 * (16 - (z .n + 1))) a5 (omega arith) (omega arith));
             }
 
-pub blocking-start : (s table : List ℕ) (kind q0 q1 : ℕ) {ctx first : ℕ} {near : ℕ} {at : ℕ} {old : List ℤ} {w : Wide} → ctx < 3 → first ≤ 1 → near ≡ 11 * ctx → at + 16 ≤ length old → Blocking s table kind q0 q1 (block table kind q0 q1 ctx first (sixteenAt old at)) w at old first first near 0 w old
-blocking-start s table kind q0 q1 {ctx} {first} {near} {at} {old} {w} h l e room =
+pub blocking-start : (s table : List ℕ) (kind q0 q1 : ℕ) {ctx first : ℕ} {here : ℕ} {at : ℕ} {old : List ℤ} {w : Wide} → ctx < 3 → first ≤ 1 → here ≡ probabilityPlace kind first ctx → at + 16 ≤ length old → Blocking s table kind q0 q1 (block table kind q0 q1 ctx first (sixteenAt old at)) w at old first first here 0 w old
+blocking-start s table kind q0 q1 {ctx} {first} {here} {at} {old} {w} h l e room =
     let b : Reading Coefficients = block table kind q0 q1 ctx first (sixteenAt old at) in
     let none : 0 ≡ 0 + (first - first) = omega arith in
     record {
@@ -557,7 +579,7 @@ blocking-start s table kind q0 q1 {ctx} {first} {near} {at} {old} {w} h l e room
       high = omega arith;
       ctx = ctx;
       few = h;
-      place = omega arith;
+      place = e;
       most = omega arith;
       values = sixteenAt old at;
       long = length-sixteen old at;

@@ -22,13 +22,12 @@ ghost use Rattle.wide.specs.WideRuns.{WideReads};
 ghost use Rattle.coefficients.specs.BlockLaws.{SixteenBits};
 ghost use Rattle.wide.specs.Wide.{halfOf};
 ghost use Rattle.reader.specs.Token.{elevenAt};
-ghost use Rattle.coefficients.specs.Block.{category, magnitude, signOf, bands, block};
+ghost use Rattle.coefficients.specs.Block.{category, magnitude, signOf, probabilityPlace, block};
 ghost use Rattle.coefficients.specs.Fast.{roomOf, BlockCoded, CodedWhere};
-ghost use Rattle.coefficients.specs.FastLaws.{raisedOf, bandPlaces, tokenSymbols, Counting, Zeroed};
+ghost use Rattle.coefficients.specs.FastLaws.{raisedOf, placesAfter, tokenSymbols, Counting, Zeroed};
 
-// Where the 33 probabilities of a position's band stand among those of its kind.
-const BAND_PLACES: [u16; 16] = [
-    0,
+// Where the 33 probabilities of the band of the position after each stand among those of its kind; after the last there is no position.
+const BANDS_AFTER: [u16; 16] = [
     33,
     66,
     99,
@@ -44,6 +43,7 @@ const BAND_PLACES: [u16; 16] = [
     198,
     198,
     231,
+    0,
 ];
 
 // How many symbols a token 2..11 is, with its number's extra bits: one less for the position, and its sign for that.
@@ -190,13 +190,41 @@ fn read_number(s: &[u8], w: Wide, table: &[u8], at: usize) -> Number
 
 // ---- a block
 
-// Where the eleven probabilities of a position stand; `near` is eleven times its context.
-fn place(bases: &[u16; 16], kind: usize, n: usize, near: usize) -> usize
-    requires { ⌜ now bases ≡ bandPlaces ⌝ }
-    requires { ⌜ (kind < 4) × ((n < 16) × (near ≤ 22)) ⌝ }
-    ensures { λ r. ⌜ (r ≡ (kind * 8 + getD bands n 0) * 33 + near) × (r + 11 ≤ probabilityCount) ⌝ }
+// Where the eleven probabilities of a block's first position stand; bands 0 and 1 are those of positions 0 and 1.
+fn first_place(kind: usize, ctx: usize, first: usize) -> usize
+    requires { ⌜ (kind < 4) × ((ctx < 3) × (first ≤ 1)) ⌝ }
+    ensures { λ r. ⌜ r ≡ probabilityPlace kind first ctx ⌝ }
 {
-    kind * 264 + bases[n] as usize + near
+    kind * 264 + first * 33 + ctx * 11
+}
+
+// Where those of the position after each stand, for context 0. Made once a block: its loop has the kind no more to add.
+fn places_after(kind: usize) -> [u16; 16]
+    requires { ⌜ kind < 4 ⌝ }
+    ensures { λ r. ⌜ r ≡ placesAfter kind ⌝ }
+{
+    let bands = BANDS_AFTER;
+    let mut places = [0u16; 16];
+    let mut i = 0;
+    while i < 16 {
+        places[i] = bands[i] + 264 * kind as u16;
+        i = i + 1;
+    }
+    places
+}
+
+fn widened(x: u16) -> usize
+    ensures { λ r. ⌜ r ≡ x ⌝ }
+{
+    x as usize
+}
+
+// Looked up before the symbol that chooses the context is known: after a mispredicted branch there is then one load less to wait for.
+fn place_after(places: &[u16; 16], n: usize) -> usize
+    requires { ⌜ n < 16 ⌝ }
+    ensures { λ r. ⌜ r ≡ getD (now (places .entry)) n 0 ⌝ }
+{
+    widened(places[n])
 }
 
 // From node 1 of a position on, with 25 bits loaded: past zeros, after which the block does not end.
@@ -204,12 +232,12 @@ fn pass_zeros(
     s: &[u8],
     w: Wide,
     table: &[u8],
-    bases: &[u16; 16],
+    places: &[u16; 16],
     kind: usize,
     first: usize,
     start: usize,
 ) -> Zeros
-    requires { ⌜ (now bases ≡ bandPlaces) × (length (now table) ≡ probabilityCount) ⌝ }
+    requires { ⌜ (now places ≡ placesAfter kind) × (length (now table) ≡ probabilityCount) ⌝ }
     requires { ⌜ (kind < 4) × ((first < 16) × (start + 11 ≤ length (now table))) ⌝ }
     ensures { λ q. ⌜ Zeroed (now (s .entry)) (now (table .entry)) kind first start w q ⌝ }
 {
@@ -226,6 +254,7 @@ fn pass_zeros(
                 next: x,
             };
         }
+        at = place_after(places, n);
         n = n + 1;
         if n == 16 {
             return Zeros {
@@ -234,7 +263,6 @@ fn pass_zeros(
                 next: x,
             };
         }
-        at = place(bases, kind, n, 0);
         next = x.fill(s);
     }
     Zeros {
@@ -264,14 +292,13 @@ fn read_block(
         (now (out .entry)) (now (out .exit)) q
         × (q .reads ≤ 304) ⌝ }
 {
-    let bases = BAND_PLACES;
+    let places = places_after(kind);
     let zigzag = ZIGZAG;
     let mut next = w;
     let mut n = first;
-    let mut near = 11 * ctx;
+    let mut here = first_place(kind, ctx, first);
     let mut reads: u64 = 0;
     while n < 16 {
-        let here = place(&bases, kind, n, near);
         let full = next.fill(s);
         let e = full.bit(table[here]);
         let x = e.next;
@@ -282,7 +309,7 @@ fn read_block(
                 next: x,
             };
         }
-        let z = pass_zeros(s, x, table, &bases, kind, n, here);
+        let z = pass_zeros(s, x, table, &places, kind, n, here);
         let y = z.next;
         if z.n == 16 {
             return WideBlock {
@@ -291,13 +318,14 @@ fn read_block(
                 next: y,
             };
         }
+        let ahead = place_after(&places, z.n);
         let v = read_number(s, y, table, z.place);
         let o = v.next;
         let d = signed(o, v.value, quantizer(z.n, q0, q1));
         let value = d.value;
         out[at + entry(&zigzag, z.n)] = value;
         reads = reads + v.reads;
-        near = v.near;
+        here = ahead + v.near;
         next = d.next;
         n = z.n + 1;
     }

@@ -1,15 +1,17 @@
 use native.Mathlib.Omega.{arith}
 use Prim.Native.Nat.{_+_, _-_, _≤_}
+use lib.Dec.{lit<}
 use lib.ListN.{length}
-use Rattle.coefficients.specs.FastLaws.{Zeroing, zeroing-start, zeroing-number, zeroing-end, zeroing-next}
+use Rattle.coefficients.specs.FastLaws.{Zeroing, zeroing-start, zeroing-number, zeroing-end, zeroing-next, place-after}
+use Rattle.coefficients.specs.BlockSteps.{place-below}
 use Rattle.coefficients.proofs.fast.pass_zeros.Statement.{statement}
 use Rattle.coefficients.proofs.fast.pass_zeros.Tie as tie
 
 abbrev Inv-loop : tie.InvT-loop
-Inv-loop s table bases kind first start n₀ at₀ next₀ n at next = Zeroing s table kind first start next₀ n at next
+Inv-loop s table places kind first start n₀ at₀ next₀ n at next = Zeroing s table kind first start next₀ n at next
 
 abbrev μ-loop : tie.MeasureT-loop
-μ-loop s table bases kind first start n₀ at₀ next₀ n at next = 16 - n
+μ-loop s table places kind first start n₀ at₀ next₀ n at next = 16 - n
 
 loop-holds : tie.Need-loop-holds Inv-loop μ-loop
 loop-holds c = zeroing-start _ _ _ _ _ _ (c .before .before .pre .1 .1 .0) (c .before .before .pre .1 .1 .1)
@@ -28,18 +30,16 @@ returns c =
     let l = c .before .before .before .before .before in
     zeroing-number _ _ _ _ _ _ (l .loop .inv) (λ i. l .before .before .shared-slice-known .given i .fits) (l .before .shared-slice-known2 .given (l .loop .at + 1) .fits) (c .before .before .bit .ensures) (c .if1 .taken)
 
+place-after-requires : tie.Need-place-after-requires Inv-loop μ-loop
+place-after-requires c κs = c .before .before .before .before .before .loop .inv .below
+
 add-n : tie.Need-add-n Inv-loop μ-loop
-add-n c = record { fits = omega (arith, c .before .before .before .before .before .loop .inv .below) }
+add-n c = record { fits = omega (arith, c .before .before .before .before .before .before .loop .inv .below) }
 
 returns-2 : tie.Need-returns-2 Inv-loop μ-loop
 returns-2 c =
-    let l = c .before .before .before .before .before .before in
-    zeroing-end _ _ _ _ _ _ (l .loop .inv) (λ i. l .before .before .shared-slice-known .given i .fits) (l .before .shared-slice-known2 .given (l .loop .at + 1) .fits) (c .before .before .before .bit .ensures) (c .before .if1 .left) (c .if2 .taken)
-
-place-requires : tie.Need-place-requires Inv-loop μ-loop
-place-requires c κs =
-    let p = c .before .before .before .before .before .before .before .before .before .pre in
-    (p .0 .0, (p .1 .0, (omega (arith, c .before .before .before .before .before .before .loop .inv .below, c .if2 .left), omega arith)))
+    let l = c .before .before .before .before .before .before .before in
+    zeroing-end _ _ _ _ _ _ (l .loop .inv) (λ i. l .before .before .shared-slice-known .given i .fits) (l .before .shared-slice-known2 .given (l .loop .at + 1) .fits) (c .before .before .before .before .bit .ensures) (c .before .before .if1 .left) (c .if2 .taken)
 
 fill-requires : tie.Need-fill-requires Inv-loop μ-loop
 fill-requires c κs = tt
@@ -50,8 +50,10 @@ loop-less c = omega (arith, c .before .before .before .before .before .before .b
 loop-again : tie.Need-loop-again Inv-loop μ-loop
 loop-again c =
     let l = c .before .before .before .before .before .before .before .before in
-    let e = c .before .place .ensures in
-    zeroing-next _ _ _ _ _ _ (l .loop .inv) (λ i. l .before .before .shared-slice-known .given i .fits) (l .before .shared-slice-known2 .given (l .loop .at + 1) .fits) (c .before .before .before .before .before .bit .ensures) (c .before .before .before .if1 .left) (omega (arith, l .loop .inv .below, c .before .before .if2 .left)) (e .0) (omega (arith, e .1, l .before .before .before .pre .0 .1)) (c .fill .ensures)
+    let p = l .before .before .before .pre in
+    let kind = l .before .before .before .args .kind in
+    let e = place-after kind (l .loop .n) (l .loop .inv .below) (p .0 .0) (c .before .before .place-after .ensures) in
+    zeroing-next _ _ _ _ _ _ (l .loop .inv) (λ i. l .before .before .shared-slice-known .given i .fits) (l .before .shared-slice-known2 .given (l .loop .at + 1) .fits) (c .before .before .before .before .before .bit .ensures) (c .before .before .before .if1 .left) (omega (arith, l .loop .inv .below, c .before .if2 .left)) e (omega (arith, e, place-below kind (l .loop .n + 1) 0 (p .1 .0) (lit< tt), p .0 .1)) (c .fill .ensures)
 
 returns-3 : tie.Need-returns-3 Inv-loop μ-loop
 returns-3 c = absurd (omega (arith, c .before .loop .inv .below, c .loop-test .left))
@@ -67,9 +69,9 @@ pass-zeros-spec =
     shared-slice-read-bit
     bit-requires
     returns
+    place-after-requires
     add-n
     returns-2
-    place-requires
     fill-requires
     loop-less
     loop-again
