@@ -1,11 +1,11 @@
--- A block over a wide reader: what its calls promise. Its sixteen numbers stand in a longer list, from a place on.
-use Prim.Native.Nat.{ℕ, _+_}
+-- A block over a wide reader: what its calls promise. Its sixteen numbers stand in a longer list, from a place on, each a step after the last.
+use Prim.Native.Nat.{ℕ, zero, suc, _+_, _*_}
 use mathlib.Core.Bool.{Bool, true, false, _&&_}
 use mathlib.Core.List.{List, [], _∷_}
 use mathlib.Core.Path.{_≡_}
-use lib.Dec.{leb}
+use lib.Dec.{leb, ltb}
 use lib.IntN.{ℤ, pos}
-use lib.ListN.{getD}
+use lib.ListN.{getD, set}
 use Rattle.numbers.specs.Lists.{build}
 use Rattle.numbers.specs.Runs.{placed}
 use Rattle.reader.specs.Reading.{Reading}
@@ -23,6 +23,19 @@ sixteenAt l at = build 16 (λ j. getD l (at + j) (pos 0))
 abbrev pub stored : List ℤ → (at : ℕ) → (c : List ℤ) → List ℤ
 stored l at c = placed l at (λ j. getD c j (pos 0)) 16
 
+-- ---- the same a step apart: the sixteen numbers at the places at, at + step, at + 2 * step, ..
+unfoldable pub spotsOf : List ℤ → (at step : ℕ) → List ℤ
+spotsOf l at step = build 16 (λ j. getD l (at + step * j) (pos 0))
+
+-- l with f 0, f 1, .. f (n - 1) at the first n of these places
+unfoldable pub spaced : List ℤ → (at step : ℕ) → (f : ℕ → ℤ) → (n : ℕ) → List ℤ
+spaced l at step f zero = l
+spaced l at step f (suc n) = set (spaced l at step f n) (at + step * n) (f n)
+
+-- sixteen others put there
+abbrev pub strewn : List ℤ → (at step : ℕ) → (c : List ℤ) → List ℤ
+strewn l at step c = spaced l at step (λ j. getD c j (pos 0)) 16
+
 -- ---- the symbols of M-103
 -- of a token: as many as its leaf is deep in coeff_tree
 unfoldable pub depths : List ℕ
@@ -33,14 +46,16 @@ unfoldable pub extras : List ℕ
 extras = 0 ∷ 0 ∷ 0 ∷ 0 ∷ 0 ∷ 0 ∷ 1 ∷ 2 ∷ 3 ∷ 4 ∷ 5 ∷ 11 ∷ []
 
 -- ---- the call: at most 1216 bytes are read, and the list changes in its sixteen places alone
-pub record BlockCoded (s : List ℕ) (w : Wide) (g : List ℤ → Reading Coefficients) (at : ℕ) (old new : List ℤ) (q : WideBlock) : Type 0 where
-  pub read : WideReads s 0 1216 (counted 0 (g (sixteenAt old at))) w (record { end = q .end; values = sixteenAt new at }, q .reads) (q .next)
-  pub kept : new ≡ stored old at (sixteenAt new at)
+pub record BlockCoded (s : List ℕ) (w : Wide) (g : List ℤ → Reading Coefficients) (at step : ℕ) (old new : List ℤ) (q : WideBlock) : Type 0 where
+  pub read : WideReads s 0 1216 (counted 0 (g (spotsOf old at step))) w (record { end = q .end; values = spotsOf new at step }, q .reads) (q .next)
+  pub kept : new ≡ strewn old at step (spotsOf new at step)
 
 -- where an argument is out of range or the list is too short, nothing is read
-abbrev pub CodedWhere : Bool → List ℕ → Wide → (List ℤ → Reading Coefficients) → ℕ → List ℤ → List ℤ → WideBlock → Type 0
-CodedWhere true s w g at old new q = BlockCoded s w g at old new q
-CodedWhere false s w g at old new q = (q ≡ record { end = 0; reads = 0; next = w }) × (new ≡ old)
+abbrev pub CodedWhere : Bool → List ℕ → Wide → (List ℤ → Reading Coefficients) → (at step : ℕ) → List ℤ → List ℤ → WideBlock → Type 0
+CodedWhere true s w g at step old new q = BlockCoded s w g at step old new q
+CodedWhere false s w g at step old new q = (q ≡ record { end = 0; reads = 0; next = w }) × (new ≡ old)
 
-abbrev pub roomOf : (table : List ℕ) → (kind ctx first : ℕ) → (size at : ℕ) → Bool
-roomOf table kind ctx first size at = blockArguments table kind ctx first && leb (at + 16) size
+-- whether the arguments are in range, the step too, and the last place in the list
+abbrev pub roomOf : (table : List ℕ) → (kind ctx first : ℕ) → (size at step : ℕ) → Bool
+roomOf table kind ctx first size at step =
+    blockArguments table kind ctx first && (leb 1 step && (leb step 16 && ltb (at + 15 * step) size))

@@ -1,18 +1,18 @@
 -- The laws of a block over a wide reader: its numbers in a longer list, what its symbols cost, and the turns of its loop.
 use Prim.Native.Nat.{ℕ, zero, suc, _+_, _-_, _*_, _/_, _%_, _≤_, _<_, _^_}
 use native.Mathlib.Decide.{ℕ-discrete}
-use native.Mathlib.Nat.{add-zero}
+use native.Mathlib.Nat.{add-zero, mul-suc, mul-le-mul-left}
 use native.Mathlib.Omega.{arith}
-use mathlib.Core.Bool.{Bool, true, false, _&&_}
+use mathlib.Core.Bool.{Bool, true, false, _&&_, _||_}
 use mathlib.Core.List.{List, [], _∷_}
 use mathlib.Core.Logic.{_⊎_, inl, inr, ⊎-elim}
 use mathlib.Core.Path.{_≡_, refl, sym, _∙_, ap}
-use lib.Dec.{leb, eqb, lit<, lit≤}
+use lib.Dec.{leb, ltb, eqb, lit<, lit≤}
 use lib.IntN.{ℤ, pos, _+ℤ_, _-ℤ_, _*ℤ_}
 use lib.ListN.{length, getD, set, length-set}
 use lib.Seq.{getD-set-same, getD-set-other}
-use mir.Syntax.{w32}
-use borrow.Author.Tests.{eqb-true, lt-ltb, le-ltb, eq-eqb, ne-eqb, leb-true, le-leb, lt-leb}
+use mir.Syntax.{w16}
+use borrow.Author.Tests.{eqb-true, ltb-true, lt-ltb, le-ltb, eq-eqb, ne-eqb, leb-true, le-leb, lt-leb}
 use Rattle.header.specs.Entries.{probabilityCount}
 use Rattle.numbers.specs.Flags.{bitOf}
 use Rattle.numbers.specs.Hand.{there}
@@ -21,7 +21,7 @@ use Rattle.numbers.specs.Lists.{build, length-build, getD-build, built}
 use Rattle.numbers.specs.Parts.{up, dn, of-le, of-eq, add-parts, sub-parts-ℤ, up-times, dn-times}
 use Rattle.numbers.specs.Runs.{length-placed, placed-in, placed-off}
 use Rattle.numbers.specs.Tables.{allBelow, all-below}
-use Rattle.numbers.specs.Tests.{lt-or, eq-or, never, both-left, both-right, both-false}
+use Rattle.numbers.specs.Tests.{lt-or, eq-or, never, both-left, both-right, both-true, both-false}
 use Rattle.numbers.specs.Wrap.{wrapZ}
 use Rattle.numbers.specs.WrapLaws.{wrap-is}
 use Rattle.reader.specs.BooleanLaws.{Bytes}
@@ -42,7 +42,7 @@ use Rattle.wide.specs.WideLaws.{Sim}
 use Rattle.wide.specs.WideRuns.{WideReads, Going, going-start, going-fill, going-bit, going-as, going-weaken, going-cost, going-told, going-fresh, call-fresh, fill-fresh, going-half, reads-then, walk-asks}
 use Rattle.wide.specs.declared.wide.Bit.{Bit}
 use Rattle.wide.specs.declared.wide.Wide.{Wide}
-use Rattle.coefficients.specs.Fast.{sixteenAt, stored, depths, extras, BlockCoded, CodedWhere, roomOf}
+use Rattle.coefficients.specs.Fast.{sixteenAt, stored, spotsOf, spaced, strewn, depths, extras, BlockCoded, CodedWhere, roomOf}
 use Rattle.coefficients.specs.BlockLaws.{SixteenBits, magnitude-within}
 use Rattle.coefficients.specs.BlockSteps.{place-below, zigzag-below, context-more, arguments-fact}
 use Rattle.coefficients.specs.Block.{categories, category, magnitude, signOf, signedValue, bands, zigzag, probabilityPlace, probabilitiesAt, quantizerAt, contextAfter, Coefficients, blockFrom, block, blockArguments}
@@ -117,6 +117,118 @@ module _ (l : List ℤ) (at : ℕ) (room : at + 16 ≤ length l) where
 pub length-sixteen : (l : List ℤ) (at : ℕ) → length (sixteenAt l at) ≡ 16
 unfolding sixteenAt
 length-sixteen l at = length-build 16 _
+
+-- ---- sixteen numbers a step apart
+-- places a step apart are apart, and none is past the last
+pub step-more : (step : ℕ) {j k : ℕ} → j < k → step * j + step ≤ step * k
+step-more step {j} {k} h = rw (sym (mul-suc step j)) (mul-le-mul-left {m = suc j} {n = k} step (omega arith))
+
+pub step-apart : {step j k : ℕ} → 1 ≤ step → step * j ≡ step * k → j ≡ k
+step-apart {step} {j} {k} h e =
+    ⊎-elim (λ (l : j < k). absurd (omega (arith, step-more step l, e)))
+    (λ (l : k ≤ j). ⊎-elim (λ (m : k < j). absurd (omega (arith, step-more step m, e))) (λ (m : j ≤ k). omega arith) (lt-or k j))
+    (lt-or j k)
+
+pub step-last : (step : ℕ) {j : ℕ} → j < 16 → step * j ≤ 15 * step
+step-last step {j} h = omega (arith, mul-le-mul-left {m = j} {n = 15} step (omega arith))
+
+-- none of the first n places
+abbrev pub Between : (at step n i : ℕ) → Type 0
+Between at step n i = (j : ℕ) → j < n → i ≡ at + step * j → ⊥
+
+-- one of them
+record Spot (at step n i : ℕ) : Type 0 where
+  j : ℕ
+  below : j < n
+  is : i ≡ at + step * j
+
+spot-or : (at step n i : ℕ) → Spot at step n i ⊎ Between at step n i
+spot-or at step zero i = inr (λ j h e. omega arith)
+spot-or at step (suc n) i = elim (ℕ-discrete i (at + step * n)) [
+  | yes e ↦ inl (record { j = n; below = omega arith; is = e })
+  | no e ↦ ⊎-elim (λ (x : Spot at step n i). inl (record { j = x .j; below = omega (arith, x .below); is = x .is }))
+      (λ (x : Between at step n i). inr (λ j h q. elim (ℕ-discrete j n) [ yes f ↦ e (q ∙ ap (λ (k : ℕ). at + step * k) f) | no f ↦ x j (omega arith) q ]))
+      (spot-or at step n i)
+]
+
+pub length-spots : (l : List ℤ) (at step : ℕ) → length (spotsOf l at step) ≡ 16
+unfolding spotsOf
+length-spots l at step = length-build 16 _
+
+pub spots-at : (l : List ℤ) (at step j : ℕ) → j < 16 → getD (spotsOf l at step) j (pos 0) ≡ getD l (at + step * j) (pos 0)
+unfolding spotsOf
+spots-at l at step j h = getD-build 16 (λ j. getD l (at + step * j) (pos 0)) j (pos 0) h
+
+module _ (l : List ℤ) (at step : ℕ) where
+  length-spaced : (f : ℕ → ℤ) (n : ℕ) → length (spaced l at step f n) ≡ length l
+  unfolding spaced
+  length-spaced f zero = refl
+  length-spaced f (suc n) = length-set (spaced l at step f n) (at + step * n) (f n) ∙ length-spaced f n
+
+  spaced-off : (f : ℕ → ℤ) (n i : ℕ) → Between at step n i → getD (spaced l at step f n) i (pos 0) ≡ getD l i (pos 0)
+  unfolding spaced
+  spaced-off f zero i h = refl
+  spaced-off f (suc n) i h =
+      getD-set-other (spaced l at step f n) (at + step * n) i (f n) (pos 0) (h n (omega arith)) ∙ spaced-off f n i (λ j k. h j (omega arith))
+
+  pub length-strewn : (c : List ℤ) → length (strewn l at step c) ≡ length l
+  length-strewn c = length-spaced (λ j. getD c j (pos 0)) 16
+
+  pub strewn-off : (c : List ℤ) (i : ℕ) → Between at step 16 i → getD (strewn l at step c) i (pos 0) ≡ getD l i (pos 0)
+  strewn-off c i h = spaced-off (λ j. getD c j (pos 0)) 16 i h
+
+  module _ (apart : 1 ≤ step) (room : at + 15 * step < length l) where
+    spaced-in : (f : ℕ → ℤ) (n j : ℕ) → n ≤ 16 → j < n → getD (spaced l at step f n) (at + step * j) (pos 0) ≡ f j
+    unfolding spaced
+    spaced-in f zero j m h = absurd (omega arith)
+    spaced-in f (suc n) j m h = elim (ℕ-discrete j n) [
+      | yes e ↦ rw e
+          (getD-set-same (spaced l at step f n) (at + step * n) (f n) (pos 0)
+          (rw (length-spaced f n) (omega (arith, room, step-last step {j = n} (omega arith)))))
+      | no e ↦ getD-set-other (spaced l at step f n) (at + step * n) (at + step * j) (f n) (pos 0) (λ q. e (step-apart apart (omega arith)))
+          ∙ spaced-in f n j (omega arith) (omega arith)
+    ]
+
+    pub strewn-in : (c : List ℤ) (j : ℕ) → j < 16 → getD (strewn l at step c) (at + step * j) (pos 0) ≡ getD c j (pos 0)
+    strewn-in c j h = spaced-in (λ j. getD c j (pos 0)) 16 j (lit≤ tt) h
+
+    -- two lists agree where they do in the sixteen places and outside of them
+    by-spot : (x y : List ℤ) → length x ≡ length l → length y ≡ length l
+        → ((j : ℕ) → j < 16 → getD x (at + step * j) (pos 0) ≡ getD y (at + step * j) (pos 0))
+        → ((i : ℕ) → Between at step 16 i → getD x i (pos 0) ≡ getD y i (pos 0)) → x ≡ y
+    by-spot x y e f g h =
+        same-list x y (e ∙ sym f)
+        (λ i k. ⊎-elim (λ (p : Spot at step 16 i). rw (p .is) (g (p .j) (p .below))) (λ (p : Between at step 16 i). h i p) (spot-or at step 16 i))
+
+    pub strewn-same : l ≡ strewn l at step (spotsOf l at step)
+    strewn-same =
+        let c : List ℤ = spotsOf l at step in
+        by-spot l (strewn l at step c) refl (length-strewn c) (λ j h. sym (strewn-in c j h ∙ spots-at l at step j h)) (λ i h. sym (strewn-off c i h))
+
+    pub spots-strewn : (c : List ℤ) → length c ≡ 16 → spotsOf (strewn l at step c) at step ≡ c
+    unfolding spotsOf
+    spots-strewn c e = sym (built c 16 (λ j. getD (strewn l at step c) (at + step * j) (pos 0)) (pos 0) e (λ j h. sym (strewn-in c j h)))
+
+    -- one of them set
+    pub strewn-set : (c : List ℤ) (z : ℕ) (v : ℤ) → length c ≡ 16 → z < 16 → set (strewn l at step c) (at + step * z) v ≡ strewn l at step (set c z v)
+    strewn-set c z v e k =
+        by-spot (set (strewn l at step c) (at + step * z) v) (strewn l at step (set c z v))
+        (length-set (strewn l at step c) (at + step * z) v ∙ length-strewn c) (length-strewn (set c z v)) inner outer
+      where
+        inner : (j : ℕ) → j < 16 → getD (set (strewn l at step c) (at + step * z) v) (at + step * j) (pos 0) ≡ getD (strewn l at step (set c z v)) (at + step * j) (pos 0)
+        inner j h = elim (ℕ-discrete j z) [
+          | yes f ↦ rw f
+              (getD-set-same (strewn l at step c) (at + step * z) v (pos 0) (rw (length-strewn c) (omega (arith, room, step-last step k)))
+              ∙ sym (strewn-in (set c z v) z k ∙ getD-set-same c z v (pos 0) (rw e k)))
+          | no f ↦
+              getD-set-other (strewn l at step c) (at + step * z) (at + step * j) v (pos 0) (λ q. f (step-apart apart (omega arith)))
+              ∙ strewn-in c j h
+              ∙ sym (strewn-in (set c z v) j h ∙ getD-set-other c z j v (pos 0) f)
+        ]
+
+        outer : (i : ℕ) → Between at step 16 i → getD (set (strewn l at step c) (at + step * z) v) i (pos 0) ≡ getD (strewn l at step (set c z v)) i (pos 0)
+        outer i h =
+            getD-set-other (strewn l at step c) (at + step * z) i v (pos 0) (h z k) ∙ strewn-off c i h ∙ sym (strewn-off (set c z v) i h)
 
 -- ---- tables that the code has
 -- where the probabilities of the band of the position after each stand among those of its kind; past its end `bands` has 0
@@ -196,28 +308,51 @@ wrap-raised b x {y} h e =
     wrap-is (pos (y / 65536) -ℤ pos 4096) (record { low = of-le (omega arith); high = of-le (omega arith) }) (raised-parts b x y h e)
 
 -- ---- whether there is room
-pub room-none : (fine : Bool) (size at : ℕ) → size < 16 → false ≡ fine && leb (at + 16) size
-room-none fine size at h = sym (both-false fine (lt-leb (at + 16) size (omega arith)))
+pub step-fact : (step : ℕ) → eqb step 0 || ltb 16 step ≡ false → (1 ≤ step) × (step ≤ 16)
+step-fact step e =
+    ⊎-elim (λ (h : step < 1). absurd (never (rw (eq-eqb step 0 (omega arith)) refl) e))
+    (λ (h : 1 ≤ step). ⊎-elim (λ (k : 16 < step). absurd (never (rw (ne-eqb step 0 (λ q. omega arith), lt-ltb 16 step k) refl) e)) (λ (k : step ≤ 16). (h, k)) (lt-or 16 step))
+    (lt-or step 1)
 
-pub room-some : (fine : Bool) (size at : ℕ) → 16 ≤ size → {x : Bool} → x ≡ fine → x && leb at (size - 16) ≡ fine && leb (at + 16) size
-room-some fine size at h e =
-    rw e (ap (λ (b : Bool). fine && b)
-    (⊎-elim (λ (k : size - 16 < at). lt-leb at (size - 16) k ∙ sym (lt-leb (at + 16) size (omega arith)))
-    (λ (k : at ≤ size - 16). le-leb at (size - 16) k ∙ sym (le-leb (at + 16) size (omega arith)))
-    (lt-or (size - 16) at)))
+pub room-step : (fine last : Bool) (step : ℕ) → eqb step 0 || ltb 16 step ≡ true → false ≡ fine && (leb 1 step && (leb step 16 && last))
+room-step fine last step e =
+    ⊎-elim (λ (h : step < 1). sym (both-false fine (rw (lt-leb 1 step h) refl)))
+    (λ (h : 1 ≤ step). ⊎-elim (λ (k : 16 < step). sym (both-false fine (both-false (leb 1 step) (rw (lt-leb step 16 k) refl))))
+    (λ (k : step ≤ 16). absurd (never e (rw (ne-eqb step 0 (λ q. omega arith), le-ltb 16 step k) refl))) (lt-or 16 step))
+    (lt-or step 1)
 
-pub room-fact : (table : List ℕ) (kind ctx first size at : ℕ) → roomOf table kind ctx first size at ≡ true → ((length table ≡ probabilityCount) × ((kind < 4) × ((ctx < 3) × (first ≤ 1)))) × (at + 16 ≤ size)
-room-fact table kind ctx first size at e = (arguments-fact table kind ctx first (both-left _ _ e), leb-true _ _ (both-right (blockArguments table kind ctx first) _ e))
+pub room-none : (fine : Bool) (size at : ℕ) (step : ℕ) → size ≤ 15 * step → false ≡ fine && (leb 1 step && (leb step 16 && ltb (at + 15 * step) size))
+room-none fine size at step h = sym (both-false fine (both-false (leb 1 step) (both-false (leb step 16) (le-ltb (at + 15 * step) size (omega arith)))))
 
-module _ (s : List ℕ) (w : Wide) (g : List ℤ → Reading Coefficients) (at : ℕ) (old new : List ℤ) (q : WideBlock) where
-  pub coded-some : {b : Bool} → b ≡ true → BlockCoded s w g at old new q → CodedWhere b s w g at old new q
+pub room-some : (fine : Bool) (size at step : ℕ) → 1 ≤ step → step ≤ 16 → 15 * step < size → {x : Bool} → x ≡ fine
+    → x && ltb at (size - 15 * step) ≡ fine && (leb 1 step && (leb step 16 && ltb (at + 15 * step) size))
+room-some fine size at step l m h e =
+    rw (e, le-leb 1 step l, le-leb step 16 m) (ap (λ (b : Bool). fine && b)
+    (⊎-elim (λ (k : at < size - 15 * step). lt-ltb at (size - 15 * step) k ∙ sym (lt-ltb (at + 15 * step) size (omega arith)))
+    (λ (k : size - 15 * step ≤ at). le-ltb at (size - 15 * step) k ∙ sym (le-ltb (at + 15 * step) size (omega arith)))
+    (lt-or at (size - 15 * step))))
+
+pub room-fact : (table : List ℕ) (kind ctx first size at step : ℕ) → roomOf table kind ctx first size at step ≡ true
+    → ((length table ≡ probabilityCount) × ((kind < 4) × ((ctx < 3) × (first ≤ 1)))) × ((1 ≤ step) × (at + 15 * step < size))
+room-fact table kind ctx first size at step e =
+    let f : leb 1 step && (leb step 16 && ltb (at + 15 * step) size) ≡ true = both-right (blockArguments table kind ctx first) _ e in
+    (arguments-fact table kind ctx first (both-left _ _ e), (leb-true _ _ (both-left _ _ f), ltb-true _ _ (both-right (leb step 16) _ (both-right (leb 1 step) _ f))))
+
+-- the same for callers, the other way
+pub room-true : (table : List ℕ) (kind ctx first size at step : ℕ) → blockArguments table kind ctx first ≡ true → 1 ≤ step → step ≤ 16 → at + 15 * step < size
+    → roomOf table kind ctx first size at step ≡ true
+room-true table kind ctx first size at step e l m h =
+    both-true e (both-true (le-leb 1 step l) (both-true (le-leb step 16 m) (lt-ltb (at + 15 * step) size h)))
+
+module _ (s : List ℕ) (w : Wide) (g : List ℤ → Reading Coefficients) (at step : ℕ) (old new : List ℤ) (q : WideBlock) where
+  pub coded-some : {b : Bool} → b ≡ true → BlockCoded s w g at step old new q → CodedWhere b s w g at step old new q
   coded-some e h = rw e h
 
-  pub coded-none : {b : Bool} → b ≡ false → q ≡ record { end = 0; reads = 0; next = w } → new ≡ old → CodedWhere b s w g at old new q
+  pub coded-none : {b : Bool} → b ≡ false → q ≡ record { end = 0; reads = 0; next = w } → new ≡ old → CodedWhere b s w g at step old new q
   coded-none e h k = rw e (h, k)
 
   -- THE LAW for callers
-  pub coded-read : {b : Bool} → b ≡ true → CodedWhere b s w g at old new q → BlockCoded s w g at old new q
+  pub coded-read : {b : Bool} → b ≡ true → CodedWhere b s w g at step old new q → BlockCoded s w g at step old new q
   coded-read e h = rw e at h
 
 -- ---- what symbols cost
@@ -473,7 +608,7 @@ sign-read y c f a = going-bit 0 y (lit< tt) a refl refl
 
 -- ---- a block
 -- the loop: at position n, with 76 bytes' way for each that is left; the list has the values so far
-module _ (s table : List ℕ) (kind q0 q1 : ℕ) (g : Reading Coefficients) (start : Wide) (at : ℕ) (old : List ℤ) (first : ℕ) where
+module _ (s table : List ℕ) (kind q0 q1 : ℕ) (g : Reading Coefficients) (start : Wide) (at step : ℕ) (old : List ℤ) (first : ℕ) where
   -- what all of it gives
   abbrev whole : Reader → (Coefficients × ℕ) × Reader
   whole r = runPadded (counted 0 g) s r
@@ -491,25 +626,25 @@ module _ (s table : List ℕ) (kind q0 q1 : ℕ) (g : Reading Coefficients) (sta
     pub most : reads ≤ 18 * (n - first)
     pub values : List ℤ
     pub long : length values ≡ 16
-    pub kept : out ≡ stored old at values
+    pub kept : out ≡ strewn old at step values
     pub going : Each (λ r. Going s (whole r) (start .at + 1216) 0 (76 * (16 - n)) (counted (reads + (n - first)) (blockFrom table kind q0 q1 (16 - n) n ctx false values)) w)
 
   -- the list is as long as it was
   pub blocking-long : {n here reads : ℕ} {w : Wide} {out : List ℤ} → Blocking n here reads w out → length out ≡ length old
-  blocking-long c = ap length (c .kept) ∙ length-placed old at (λ j. getD (c .values) j (pos 0)) 16
+  blocking-long c = ap length (c .kept) ∙ length-strewn old at step (c .values)
 
   -- the eleven probabilities stand in the table
   pub blocking-inside : {n here reads : ℕ} {w : Wide} {out : List ℤ} → Blocking n here reads w out → length table ≡ probabilityCount → kind < 4 → here + 11 ≤ length table
   blocking-inside {n} c l k = omega (arith, l, c .place, place-below kind n (c .ctx) k (c .few))
 
-  module _ (room : at + 16 ≤ length old) {n here reads : ℕ} {w : Wide} {out : List ℤ} (c : Blocking n here reads w out) where
+  module _ (apart : 1 ≤ step) (room : at + 15 * step < length old) {n here reads : ℕ} {w : Wide} {out : List ℤ} (c : Blocking n here reads w out) where
     -- what the call promises, of a list that was stored
-    promised : {end symbols : ℕ} {next : Wide} (f : List ℤ → Reading Coefficients) → g ≡ f (sixteenAt old at) → WideReads s 0 1216 (counted 0 g) start (record { end = end; values = c .values }, symbols) next → BlockCoded s start f at old out (record { end = end; reads = symbols; next = next })
+    promised : {end symbols : ℕ} {next : Wide} (f : List ℤ → Reading Coefficients) → g ≡ f (spotsOf old at step) → WideReads s 0 1216 (counted 0 g) start (record { end = end; values = c .values }, symbols) next → BlockCoded s start f at step old out (record { end = end; reads = symbols; next = next })
     promised {end} {symbols} {next} f e h =
-        let v : sixteenAt out at ≡ c .values = ap (λ (o : List ℤ). sixteenAt o at) (c .kept) ∙ sixteen-stored old at room (c .values) (c .long) in
-        record { read = rw (sym e, v) h; kept = c .kept ∙ ap (stored old at) (sym v) }
+        let v : spotsOf out at step ≡ c .values = ap (λ (o : List ℤ). spotsOf o at step) (c .kept) ∙ spots-strewn old at step apart room (c .values) (c .long) in
+        record { read = rw (sym e, v) h; kept = c .kept ∙ ap (strewn old at step) (sym v) }
 
-    pub blocking-end : (f : List ℤ → Reading Coefficients) → g ≡ f (sixteenAt old at) → 16 ≤ n → BlockCoded s start f at old out (record { end = n; reads = reads + (n - first); next = w })
+    pub blocking-end : (f : List ℤ → Reading Coefficients) → g ≡ f (spotsOf old at step) → 16 ≤ n → BlockCoded s start f at step old out (record { end = n; reads = reads + (n - first); next = w })
     blocking-end f e l =
         let i : 16 - n ≡ 0 = omega arith in
         promised f e (λ r m k b. going-told (going-as (ap (counted (reads + (n - first))) (ap (λ (x : ℕ). blockFrom table kind q0 q1 x n (c .ctx) false (c .values)) i ∙ block-none table kind q0 q1 n (c .ctx) false (c .values))) (c .going r m b)) refl refl)
@@ -525,7 +660,7 @@ module _ (s table : List ℕ) (kind q0 q1 : ℕ) (g : Reading Coefficients) (sta
           ∙ ap (λ (x : ℕ). walk 32 (elevenAt table x) tokenTree 0 >>= restOf table kind q0 q1 (15 - n) n (c .values)) (sym (c .place)) in
           going-fill (76 * (15 - n) + 72) (going-weaken 0 (76 * (15 - n) + 72 + 4) (going-as (ap (counted (reads + (n - first))) j) (c .going r m b)) (omega arith) (omega arith)) fl
 
-      pub blocking-stops : (f : List ℤ → Reading Coefficients) → g ≡ f (sixteenAt old at) → q .on ≡ false → BlockCoded s start f at old out (record { end = n; reads = reads + (n - first) + 1; next = q .next })
+      pub blocking-stops : (f : List ℤ → Reading Coefficients) → g ≡ f (spotsOf old at step) → q .on ≡ false → BlockCoded s start f at step old out (record { end = n; reads = reads + (n - first) + 1; next = q .next })
       blocking-stops f z i =
           let k : reads + (n - first) + 1 ≡ suc (reads + (n - first)) = omega arith in
           promised f z (λ r m a b. going-told (going-as (ap (counted (suc (reads + (n - first)))) (rest-ends table kind q0 q1 (15 - n) n (c .values))) (step-leaf (elevenAt table here) 0 24 31 (reads + (n - first)) (restOf table kind q0 q1 (15 - n) n (c .values)) y h (first-of table here) (asked r m b) o i refl)) refl k)
@@ -534,15 +669,15 @@ module _ (s table : List ℕ) (kind q0 q1 : ℕ) (g : Reading Coefficients) (sta
       blocking-goes i r m b = record { fuel = 25; going = step-node (elevenAt table here) 0 24 31 (reads + (n - first)) (restOf table kind q0 q1 (15 - n) n (c .values)) y h (first-of table here) (asked r m b) o i refl }
 
       module _ {z : Zeros} (k : Zeroed s table kind n here (q .next) z) where
-        pub blocking-zeros : (f : List ℤ → Reading Coefficients) → g ≡ f (sixteenAt old at) → q .on ≡ true → z .n ≡ 16 → BlockCoded s start f at old out (record { end = 16; reads = reads + (16 - first) + 1; next = z .next })
+        pub blocking-zeros : (f : List ℤ → Reading Coefficients) → g ≡ f (spotsOf old at step) → q .on ≡ true → z .n ≡ 16 → BlockCoded s start f at step old out (record { end = 16; reads = reads + (16 - first) + 1; next = z .next })
         blocking-zeros f d i j =
             let u : reads + (16 - first) + 1 ≡ suc (reads + (n - first)) + (16 - n) = omega (arith, c .low) in
             promised f d (λ r m a b. let x = k .ended q0 q1 (c .values) (whole r) (start .at + 1216) (suc (reads + (n - first))) j (blocking-goes i r m b) in going-told (going-weaken 0 0 x (omega arith) (omega arith)) refl u)
 
         -- the list keeps the number as the machine reads it back
-        pub blocking-number : {d : Number} {a : ℤ} {x : Wide} {then t u : ℕ} → q .on ≡ true → z .n < 16 → (p : Counting s (elevenAt table (z .place)) (z .next) d) → then ≡ probabilityPlace kind (z .n + 1) (p .ctx) → t ≡ quantizerAt (z .n) q0 q1 → x ≡ wide.halfOf (d .next) .next → a ≡ wrapZ (signOf (wide.halfOf (d .next) .on) (d .value * t)) → SixteenBits a → u ≡ getD zigzag (z .n) 0 → Blocking (z .n + 1) then (reads + d .reads) x (set out (at + u) (round w32 a))
+        pub blocking-number : {d : Number} {a : ℤ} {x : Wide} {then t u : ℕ} → q .on ≡ true → z .n < 16 → (p : Counting s (elevenAt table (z .place)) (z .next) d) → then ≡ probabilityPlace kind (z .n + 1) (p .ctx) → t ≡ quantizerAt (z .n) q0 q1 → x ≡ wide.halfOf (d .next) .next → a ≡ wrapZ (signOf (wide.halfOf (d .next) .on) (d .value * t)) → SixteenBits a → u ≡ getD zigzag (z .n) 0 → Blocking (z .n + 1) then (reads + d .reads) x (set out (at + step * u) (round w16 a))
         blocking-number {d} {a} {x} {then} {t} {u} i j p e3 e4 e5 e6 six e7 =
-            let w : round w32 a ≡ a = there w32 six tt .eq in
+            let w : round w16 a ≡ a = there w16 six tt .eq in
             record {
               low = omega (arith, c .low, k .low);
               high = omega arith;
@@ -552,7 +687,7 @@ module _ (s table : List ℕ) (kind q0 q1 : ℕ) (g : Reading Coefficients) (sta
               most = omega (arith, c .most, c .low, k .low, p .least);
               values = set (c .values) (getD zigzag (z .n) 0) a;
               long = length-set (c .values) (getD zigzag (z .n) 0) a ∙ c .long;
-              kept = rw (w, e7, c .kept) (stored-set old at room (c .values) (getD zigzag (z .n) 0) a (c .long) (zigzag-below (z .n)));
+              kept = rw (w, e7, c .kept) (strewn-set old at step apart room (c .values) (getD zigzag (z .n) 0) a (c .long) (zigzag-below (z .n)));
               going =
                   λ r m b.
                   let a1 = k .number q0 q1 (c .values) (whole r) (start .at + 1216) (suc (reads + (n - first))) j (blocking-goes i r m b) in
@@ -570,9 +705,9 @@ module _ (s table : List ℕ) (kind q0 q1 : ℕ) (g : Reading Coefficients) (sta
                   rw (e5 ∙ ap (λ (v : Bit). v .next) half) (going-weaken 0 (76 * (16 - (z .n + 1))) a5 (omega arith) (omega arith));
             }
 
-pub blocking-start : (s table : List ℕ) (kind q0 q1 : ℕ) {ctx first : ℕ} {here : ℕ} {at : ℕ} {old : List ℤ} {w : Wide} → ctx < 3 → first ≤ 1 → here ≡ probabilityPlace kind first ctx → at + 16 ≤ length old → Blocking s table kind q0 q1 (block table kind q0 q1 ctx first (sixteenAt old at)) w at old first first here 0 w old
-blocking-start s table kind q0 q1 {ctx} {first} {here} {at} {old} {w} h l e room =
-    let b : Reading Coefficients = block table kind q0 q1 ctx first (sixteenAt old at) in
+pub blocking-start : (s table : List ℕ) (kind q0 q1 : ℕ) {ctx first : ℕ} {here : ℕ} {at step : ℕ} {old : List ℤ} {w : Wide} → ctx < 3 → first ≤ 1 → here ≡ probabilityPlace kind first ctx → 1 ≤ step → at + 15 * step < length old → Blocking s table kind q0 q1 (block table kind q0 q1 ctx first (spotsOf old at step)) w at step old first first here 0 w old
+blocking-start s table kind q0 q1 {ctx} {first} {here} {at} {step} {old} {w} h l e apart room =
+    let b : Reading Coefficients = block table kind q0 q1 ctx first (spotsOf old at step) in
     let none : 0 ≡ 0 + (first - first) = omega arith in
     record {
       low = omega arith;
@@ -581,9 +716,9 @@ blocking-start s table kind q0 q1 {ctx} {first} {here} {at} {old} {w} h l e room
       few = h;
       place = e;
       most = omega arith;
-      values = sixteenAt old at;
-      long = length-sixteen old at;
-      kept = stored-same old at room;
+      values = spotsOf old at step;
+      long = length-spots old at step;
+      kept = strewn-same old at step apart room;
       going =
           λ r m f.
           let c : Going s (runPadded (counted 0 b) s r) (w .at + 1216) 0 1216 (counted 0 b) w = going-start (counted 0 b) r m (omega arith) f in

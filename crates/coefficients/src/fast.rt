@@ -49,9 +49,15 @@ const BANDS_AFTER: [u16; 16] = [
 // How many symbols a token 2..11 is, with its number's extra bits: one less for the position, and its sign for that.
 const SYMBOLS: [u8; 12] = [0, 0, 3, 5, 6, 6, 7, 8, 10, 11, 12, 18];
 
+// Where a block's numbers go: number k to the place at + step * k.
+pub struct Spots {
+    pub at: usize,
+    pub step: usize,
+}
+
 // A coefficient, and the reader after it.
 pub(crate) struct Valued {
-    pub value: i32,
+    pub value: i16,
     pub next: Wide,
 }
 
@@ -131,11 +137,11 @@ fn raised(v: u32, q: u16, negative: bool) -> u32
 }
 
 // A number with its sign, times the quantizer, in 16 bits.
-fn product(v: u32, q: u16, negative: bool) -> i32
+fn product(v: u32, q: u16, negative: bool) -> i16
     requires { ⌜ v ≤ 2114 ⌝ }
     ensures { λ r. ⌜ r ≡ wrapZ (signOf negative (v * q)) ⌝ }
 {
-    (raised(v, q, negative) % 65536) as i32 - 32768
+    ((raised(v, q, negative) % 65536) as i32 - 32768) as i16
 }
 
 // The sign of a number, which follows another symbol.
@@ -272,7 +278,7 @@ fn pass_zeros(
     }
 }
 
-// A block of arguments in range, its numbers stored from `at` on. After each position one symbol is counted with it: the one that ends the
+// A block of arguments in range, its numbers stored at the spots. After each position one symbol is counted with it: the one that ends the
 // block or the one that a zero still lacks makes up for the last.
 fn read_block(
     s: &[u8],
@@ -283,12 +289,12 @@ fn read_block(
     first: usize,
     q0: u16,
     q1: u16,
-    out: &mut [i32],
-    at: usize,
+    out: &mut [i16],
+    spots: Spots,
 ) -> WideBlock
     requires { ⌜ (length (now table) ≡ probabilityCount) × ((kind < 4) × ((ctx < 3) × (first ≤ 1))) ⌝ }
-    requires { ⌜ at + 16 ≤ length (now out) ⌝ }
-    ensures { λ q. ⌜ BlockCoded (now (s .entry)) w (block (now (table .entry)) kind q0 q1 ctx first) at
+    requires { ⌜ (1 ≤ spots .step) × (spots .at + 15 * spots .step < length (now out)) ⌝ }
+    ensures { λ q. ⌜ BlockCoded (now (s .entry)) w (block (now (table .entry)) kind q0 q1 ctx first) (spots .at) (spots .step)
         (now (out .entry)) (now (out .exit)) q
         × (q .reads ≤ 304) ⌝ }
 {
@@ -323,7 +329,7 @@ fn read_block(
         let o = v.next;
         let d = signed(o, v.value, quantizer(z.n, q0, q1));
         let value = d.value;
-        out[at + entry(&zigzag, z.n)] = value;
+        out[spots.at + spots.step * entry(&zigzag, z.n)] = value;
         reads = reads + v.reads;
         here = ahead + v.near;
         next = d.next;
@@ -337,16 +343,20 @@ fn read_block(
 }
 
 // Whether the arguments are in range and there is room for sixteen numbers.
-fn room(table: &[u8], kind: usize, ctx: usize, first: usize, size: usize, at: usize) -> bool
-    ensures { λ b. ⌜ b ≡ roomOf (now (table .entry)) kind ctx first size at ⌝ }
+fn room(table: &[u8], kind: usize, ctx: usize, first: usize, size: usize, spots: Spots) -> bool
+    ensures { λ b. ⌜ b ≡ roomOf (now (table .entry)) kind ctx first size (spots .at) (spots .step) ⌝ }
 {
-    if size < 16 {
+    if (spots.step == 0) | (16 < spots.step) {
         return false;
     }
-    arguments(table, kind, ctx, first) & (at <= size - 16)
+    let last = 15 * spots.step;
+    if size <= last {
+        return false;
+    }
+    arguments(table, kind, ctx, first) & (spots.at < size - last)
 }
 
-// A block: where it ended, its symbols counted, its numbers stored from `at` on in `out`. Where there is no room, nothing is read.
+// A block: where it ended, its symbols counted, its numbers stored at their spots in `out`. Where there is no room, nothing is read.
 pub fn coded_block(
     s: &[u8],
     w: Wide,
@@ -356,19 +366,20 @@ pub fn coded_block(
     first: usize,
     q0: u16,
     q1: u16,
-    out: &mut [i32],
-    at: usize,
+    out: &mut [i16],
+    spots: Spots,
 ) -> WideBlock
-    ensures { λ q. ⌜ CodedWhere (roomOf (now (table .entry)) kind ctx first (length (now (out .entry))) at) (now (s .entry)) w
-        (block (now (table .entry)) kind q0 q1 ctx first) at (now (out .entry)) (now (out .exit)) q
+    ensures { λ q. ⌜ CodedWhere (roomOf (now (table .entry)) kind ctx first (length (now (out .entry))) (spots .at) (spots .step))
+        (now (s .entry)) w (block (now (table .entry)) kind q0 q1 ctx first) (spots .at) (spots .step)
+        (now (out .entry)) (now (out .exit)) q
         × (q .reads ≤ 304) ⌝ }
 {
-    if !room(table, kind, ctx, first, out.len(), at) {
+    if !room(table, kind, ctx, first, out.len(), spots) {
         return WideBlock {
             end: 0,
             reads: 0,
             next: w,
         };
     }
-    read_block(s, w, table, kind, ctx, first, q0, q1, out, at)
+    read_block(s, w, table, kind, ctx, first, q0, q1, out, spots)
 }

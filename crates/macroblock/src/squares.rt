@@ -3,11 +3,18 @@ use crate::arguments::Place;
 use modes::answers::Kinds;
 use planes::paint;
 ghost use mathlib.Core.Path.{_≡_};
+ghost use lib.ListN.{length};
+ghost use Rattle.residual.specs.Residual.{blocksOf};
 ghost use Rattle.modes.specs.Answers.{macroblockOf};
 ghost use Rattle.macroblock.specs.Macroblock.{planesOf, paintedPlanes};
 ghost use Rattle.macroblock.specs.MacroblockLaws.{Laid, Painting};
 
-// `c` has the coefficients of sixteen blocks of luma, then four of U and four of V.
+// Where U's four blocks begin among the eight of chroma, and where V's do.
+const U_FIRST: usize = 0;
+
+const V_FIRST: usize = 4;
+
+// `c` has the coefficients of sixteen blocks of luma by lanes, then of eight of chroma.
 pub(crate) fn squares(
     y: &mut [u8],
     u: &mut [u8],
@@ -15,12 +22,12 @@ pub(crate) fn squares(
     place: Place,
     kinds: Kinds,
     modes: &[u8; 16],
-    c: &[i32],
+    c: &[i16],
 )
     requires { ⌜ Laid place (planesOf (now y) (now u) (now v)) ⌝ }
-    requires { ⌜ Painting (macroblockOf kinds (now modes)) (now c) ⌝ }
+    requires { ⌜ (length (now c) ≡ 384) × Painting (macroblockOf kinds (now modes)) (blocksOf (now c)) ⌝ }
     ensures { λ q. ⌜ planesOf (now (y .exit)) (now (u .exit)) (now (v .exit))
-        ≡ paintedPlanes place (macroblockOf kinds (now (modes .entry))) (now (c .entry))
+        ≡ paintedPlanes place (macroblockOf kinds (now (modes .entry))) (blocksOf (now (c .entry)))
         (planesOf (now (y .entry)) (now (u .entry)) (now (v .entry))) ⌝ }
 {
     let width = place.width;
@@ -35,6 +42,7 @@ pub(crate) fn squares(
         modes[0],
         modes,
         &c[0..256],
+        0,
     );
     paint(
         u,
@@ -45,7 +53,8 @@ pub(crate) fn squares(
         false,
         kinds.chroma,
         modes,
-        &c[256..320],
+        &c[256..384],
+        U_FIRST,
     );
     paint(
         v,
@@ -56,6 +65,7 @@ pub(crate) fn squares(
         false,
         kinds.chroma,
         modes,
-        &c[320..384],
+        &c[256..384],
+        V_FIRST,
     );
 }

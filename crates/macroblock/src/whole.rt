@@ -220,7 +220,7 @@ fn with_tokens(
     let left = around.left;
     let top_flags = top.flags;
     let left_flags = left.flags;
-    let mut c = [0; 384];
+    let mut c = [0i16; 384];
     let f = factors_of(frame, index(kinds.segment));
     let read = residual::decode(
         tokens,

@@ -12,6 +12,7 @@ use Rattle.numbers.specs.Lists.{build}
 use Rattle.numbers.specs.Runs.{placed, copied}
 use Rattle.numbers.specs.Tables.{allBelow}
 use Rattle.transform.specs.Transform.{samplesOf, fits16}
+use Rattle.transform.specs.Lanes.{byBlocks, knownLength}
 use Rattle.planes.specs.declared.predict.Edge.{Edge}
 use Rattle.numbers.specs.declared.Checked.{Checked}
 use Rattle.numbers.specs.declared.Checked.the-variants.{Done, Refused}
@@ -140,6 +141,11 @@ unfoldable pub squarePainted : List ℕ → (w x y n : ℕ) (small : Bool) (mode
 squarePainted p w x y n small mode modes c = let m = n / 4 in blocksPainted (predictionRule p w x y n small mode modes) p w x y m c (m * m)
 
 -- ---- the public call: the square of macroblock (column, row)
+-- the coefficients of a square of n by n: of 8 or 16 blocks by lanes, those from block `from` on; of any other number of blocks, none
+unfoldable pub squareBlocks : (n from : ℕ) → List ℤ → List ℤ
+squareBlocks n from l = cond (knownLength (length l)) (take (n * n) (drop (16 * from) (byBlocks (length l / 16) l))) []
+
+-- every mode is below a limit
 abbrev pub modesBelow : ℕ → List ℕ → Bool
 modesBelow limit modes = allBelow 16 (λ k. ltb (getD modes k 0) limit)
 

@@ -10,9 +10,9 @@ use native.Mathlib.Nat.{zero-add, mul-one, add-assoc, mul-le-mul, mul-le-mul-rig
 use native.Mathlib.Numerals.{add-one}
 use native.Mathlib.Omega.{arith}
 use borrow.Author.Tests.{eqb-true, ltb-true, leb-true, lt-ltb, le-leb, eq-eqb, ne-eqb}
-use lib.Dec.{eqb, ltb, leb}
+use lib.Dec.{eqb, ltb, leb, lit<}
 use lib.IntN.{ℤ, pos, negsuc, _+ℤ_}
-use lib.ListN.{length, getD, set, replicate, length-take, length-drop}
+use lib.ListN.{length, getD, set, replicate, take, drop, length-take, length-drop}
 use lib.Seq.{getD-take, getD-drop}
 pub use Rattle.numbers.specs.Lists.{Bytes}
 use Rattle.numbers.specs.ClampLaws.{upTo-le}
@@ -23,25 +23,23 @@ use Rattle.numbers.specs.Parts.{le-true}
 use Rattle.numbers.specs.Runs.{placed, placed-none, placed-next, length-placed, placed-in, placed-off, placed-keeps, placed-same, copied, Off, off-less}
 use Rattle.numbers.specs.Tables.{allBelow, all-below}
 use Rattle.numbers.specs.Tests.{lt-or, eq-or, both-left, both-right, both-true, cond-at}
-use Rattle.transform.specs.LanesLaws.{each-fit}
+use Rattle.transform.specs.Lanes.{byBlocks}
 use Rattle.numbers.specs.declared.Checked.the-variants.{Done, Refused}
 use Rattle.planes.specs.declared.predict.Edge.{Edge}
 use Rattle.planes.specs.Predict.{Size, smallBlock, dcOf}
-use Rattle.planes.specs.Paint.{sampleAt, nearOf, fourAbove, firstPlaces, firstAbove, firstLeft, edgeOf, aboveRight, blockAboveRight, aroundOf, rowsPainted, painted, blockCoefficients, blockResidual, summedOf, blockPainted, cellColumn, cellRow, blocksPainted, largeRule, smallAt, smallRule, predictionRule, squarePainted, eachFits, paintModesFine, squareFine, coefficientsFine, paintFine, PaintedPlane, paintOf}
+use Rattle.planes.specs.Paint.{sampleAt, nearOf, fourAbove, firstPlaces, firstAbove, firstLeft, edgeOf, aboveRight, blockAboveRight, aroundOf, rowsPainted, painted, blockCoefficients, blockResidual, summedOf, blockPainted, cellColumn, cellRow, blocksPainted, largeRule, smallAt, smallRule, predictionRule, squarePainted, squareBlocks, paintModesFine, squareFine, coefficientsFine, paintFine, PaintedPlane, paintOf}
 use Rattle.planes.specs.Places.{Square, Outside, run-inside, sub-square, apart, outside-sub, BlockSides, cell, not-last, Stands, higher, before, stands-first, stands-last, Within, stood, other, by-size, size-some, quarter, size-sides, tiles}
 
 -- arguments with which the square at column x, row y can be painted
-pub record Good (len w x y n : ℕ) (small : Bool) (mode : ℕ) (modes : List ℕ) (c : List ℤ) : Type 0 where
+pub record Good (len w x y n : ℕ) (small : Bool) (mode : ℕ) (modes : List ℕ) : Type 0 where
   pub size : Size n
   pub square : Square len w x y n
   pub whole : x + n < w → x + n + n ≤ w
-  pub long : length c ≡ n * n
-  pub fit : Each (negsuc 32767) (pos 32767) c
   pub large : small ≡ false → mode < 4
   pub luma : small ≡ true → n ≡ 16
   pub each : small ≡ true → (k : ℕ) → k < 16 → getD modes k 0 < 10
 
-module _ {len w x y n mode : ℕ} {small : Bool} {modes : List ℕ} {c : List ℤ} (g : Good len w x y n small mode modes c) where
+module _ {len w x y n mode : ℕ} {small : Bool} {modes : List ℕ} (g : Good len w x y n small mode modes) where
   pub luma-square : small ≡ true → Square len w x y 16
   luma-square e = subst (λ (k : ℕ). Square len w x y k) (g .luma e) (g .square)
 
@@ -401,7 +399,7 @@ module _ (p : List ℕ) (w x y n : ℕ) (small : Bool) (mode : ℕ) (modes : Lis
     square-in i h k = blocks-in (predictionRule p w x y n small mode modes) p w x y (n / 4) cs (size-sides s) (rw (quarter s) t) i c r h k (n / 4 * (n / 4)) h (omega arith)
 
 -- in both of two planes of the same length
-module _ (p q : List ℕ) (w x y n : ℕ) (small : Bool) (mode : ℕ) (modes : List ℕ) (cs : List ℤ) (e : length p ≡ length q) (g : Good (length p) w x y n small mode modes cs)
+module _ (p q : List ℕ) (w x y n : ℕ) (small : Bool) (mode : ℕ) (modes : List ℕ) (cs : List ℤ) (e : length p ≡ length q) (g : Good (length p) w x y n small mode modes)
     (s : Same p q w (Around x y n)) where
   rule-same : (b : Bool) → small ≡ b → (i : ℕ) → i < n / 4 * (n / 4) → (P Q : List ℕ) → Same P Q w (Stands x y (n / 4) i)
       → predictionRule p w x y n b mode modes P i ≡ predictionRule q w x y n b mode modes Q i
@@ -491,30 +489,35 @@ square-tiled {n} len w column row s e =
     times-some : (k : ℕ) {n : ℕ} → 0 < n → k ≤ k * n
     times-some k h = let r : k ≤ k = omega arith in omega (arith, mul-le-mul r h, mul-one k)
 
-module _ (len w column row n : ℕ) (small : Bool) (mode : ℕ) (modes : List ℕ) (c : List ℤ) where
-  pub fine-good : paintFine len w column row n small mode modes c ≡ true → Good len w (column * n) (row * n) n small mode modes c
-  unfolding paintFine coefficientsFine
-  fine-good h =
-      let a = paintModesFine n small mode modes in
-      let b = squareFine len w column row n in
-      let d = coefficientsFine n c in
-      let e = both-left a (b && d) h in
-      let k = both-right a (b && d) h in
-      let g = both-right b d k in
+module _ (len w column row n : ℕ) (small : Bool) (mode : ℕ) (modes : List ℕ) where
+  pub checks-good : paintModesFine n small mode modes ≡ true → squareFine len w column row n ≡ true → Good len w (column * n) (row * n) n small mode modes
+  checks-good e f =
       let s = modes-size n small mode modes e in
-      let t = square-tiled len w column row s (both-left b d k) in
+      let t = square-tiled len w column row s f in
       record {
         size = s;
         square = t .square;
         whole = t .whole;
-        long = eqb-true (length c) (n * n) (both-left (eqb (length c) (n * n)) (eachFits c) g);
-        fit = each-fit c (both-right (eqb (length c) (n * n)) (eachFits c) g);
         large = λ q. large-fine n mode modes (rw q at e) .1;
         luma = λ q. small-fine n mode modes (rw q at e) .0;
         each = λ q. small-fine n mode modes (rw q at e) .1;
       }
 
+  fine-good : (c : List ℤ) → paintFine len w column row n small mode modes c ≡ true → Good len w (column * n) (row * n) n small mode modes
+  unfolding paintFine
+  fine-good c h =
+      let a = paintModesFine n small mode modes in
+      let b = squareFine len w column row n in
+      let d = coefficientsFine n c in
+      checks-good (both-left a (b && d) h) (both-left b d (both-right a (b && d) h))
+
 -- ---- the public call
+-- of 8 or 16 blocks by lanes, the square's are those from block `from` on
+pub square-taken : {m : ℕ} (n from : ℕ) (l : List ℤ) → Size m → length l ≡ 16 * m → squareBlocks n from l ≡ take (n * n) (drop (16 * from) (byBlocks m l))
+unfolding squareBlocks
+square-taken n from l s =
+    by-size (λ (m : ℕ). length l ≡ 16 * m → squareBlocks n from l ≡ take (n * n) (drop (16 * from) (byBlocks m l))) (λ e. rw e) (λ e. rw e) s
+
 -- arguments in their ranges, in a plane of `columns` by `rows` squares
 pub record Proper (len w columns rows column row n : ℕ) (small : Bool) (mode : ℕ) (modes : List ℕ) (c : List ℤ) : Type 0 where
   pub size : Size n

@@ -1,32 +1,40 @@
 -- The two steps of the code: what is predicted is put into the plane, and the residual is added to what stands there. Sub-block after
 -- sub-block, and square after square, that is what the definitions paint.
 use Prim.Native.Nat.{ℕ, zero, suc, _+_, _-_, _*_, _/_, _%_, _≤_, _<_}
-use mathlib.Core.Bool.{Bool, true, false, cond}
+use mathlib.Core.Bool.{Bool, true, false, cond, _&&_}
 use mathlib.Core.List.{List, [], _∷_}
-use mathlib.Core.Logic.{inl, inr}
+use mathlib.Core.Logic.{inl, inr, ⊎-elim}
 use mathlib.Core.Path.{_≡_, refl, sym, _∙_, ap, ap₂, subst}
-use native.Mathlib.Nat.{zero-add, add-zero, add-assoc, one-mul, add-mul, mod-lt, div-add-mod'}
+use native.Mathlib.Nat.{zero-add, add-zero, add-assoc, one-mul, mul-zero, add-mul, mod-lt, div-add-mod'}
 use native.Mathlib.Omega.{arith}
 use lib.IntN.{ℤ, pos, negsuc, _+ℤ_}
-use lib.ListN.{length, getD, set, replicate, getD-replicate}
-use lib.Seq.{set-getD, ext-getD}
+use borrow.Author.Tests.{leb-true, leb-false, eq-eqb, ne-eqb}
+use lib.Bits.{bitOr, or-add-and, and-le-l, and-le-r, or-lt}
+use lib.Dec.{leb, lit<}
+use lib.ListN.{length, getD, set, length-set, take, drop, length-take, length-drop, replicate, length-replicate, getD-replicate}
+use lib.Seq.{set-getD, ext-getD, getD-set-same, getD-set-other, getD-take, getD-drop, length-take-le}
 use lib.Signed.{_≤ℤ_, ltZ, leZ-yes, ≤ℤ-refl, shrZ}
+use mir.Facts.{toZ-inj, fits-ofZ}
+use mir.Syntax.{w16}
+use mir.Val.{SFits, toZ, ofZ}
 use Rattle.numbers.specs.Bounds.{each-[], each-∷}
 use Rattle.numbers.specs.Clamp.{clampZ, clipZ, signedTo}
 use Rattle.numbers.specs.ClampLaws.{clamp-tests, clamp-cases, clamp-low, clamp-high, upTo-is, upTo-same}
+use Rattle.numbers.specs.Hand.{same-bits}
 use Rattle.numbers.specs.In.{In, Each}
 use Rattle.numbers.specs.Lists.{build, built, build-same, getD-build, getD-constant, _∷≡_}
 use Rattle.numbers.specs.Parts.{up, nlt-le, of-le, add-parts, lt-parts}
 use Rattle.numbers.specs.Runs.{placed, placed-none, placed-next, placed-same, length-placed, copied}
-use Rattle.numbers.specs.Tests.{cond-at}
+use Rattle.numbers.specs.Tests.{lt-or, eq-or, never, not-so, both-left, both-right, both-true, cond-at}
 use Rattle.transform.specs.Transform.{samplesOf}
-use Rattle.transform.specs.Lanes.{blockOf, knownLength, residualsOf}
-use Rattle.transform.specs.LanesLaws.{laneRow, each-fit, residuals-fit, residuals-at, residuals-in}
-use Rattle.transform.specs.TransformLaws.{below-four, shortcut}
+use Rattle.transform.specs.Lanes.{byBlocks, blockOf, knownLength, residualOf, residualsOf}
+use Rattle.transform.specs.LanesLaws.{laneRow, length-by-blocks, blocks-at, known-blocks, whole-blocks, residuals-at, residuals-in}
+use Rattle.transform.specs.TransformBounds.{numeral-in}
+use Rattle.transform.specs.TransformLaws.{below-four, below-all, below-next, in-range, shortcut}
 use Rattle.planes.specs.declared.predict.Edge.{Edge}
 use Rattle.planes.specs.Predict.{Size, dcOf, largeAt, largeOf}
 use Rattle.planes.specs.PredictLaws.{tmOne, small-long}
-use Rattle.planes.specs.Paint.{sampleAt, edgeOf, rowsPainted, painted, blockResidual, summedOf, blockPainted, cellColumn, cellRow, blocksPainted, largeRule, smallAt, squarePainted}
+use Rattle.planes.specs.Paint.{sampleAt, edgeOf, rowsPainted, painted, blockResidual, summedOf, blockPainted, cellColumn, cellRow, blocksPainted, largeRule, smallAt, squarePainted, squareBlocks, coefficientsFine}
 use Rattle.planes.specs.PaintLaws.{Bytes, block-at, block-built, rowsPlaced, rows-none, rows-next, length-rows, rows-off, rows-in, rows-same, painted-rows, length-painted, painted-off, painted-in, length-blocks, blocks-yet, blocks-off, blocks-in, square-large}
 use Rattle.planes.specs.Places.{Square, run-inside, BlockSides, sides-few, cell, within-or, covered, by-size, quarter, size-sides, size-blocks}
 
@@ -72,7 +80,7 @@ blockAdded p w at a b c d = rowAdded (rowAdded (rowAdded (rowAdded p at a) (at +
 
 -- the residual of block i, of sixteen blocks by position; and that of a block with nothing but its first coefficient
 abbrev pub laneAdded : List ℕ → (w at : ℕ) (r : List ℤ) (i : ℕ) → List ℕ
-laneAdded p w at r i = blockAdded p w at (laneRow r i) (laneRow r (i + 64)) (laneRow r (i + 128)) (laneRow r (i + 192))
+laneAdded p w at r i = blockAdded p w at (laneRow 16 r i) (laneRow 16 r (i + 64)) (laneRow 16 r (i + 128)) (laneRow 16 r (i + 192))
 
 abbrev pub meanOf : (dc : ℤ) → ℤ
 meanOf dc = shrZ (dc +ℤ pos 4) 8
@@ -83,22 +91,65 @@ meanAdded p w at dc = let v = replicate 4 (meanOf dc) in blockAdded p w at v v v
 abbrev pub Residual : ℤ → Type 0
 Residual r = In (negsuc 150000) (pos 150001) r
 
+-- ---- what is known of coefficients by lanes
+abbrev pub Fits16 : ℤ → Type 0
+Fits16 z = In (negsuc 32767) (pos 32767) z
+
+-- number k of block i of n
+abbrev pub laneAt : (n : ℕ) (c : List ℤ) (i k : ℕ) → ℤ
+laneAt n c i k = getD c (n * k + i) (pos 0)
+
+-- the first i of eight numbers from the place `from` on, each joined with one of those before
+pub record Joined (c : List ℤ) (from : ℕ) (before some : List ℤ) (i : ℕ) : Type 0 where
+  pub long : length some ≡ 8
+  pub none : (j : ℕ) → j < i → getD some j (pos 0) ≡ pos 0 → (getD before j (pos 0) ≡ pos 0) × (getD c (from + j) (pos 0) ≡ pos 0)
+  pub fit : (j : ℕ) → j < i → Fits16 (getD c (from + j) (pos 0))
+  pub yet : (j : ℕ) → i ≤ j → getD some j (pos 0) ≡ getD before j (pos 0)
+
+-- the first k numbers, but the very first, of eight blocks from `first` on
+pub record Looked (c : List ℤ) (n first : ℕ) (some : List ℤ) (k : ℕ) : Type 0 where
+  pub long : length some ≡ 8
+  pub none : (i : ℕ) → i < 8 → (j : ℕ) → 0 < j → j < k → getD some i (pos 0) ≡ pos 0 → laneAt n c (first + i) j ≡ pos 0
+  pub fit : (i : ℕ) → i < 8 → (j : ℕ) → 0 < j → j < k → Fits16 (laneAt n c (first + i) j)
+
+-- the flags of the first i of eight blocks from `first` on
+pub record Marked (before : List Bool) (first : ℕ) (some : List ℤ) (coded : List Bool) (i : ℕ) : Type 0 where
+  pub long : length coded ≡ 16
+  pub plain : (j : ℕ) → j < i → getD coded (first + j) false ≡ false → getD some j (pos 0) ≡ pos 0
+  pub kept : (j : ℕ) → j < first → getD coded j false ≡ getD before j false
+
+-- and of the first m of n blocks: where a flag does not stand, the numbers but the first are 0
+pub record Coded (c : List ℤ) (n : ℕ) (coded : List Bool) (m : ℕ) : Type 0 where
+  pub long : length coded ≡ 16
+  pub plain : (i : ℕ) → i < m → getD coded i false ≡ false → (k : ℕ) → 0 < k → k < 16 → laneAt n c i k ≡ pos 0
+  pub fit : (i : ℕ) → i < m → (k : ℕ) → 0 < k → k < 16 → Fits16 (laneAt n c i k)
+
+-- no flag stands
+abbrev pub NoneBelow : List Bool → (n : ℕ) → Type 0
+NoneBelow coded n = (i : ℕ) → i < n → getD coded i false ≡ false
+
+-- the first coefficients of n blocks fit 16 bits
+abbrev pub FirstFit : (c : List ℤ) (from n : ℕ) → Type 0
+FirstFit c from n = (i : ℕ) → i < n → Fits16 (getD c (from + i) (pos 0))
+
+-- 8 or 16 blocks, with those of a square of n by n from block `from` on among them
+abbrev pub blocksFine : (n len from : ℕ) → Bool
+blocksFine n len from = knownLength len && leb (16 * from + n * n) len
+
 -- ---- what is known of the residuals of n sub-blocks
 -- the first n coefficients of sub-block i but the first are 0
 abbrev pub PlainBlock : (n : ℕ) (c : List ℤ) (i : ℕ) → Type 0
 PlainBlock n c i = (k : ℕ) → 0 < k → k < n → getD c (16 * i + k) (pos 0) ≡ pos 0
 
-pub record Coded (c : List ℤ) (coded : List Bool) (n : ℕ) : Type 0 where
-  pub plain : (i : ℕ) → i < n → getD coded i false ≡ false → PlainBlock 16 c i
-
--- those that are coded stand in r, in 16 bits
-pub record Ready (c : List ℤ) (coded : List Bool) (r : List ℤ) (n : ℕ) : Type 0 where
-  pub few : n ≤ 16
-  pub long : 16 * n ≤ length c
-  pub fit : Each (negsuc 32767) (pos 32767) c
+-- the coefficients are s; by lanes they stand in c, from block `from` on, and the residuals of those that are coded in r, in 16 bits
+pub record Ready (c : List ℤ) (from : ℕ) (s : List ℤ) (coded : List Bool) (r : List ℤ) (n : ℕ) : Type 0 where
+  pub few : from + n ≤ 16
+  pub room : from + n ≤ length c
+  pub long : 16 * n ≤ length s
+  pub first : (i : ℕ) → i < n → getD c (from + i) (pos 0) ≡ getD s (16 * i) (pos 0)
   pub near : Each (negsuc 150000) (pos 150001) r
-  pub plain : (i : ℕ) → i < n → getD coded i false ≡ false → PlainBlock 16 c i
-  pub lane : (i k : ℕ) → i < n → k < 16 → getD coded i false ≡ true → getD r (16 * k + i) (pos 0) ≡ signedTo 32767 (getD (blockResidual c i) k (pos 0))
+  pub plain : (i : ℕ) → i < n → getD coded (from + i) false ≡ false → PlainBlock 16 s i
+  pub lane : (i k : ℕ) → i < n → k < 16 → getD coded (from + i) false ≡ true → getD r (16 * k + (from + i)) (pos 0) ≡ signedTo 32767 (getD (blockResidual s i) k (pos 0))
 
 -- ---- what stands in the sub-block at column x, row y
 unfoldable pub standing : List ℕ → (w x y : ℕ) → List ℕ
@@ -192,7 +243,7 @@ pub rows-added : (p : List ℕ) (w at : ℕ) {q r s t : List ℕ} {a b c d a′ 
     → a ≡ a′ → b ≡ b′ → c ≡ c′ → d ≡ d′ → t ≡ blockAdded p w at a′ b′ c′ d′
 rows-added p w at e f g h i j k l = h ∙ rw (g, f, e, i, j, k, l)
 
-pub lane-near : (r : List ℤ) (from : ℕ) → Each (negsuc 150000) (pos 150001) r → Each (negsuc 150000) (pos 150001) (laneRow r from)
+pub lane-near : (r : List ℤ) (from : ℕ) → Each (negsuc 150000) (pos 150001) r → Each (negsuc 150000) (pos 150001) (laneRow 16 r from)
 lane-near r from e = each-∷ (e .at from) (each-∷ (e .at (from + 16)) (each-∷ (e .at (from + 32)) (each-∷ (e .at (from + 48)) (each-[] tt))))
 
 pub same-near : {v : ℤ} → Residual v → Each (negsuc 150000) (pos 150001) (replicate 4 v)
@@ -284,42 +335,44 @@ module _ (p : List ℕ) (w x y : ℕ) (b : Bytes p) (z : List ℤ) where
       ∙ clip-near (getD (build 16 (λ i. sampleAt p w (x + i % 4) (y + i / 4))) k 0) (getD z k (pos 0)) (rw (getD-build 16 (λ i. sampleAt p w (x + i % 4) (y + i / 4)) k 0 h) (b _)))
 
 -- ---- a sub-block's residual added is the sub-block painted over what stands there
-lane-at : (r : List ℤ) (from k : ℕ) → k < 4 → getD (laneRow r from) k (pos 0) ≡ getD r (from + 16 * k) (pos 0)
-lane-at r from = below-four (λ k. getD (laneRow r from) k (pos 0) ≡ getD r (from + 16 * k) (pos 0)) (rw add-zero) refl refl refl
+lane-at : (r : List ℤ) (from k : ℕ) → k < 4 → getD (laneRow 16 r from) k (pos 0) ≡ getD r (from + 16 * k) (pos 0)
+lane-at r from = below-four (λ k. getD (laneRow 16 r from) k (pos 0) ≡ getD r (from + 16 * k) (pos 0)) (rw add-zero) refl refl refl
 
-module _ {c : List ℤ} {coded : List Bool} {r : List ℤ} {n : ℕ} (ready : Ready c coded r n) (p : List ℕ) (bytes : Bytes p) (w x y i : ℕ) {at : ℕ} (h : i < n) (l : x + 4 ≤ w) (e : at ≡ y * w + x) where
-  coded-added : getD coded i false ≡ true → laneAdded p w at r i ≡ painted p w x y (summedOf (standing p w x y) (blockResidual c i))
+module _ {c : List ℤ} {from : ℕ} {s : List ℤ} {coded : List Bool} {r : List ℤ} {n : ℕ} (ready : Ready c from s coded r n) (p : List ℕ) (bytes : Bytes p) (w x y i : ℕ) {at : ℕ} (h : i < n) (l : x + 4 ≤ w) (e : at ≡ y * w + x) where
+  coded-added : getD coded (from + i) false ≡ true → laneAdded p w at r (from + i) ≡ painted p w x y (summedOf (standing p w x y) (blockResidual s i))
   coded-added b =
-      block-added p w x y near _ _ _ _ l e (row 0 i (omega arith)) (row 4 (i + 64) (omega arith)) (row 8 (i + 128) (omega arith)) (row 12 (i + 192) (omega arith))
-      ∙ ap (painted p w x y) (summed-near p w x y bytes (blockResidual c i))
+      let t = from + i in
+      block-added p w x y near _ _ _ _ l e (row 0 t (omega arith)) (row 4 (t + 64) (omega arith)) (row 8 (t + 128) (omega arith)) (row 12 (t + 192) (omega arith))
+      ∙ ap (painted p w x y) (summed-near p w x y bytes (blockResidual s i))
     where
       near : List ℤ
-      near = build 16 (λ k. signedTo 32767 (getD (blockResidual c i) k (pos 0)))
+      near = build 16 (λ k. signedTo 32767 (getD (blockResidual s i) k (pos 0)))
 
-      row : (f m : ℕ) → (m ≡ 16 * f + i) × (f ≤ 12) → (k : ℕ) → k < 4 → getD (laneRow r m) k (pos 0) ≡ getD near (f + k) (pos 0)
+      row : (f m : ℕ) → (m ≡ 16 * f + (from + i)) × (f ≤ 12) → (k : ℕ) → k < 4 → getD (laneRow 16 r m) k (pos 0) ≡ getD near (f + k) (pos 0)
       row f m a k g =
-          let q : m + 16 * k ≡ 16 * (f + k) + i = omega arith in
+          let q : m + 16 * k ≡ 16 * (f + k) + (from + i) = omega arith in
           lane-at r m k g ∙ ap (λ (j : ℕ). getD r j (pos 0)) q ∙ ready .lane i (f + k) h (omega arith) b ∙ sym (getD-build 16 _ (f + k) (pos 0) (omega arith))
 
-  plain-residual : PlainBlock 16 c i → blockResidual c i ≡ replicate 16 (meanOf (getD c (16 * i) (pos 0)))
+  plain-residual : PlainBlock 16 s i → blockResidual s i ≡ replicate 16 (meanOf (getD s (16 * i) (pos 0)))
   unfolding blockResidual
   plain-residual q =
-      let m : 16 * i + 16 ≤ length c = omega (arith, ready .long) in
-      shortcut false (record { zero = λ k a b. block-at c i m k (pos 0) b ∙ q k a b }) ∙ ap (λ (v : ℤ). replicate 16 (meanOf v)) (block-at c i m 0 (pos 0) (omega arith) ∙ ap (λ (j : ℕ). getD c j (pos 0)) (add-zero (16 * i)))
+      let m : 16 * i + 16 ≤ length s = omega (arith, ready .long) in
+      shortcut false (record { zero = λ k a b. block-at s i m k (pos 0) b ∙ q k a b }) ∙ ap (λ (v : ℤ). replicate 16 (meanOf v)) (block-at s i m 0 (pos 0) (omega arith) ∙ ap (λ (j : ℕ). getD s j (pos 0)) (add-zero (16 * i)))
 
-  plain-added : getD coded i false ≡ false → meanAdded p w at (getD c (16 * i) (pos 0)) ≡ painted p w x y (summedOf (standing p w x y) (blockResidual c i))
+  plain-added : getD coded (from + i) false ≡ false → meanAdded p w at (getD s (16 * i) (pos 0)) ≡ painted p w x y (summedOf (standing p w x y) (blockResidual s i))
   plain-added b =
-      let v = meanOf (getD c (16 * i) (pos 0)) in
-      let row : (f : ℕ) → f ≤ 12 → (k : ℕ) → k < 4 → getD (replicate 4 v) k (pos 0) ≡ getD (blockResidual c i) (f + k) (pos 0) =
+      let v = meanOf (getD s (16 * i) (pos 0)) in
+      let row : (f : ℕ) → f ≤ 12 → (k : ℕ) → k < 4 → getD (replicate 4 v) k (pos 0) ≡ getD (blockResidual s i) (f + k) (pos 0) =
       λ f a k g. getD-replicate 4 k v (pos 0) g ∙ sym (ap (λ (z : List ℤ). getD z (f + k) (pos 0)) (plain-residual (ready .plain i h b)) ∙ getD-replicate 16 (f + k) v (pos 0) (omega arith)) in
-      block-added p w x y (blockResidual c i) _ _ _ _ l e (row 0 (omega arith)) (row 4 (omega arith)) (row 8 (omega arith)) (row 12 (omega arith))
+      block-added p w x y (blockResidual s i) _ _ _ _ l e (row 0 (omega arith)) (row 4 (omega arith)) (row 8 (omega arith)) (row 12 (omega arith))
 
-  pub added-block : {b : Bool} {dc : ℤ} → b ≡ getD coded i false → dc ≡ getD c (16 * i) (pos 0)
-      → cond b (laneAdded p w at r i) (meanAdded p w at dc) ≡ blockPainted p w x y (standing p w x y) c i
+  -- j is the block's number among all
+  pub added-block : {j : ℕ} {b : Bool} {dc : ℤ} → j ≡ from + i → b ≡ getD coded j false → dc ≡ getD c j (pos 0)
+      → cond b (laneAdded p w at r j) (meanAdded p w at dc) ≡ blockPainted p w x y (standing p w x y) s i
   unfolding blockPainted
-  added-block {b} f g = rw (f, g) (by (getD coded i false) refl)
+  added-block {j} {b} {dc} d f g = rw (f, g, d, ready .first i h) (by (getD coded (from + i) false) refl)
     where
-      by : (b : Bool) → getD coded i false ≡ b → cond b (laneAdded p w at r i) (meanAdded p w at (getD c (16 * i) (pos 0))) ≡ painted p w x y (summedOf (standing p w x y) (blockResidual c i))
+      by : (b : Bool) → getD coded (from + i) false ≡ b → cond b (laneAdded p w at r (from + i)) (meanAdded p w at (getD s (16 * i) (pos 0))) ≡ painted p w x y (summedOf (standing p w x y) (blockResidual s i))
       by true a = coded-added a
       by false a = plain-added a
 
@@ -406,24 +459,194 @@ square-put p w x y n mode cs {q} {q′} s t e f =
     ∙ put-then p w x y m mode (dcOf n E) E cs (size-sides s) (subst (Square (length p) w x y) (sym z) t)
     ∙ square-large p w x y n false mode [] cs refl refl refl
 
--- ---- the residuals of a square of n by n
-pub square-known : {n l : ℕ} → Size n → l ≡ n * n → (knownLength l ≡ true) × (l / 16 ≡ n / 4 * (n / 4)) × (l / 16 ≤ 16)
-square-known {n} {l} s e =
-    by-size (λ (n : ℕ). l ≡ n * n → (knownLength l ≡ true) × (l / 16 ≡ n / 4 * (n / 4)) × (l / 16 ≤ 16))
-    (λ h. (rw h, omega arith, omega arith)) (λ h. (rw h, omega arith, omega arith)) s e
+-- ---- zeros are near 0
+zeros-near : Each (negsuc 150000) (pos 150001) (replicate 256 (pos 0))
+zeros-near = record { at = λ k. rw (getD-constant 256 k (pos 0)) (numeral-in (pos 0) tt) }
 
-pub square-ready : {n : ℕ} (c : List ℤ) (coded : List Bool) (before : List ℤ) {b : Bool} {v : List ℤ} → Size n → length c ≡ n * n → Coded c coded (length c / 16)
-    → record { fit = b; values = v } ≡ residualsOf c coded before → b ≡ true → Ready c coded v (n / 4 * (n / 4))
-unfolding blockResidual blockOf
-square-ready {n} c coded before {b} {v} s l d e t =
-    let k = square-known s l in
-    let m = n / 4 * (n / 4) in
-    let z : 16 * m ≡ length c = sym (l ∙ size-blocks s) in
-    record {
-      few = omega arith;
-      long = omega arith;
-      fit = each-fit c (sym (residuals-fit c coded before e (k .0)) ∙ t);
-      near = residuals-in c coded before e t;
-      plain = λ i h. d .plain i (omega arith);
-      lane = λ i j h g q. residuals-at c coded before e t i j (omega arith) (omega arith) g q ∙ ap (λ (x : List ℤ). signedTo 32767 (getD (samplesOf false x) j (pos 0))) (sym (block-built c i (omega arith)));
-    }
+-- ---- numbers joined, turn by turn
+-- two joined bit by bit are 0 where both are
+or-none : (a b : ℕ) → bitOr a b ≡ 0 → (a ≡ 0) × (b ≡ 0)
+or-none a b e = (omega (arith, or-add-and a b, and-le-r a b, e), omega (arith, or-add-and a b, and-le-l a b, e))
+
+pub joined-zero : (a b : ℤ) → SFits w16 a → SFits w16 b → toZ w16 (bitOr (ofZ w16 a) (ofZ w16 b)) ≡ pos 0 → (a ≡ pos 0) × (b ≡ pos 0)
+joined-zero a b f g e =
+    let h = or-none (ofZ w16 a) (ofZ w16 b) (toZ-inj {w = w16} (record { fits = or-lt 16 (ofZ w16 a) (ofZ w16 b) (fits-ofZ {w = w16} {z = a} f .fits) (fits-ofZ {w = w16} {z = b} g .fits) }) (record { fits = lit< tt }) e) in
+    let z : SFits w16 (pos 0) = record { sfits = lit< tt } in
+    (same-bits w16 f z (h .0), same-bits w16 g z (h .1))
+
+module _ {c : List ℤ} {from : ℕ} {before : List ℤ} where
+  pub joined-none : length before ≡ 8 → Joined c from before before 0
+  joined-none l = record { long = l; none = λ j h. absurd (omega arith); fit = λ j h. absurd (omega arith); yet = λ j h. refl }
+
+  pub joined-next : {some : List ℤ} {i : ℕ} {v : ℤ} → i < 8 → Fits16 (getD c (from + i) (pos 0)) → (v ≡ pos 0 → (getD some i (pos 0) ≡ pos 0) × (getD c (from + i) (pos 0) ≡ pos 0))
+      → Joined c from before some i → Joined c from before (set some i v) (i + 1)
+  joined-next {some} {i} {v} h f z g = record {
+    long = length-set some i v ∙ g .long;
+    none = λ j l e. elim (eq-or j i) [
+      | inl q ↦
+          let t = z (sym (getD-set-same some i v (pos 0) (rw (g .long) h)) ∙ ap (λ (k : ℕ). getD (set some i v) k (pos 0)) (sym q) ∙ e) in
+          rw q (sym (g .yet i (omega arith)) ∙ t .0, t .1)
+      | inr q ↦ g .none j (omega arith) (sym (getD-set-other some i j v (pos 0) q) ∙ e)
+    ];
+    fit = below-next (λ j. Fits16 (getD c (from + j) (pos 0))) i f (g .fit);
+    yet = λ j l. getD-set-other some i j v (pos 0) (λ q. omega arith) ∙ g .yet j (omega arith);
+  }
+
+module _ {c : List ℤ} {n first : ℕ} where
+  pub looked-none : {some : List ℤ} → length some ≡ 8 → Looked c n first some 1
+  looked-none l = record { long = l; none = λ i h j a b. absurd (omega arith); fit = λ i h j a b. absurd (omega arith) }
+
+  pub looked-next : {some some′ : List ℤ} {k : ℕ} → Joined c (n * k + first) some some′ 8 → Looked c n first some k → Looked c n first some′ (k + 1)
+  looked-next {some} {some′} {k} q g = record {
+    long = q .long;
+    none = λ i h j a b e.
+        below-next (λ j. 0 < j → laneAt n c (first + i) j ≡ pos 0) k
+        (λ z. ap (λ (m : ℕ). getD c m (pos 0)) (sym (add-assoc (n * k) first i)) ∙ q .none i h e .1) (λ j b a. g .none i h j a b (q .none i h e .0)) j b a;
+    fit = λ i h j a b.
+        below-next (λ j. 0 < j → Fits16 (laneAt n c (first + i) j)) k
+        (λ z. subst (λ (m : ℕ). Fits16 (getD c m (pos 0))) (add-assoc (n * k) first i) (q .fit i h)) (λ j b a. g .fit i h j a b) j b a;
+  }
+
+module _ {before : List Bool} {first : ℕ} {some : List ℤ} where
+  pub marked-none : length before ≡ 16 → Marked before first some before 0
+  marked-none l = record { long = l; plain = λ j h. absurd (omega arith); kept = λ j h. refl }
+
+  pub marked-next : {coded : List Bool} {i : ℕ} {b : Bool} → first + i < 16 → (b ≡ false → getD some i (pos 0) ≡ pos 0)
+      → Marked before first some coded i → Marked before first some (set coded (first + i) b) (i + 1)
+  marked-next {coded} {i} {b} h f g = record {
+    long = length-set coded (first + i) b ∙ g .long;
+    plain = λ j l e. elim (eq-or j i) [
+      | inl q ↦ rw q (f (sym (getD-set-same coded (first + i) b false (rw (g .long) h)) ∙ ap (λ (k : ℕ). getD (set coded (first + i) b) (first + k) false) (sym q) ∙ e))
+      | inr q ↦ g .plain j (omega arith) (sym (getD-set-other coded (first + i) (first + j) b false (λ z. q (omega arith))) ∙ e)
+    ];
+    kept = λ j l. getD-set-other coded (first + i) j b false (λ z. omega arith) ∙ g .kept j l;
+  }
+
+module _ {c : List ℤ} {n : ℕ} where
+  pub coded-none : {coded : List Bool} → length coded ≡ 16 → Coded c n coded 0
+  coded-none l = record { long = l; plain = λ i h. absurd (omega arith); fit = λ i h. absurd (omega arith) }
+
+  pub coded-next : (h : ℕ) {coded coded′ : List Bool} {some : List ℤ} → Looked c n (8 * h) some 16 → Marked coded (8 * h) some coded′ 8 → Coded c n coded (8 * h) → Coded c n coded′ (8 * (h + 1))
+  coded-next h {coded} {coded′} {some} q m g = record {
+    long = m .long;
+    plain = λ i l e k a b. elim (lt-or i (8 * h)) [
+      | inl z ↦ g .plain i z (sym (m .kept i z) ∙ e) k a b
+      | inr z ↦
+          let o : 8 * h + (i - 8 * h) ≡ i = omega arith in
+          rw (sym o) (q .none (i - 8 * h) (omega arith) k a b (m .plain (i - 8 * h) (omega arith) (ap (λ (j : ℕ). getD coded′ j false) o ∙ e)))
+    ];
+    fit = λ i l k a b. elim (lt-or i (8 * h)) [
+      | inl z ↦ g .fit i z k a b
+      | inr z ↦ let o : 8 * h + (i - 8 * h) ≡ i = omega arith in subst (λ (j : ℕ). Fits16 (laneAt n c j k)) o (q .fit (i - 8 * h) (omega arith) k a b)
+    ];
+  }
+
+-- ---- the coefficients of a square of n by n, of blocks by lanes
+pub fine-blocks : (n len from : ℕ) → blocksFine n len from ≡ true → (knownLength len ≡ true) × (16 * from + n * n ≤ len)
+fine-blocks n len from e =
+    let a = knownLength len in
+    let b = leb (16 * from + n * n) len in
+    (both-left a b e, leb-true (16 * from + n * n) len (both-right a b e))
+
+pub far-blocks : (n len from : ℕ) → 16 < from → false ≡ blocksFine n len from
+far-blocks n len from h = not-so (blocksFine n len from) (λ e. let f = fine-blocks n len from e in ⊎-elim (λ z. omega arith) (λ z. omega arith) (known-blocks len (f .0)))
+
+module _ {n : ℕ} (from : ℕ) (c : List ℤ) (s : Size n) where
+  module _ (f : blocksFine n (length c) from ≡ true) where
+    pub square-room : (length c ≡ 16 * (length c / 16)) × (from + n / 4 * (n / 4) ≤ length c / 16) × (length c / 16 ≤ 16) × (8 * (length c / 16 / 8) ≡ length c / 16) × (0 < length c / 16)
+    square-room =
+        let g = fine-blocks n (length c) from f in
+        let w = whole-blocks (known-blocks (length c) (g .0)) in
+        (sym (w .0), omega (arith, g .1, w .0, size-blocks s), w .1, ⊎-elim (λ e. omega arith) (λ e. omega arith) (known-blocks (length c) (g .0)), ⊎-elim (λ e. omega arith) (λ e. omega arith) (known-blocks (length c) (g .0)))
+
+    -- sixteen blocks are all that there are
+    pub square-all : n ≡ 16 → from ≡ 0
+    square-all e = let m : n / 4 ≡ 4 = omega arith in omega (arith, square-room .1, square-room .2, ap₂ _*_ m m)
+
+    square-is : squareBlocks n from c ≡ take (n * n) (drop (16 * from) (byBlocks (length c / 16) c))
+    unfolding squareBlocks
+    square-is = rw (fine-blocks n (length c) from f .0)
+
+    pub length-square-blocks : length (squareBlocks n from c) ≡ n * n
+    length-square-blocks =
+        let b = byBlocks (length c / 16) c in
+        ap length square-is ∙ length-take-le (n * n) (drop (16 * from) b) (omega (arith, length-drop (16 * from) b, length-by-blocks (length c / 16) c, square-room .0, fine-blocks n (length c) from f .1))
+
+    module _ (i k : ℕ) (h : i < n / 4 * (n / 4)) (g : k < 16) where
+      square-block : getD (squareBlocks n from c) (16 * i + k) (pos 0) ≡ getD (byBlocks (length c / 16) c) (16 * (from + i) + k) (pos 0)
+      square-block =
+          let b = byBlocks (length c / 16) c in
+          let z : 16 * from + (16 * i + k) ≡ 16 * (from + i) + k = omega arith in
+          ap (λ (l : List ℤ). getD l (16 * i + k) (pos 0)) square-is ∙ getD-take (n * n) (drop (16 * from) b) (16 * i + k) (pos 0) (omega (arith, size-blocks s))
+          ∙ getD-drop (16 * from) b (16 * i + k) (pos 0) ∙ ap (λ (j : ℕ). getD b j (pos 0)) z
+
+      square-lane : getD (squareBlocks n from c) (16 * i + k) (pos 0) ≡ laneAt (length c / 16) c (from + i) k
+      square-lane = square-block ∙ blocks-at (length c / 16) c (from + i) k (omega (arith, square-room .1)) g
+
+    -- each coefficient was looked at, so each fits
+    pub square-fits : {coded : List Bool} → Coded c (length c / 16) coded (length c / 16) → FirstFit c from (n / 4 * (n / 4)) → coefficientsFine n (squareBlocks n from c) ≡ true
+    unfolding coefficientsFine
+    square-fits d e =
+        both-true (eq-eqb (length (squareBlocks n from c)) (n * n) length-square-blocks)
+        (below-all _ (length (squareBlocks n from c)) (λ p h. in-range (at p (omega (arith, length-square-blocks, size-blocks s)))))
+      where
+        at : (p : ℕ) → p < 16 * (n / 4 * (n / 4)) → Fits16 (getD (squareBlocks n from c) p (pos 0))
+        at p h =
+            let i = p / 16 in
+            let z : 16 * i + p % 16 ≡ p = omega arith in
+            subst (λ (j : ℕ). Fits16 (getD (squareBlocks n from c) j (pos 0))) z
+            (elim (eq-or (p % 16) 0) [
+              | inl q ↦
+                  subst Fits16 (sym (square-lane i (p % 16) (omega arith) (omega arith) ∙ ap (λ (j : ℕ). getD c j (pos 0)) (ap (λ (k : ℕ). length c / 16 * k + (from + i)) q ∙ ap (λ (k : ℕ). k + (from + i)) (mul-zero (length c / 16)) ∙ zero-add (from + i))))
+                  (e i (omega arith))
+              | inr q ↦ subst Fits16 (sym (square-lane i (p % 16) (omega arith) (omega arith))) (d .fit (from + i) (omega (arith, square-room .1)) (p % 16) (omega arith) (omega arith))
+            ])
+
+    -- what stands ready, by what is known of the residuals: `lane` is asked where one is coded
+    pub square-ready : (coded : List Bool) {v : List ℤ} → Coded c (length c / 16) coded (length c / 16) → Each (negsuc 150000) (pos 150001) v
+        → ((i k : ℕ) → i < length c / 16 → k < 16 → getD coded i false ≡ true → getD v (16 * k + i) (pos 0) ≡ residualOf (length c / 16) c i k)
+        → Ready c from (squareBlocks n from c) coded v (n / 4 * (n / 4))
+    unfolding blockResidual blockOf
+    square-ready coded d e r =
+        let N = length c / 16 in
+        let S = squareBlocks n from c in
+        let m = square-room in
+        record {
+          few = omega arith;
+          room = omega arith;
+          long = omega (arith, length-square-blocks, size-blocks s);
+          first = λ i h.
+              ap (λ (j : ℕ). getD c j (pos 0)) (sym (ap (λ (k : ℕ). k + (from + i)) (mul-zero N) ∙ zero-add (from + i))) ∙ sym (square-lane i 0 h (omega arith)) ∙ ap (λ (j : ℕ). getD S j (pos 0)) (add-zero (16 * i));
+          near = e;
+          plain = λ i h q k a b. square-lane i k h b ∙ d .plain (from + i) (omega arith) q k a b;
+          lane = λ i k h g q.
+              r (from + i) k (omega arith) g q
+              ∙ ap (λ (x : List ℤ). signedTo 32767 (getD (samplesOf false x) k (pos 0)))
+              (sym (block-built S i (omega (arith, length-square-blocks, size-blocks s)) ∙ build-same 16 _ _ (λ k l. square-block i k h l)));
+        }
+
+    -- the residuals of all, or none where no block is coded
+    pub ready-turned : (coded : List Bool) {before v v′ : List ℤ} {b : Bool} → Coded c (length c / 16) coded (length c / 16) → before ≡ replicate 256 (pos 0) → record { fit = b; values = v } ≡ residualsOf c before
+        → v′ ≡ v → Ready c from (squareBlocks n from c) coded v′ (n / 4 * (n / 4))
+    ready-turned coded {before} d z e y =
+        let k = fine-blocks n (length c) from f .0 in
+        rw y
+        (square-ready coded d (residuals-in c before e k (rw z zeros-near))
+        (λ i j h g q. residuals-at c before e k (ap length z ∙ length-replicate 256 (pos 0)) i j h g))
+
+    pub ready-plain : (coded : List Bool) {v : List ℤ} → Coded c (length c / 16) coded (length c / 16) → v ≡ replicate 256 (pos 0) → NoneBelow coded 16
+        → Ready c from (squareBlocks n from c) coded v (n / 4 * (n / 4))
+    ready-plain coded d z e = square-ready coded d (rw z zeros-near) (λ i j h g q. absurd (never q (e i (omega (arith, square-room .2)))))
+
+  -- too few blocks, or too many
+  pub unfit : blocksFine n (length c) from ≡ false → coefficientsFine n (squareBlocks n from c) ≡ false
+  unfolding coefficientsFine squareBlocks
+  unfit e = rw (ne-eqb (length (squareBlocks n from c)) (n * n) (λ q. omega (arith, short (knownLength (length c)) refl e, q)))
+    where
+      short : (b : Bool) → knownLength (length c) ≡ b → blocksFine n (length c) from ≡ false → length (squareBlocks n from c) < n * n
+      short true k e =
+          let b = byBlocks (length c / 16) c in
+          let d = drop (16 * from) b in
+          let l : length c < 16 * from + n * n = leb-false (16 * from + n * n) (length c) (rw k at e) in
+          rw k (omega (arith, length-take (n * n) d, length-drop (16 * from) b, length-by-blocks (length c / 16) c, whole-blocks (known-blocks (length c) k) .0, by-size (λ (n : ℕ). 0 < n * n) (omega arith) (omega arith) s))
+      short false k e = rw k (by-size (λ (n : ℕ). 0 < n * n) (omega arith) (omega arith) s)

@@ -65,7 +65,7 @@ fn add_row(p: &mut [u8], at: usize, r: [i32; 4])
 // A row of the residual of a block, of sixteen blocks by position.
 fn lane_row(r: &[i16; 256], from: usize) -> [i32; 4]
     requires { ⌜ from + 48 < 256 ⌝ }
-    ensures { λ q. ⌜ q ≡ laneRow (now (r .entry)) from ⌝ }
+    ensures { λ q. ⌜ q ≡ laneRow 16 (now (r .entry)) from ⌝ }
 {
     [
         r[from] as i32,

@@ -11,38 +11,76 @@ ghost use mathlib.Core.Path.{_≡_};
 ghost use mathlib.Core.Bool.{true, false};
 ghost use mathlib.Core.List.{[]};
 ghost use Prim.Native.Nat.{ℕ, _+_, _*_, _/_, _<_, _≤_};
-ghost use lib.ListN.{length, getD};
+ghost use lib.IntN.{pos};
+ghost use lib.ListN.{length, getD, replicate};
 ghost use Rattle.planes.specs.Predict.{Size};
-ghost use Rattle.planes.specs.Paint.{painted, blocksPainted, smallAt, smallRule, squarePainted};
+ghost use Rattle.planes.specs.Paint.{painted, blocksPainted, smallAt, smallRule, squarePainted, squareBlocks};
 ghost use Rattle.planes.specs.Places.{Square, BlockSides, Lies, Sub};
-ghost use Rattle.planes.specs.Steps.{PlainBlock, Coded, Ready, standRule};
+ghost use Rattle.planes.specs.Steps.{Joined, Looked, Marked, Coded, NoneBelow, FirstFit, Ready, standRule};
 
-// Whether every coefficient of sub-block i but the first is 0.
-fn plain(c: &[i32], i: usize) -> bool
-    requires { ⌜ (16 * i + 16 ≤ length (now c)) × (i < 16) ⌝ }
-    ensures { λ r. ⌜ (r ≡ true → PlainBlock 16 (now (c .entry)) i) ⌝ }
+// Eight numbers from the place `from` on, each joined bit by bit to one of `some`.
+fn join(c: &[i16], from: usize, some: &mut [i16; 8])
+    requires { ⌜ (from + 8 ≤ length (now c)) × (length (now some) ≡ 8) ⌝ }
+    ensures { λ _. ⌜ Joined (now (c .entry)) from (now (some .entry)) (now (some .exit)) 8 ⌝ }
 {
-    let mut none = true;
-    for k in 1..16usize {
-        none = (c[16 * i + k] == 0) & none;
+    for i in 0..8usize {
+        some[i] = some[i] | c[from + i];
     }
-    none
 }
 
-// Which of n sub-blocks have a coefficient but the first that is not 0.
-pub(crate) fn coded_blocks(c: &[i32], n: usize) -> [bool; 16]
-    requires { ⌜ (16 * n ≤ length (now c)) × (n ≤ 16) ⌝ }
-    ensures { λ r. ⌜ Coded (now (c .entry)) r n ⌝ }
+// Of the eight blocks from `first` on, of n: what their coefficients but the first have in any bit.
+fn some_of_eight(c: &[i16], n: usize, first: usize) -> [i16; 8]
+    requires { ⌜ (16 * n ≡ length (now c)) × (n ≤ 16) × (first + 8 ≤ n) ⌝ }
+    ensures { λ r. ⌜ Looked (now (c .entry)) n first r 16 ⌝ }
+{
+    let mut some = [0i16; 8];
+    for k in 1..16usize {
+        join(c, n * k + first, &mut some);
+    }
+    some
+}
+
+// The flags of eight blocks from `first` on: whether they have such a bit.
+fn mark(coded: &mut [bool; 16], first: usize, some: [i16; 8])
+    requires { ⌜ (first + 8 ≤ 16) × (length (now coded) ≡ 16) ⌝ }
+    ensures { λ _. ⌜ Marked (now (coded .entry)) first some (now (coded .exit)) 8 ⌝ }
+{
+    for i in 0..8usize {
+        coded[first + i] = some[i] != 0;
+    }
+}
+
+// Which of n sub-blocks, 8 or 16, have a coefficient but the first that is not 0. Each way names n by a constant, so that the compiler
+// knows where the numbers stand.
+pub(crate) fn coded_blocks(c: &[i16], n: usize) -> [bool; 16]
+    requires { ⌜ (16 * n ≡ length (now c)) × (n ≤ 16) × (8 * (n / 8) ≡ n) × (0 < n) ⌝ }
+    ensures { λ r. ⌜ Coded (now (c .entry)) n r n ⌝ }
 {
     let mut coded = [false; 16];
-    for i in 0..n {
-        coded[i] = !plain(c, i);
+    if n == 16 {
+        mark(&mut coded, 0, some_of_eight(c, 16, 0));
+        mark(&mut coded, 8, some_of_eight(c, 16, 8));
+        return coded;
     }
+    mark(&mut coded, 0, some_of_eight(c, 8, 0));
     coded
 }
 
+// Whether one of them has.
+pub(crate) fn any(coded: [bool; 16]) -> bool
+    ensures { λ r. ⌜ (r ≡ false → NoneBelow coded 16) ⌝ }
+{
+    let mut some = false;
+    for i in 0..16usize {
+        some = coded[i] | some;
+    }
+    some
+}
+
 // Where their residuals go.
-pub(crate) fn no_values() -> [i16; 256] {
+pub(crate) fn no_values() -> [i16; 256]
+    ensures { λ r. ⌜ r ≡ replicate 256 (pos 0) ⌝ }
+{
     [0; 256]
 }
 
@@ -62,7 +100,8 @@ fn sub_block(w: usize, x: usize, y: usize, m: usize, i: usize) -> Spot
     }
 }
 
-// The residuals of a square of m by m sub-blocks.
+// The residuals of a square of m by m sub-blocks. A number that is read fits its type, so it ensures that the first coefficients do;
+// `coded_blocks` reads, and ensures it of, the others.
 fn add_blocks(
     p: &mut [u8],
     w: usize,
@@ -71,16 +110,20 @@ fn add_blocks(
     m: usize,
     coded: [bool; 16],
     r: &[i16; 256],
-    c: &[i32],
+    c: &[i16],
+    from: usize,
 )
     requires { ⌜ Square (length (now p)) w x y (4 * m) ⌝ }
     requires { ⌜ BlockSides m ⌝ }
-    requires { ⌜ Ready (now c) coded (now r) (m * m) ⌝ }
-    ensures { λ _. ⌜ now (p .exit) ≡ blocksPainted (standRule w x y m) (now (p .entry)) w x y m (now (c .entry)) (m * m) ⌝ }
+    requires { ⌜ Ready (now c) from (squareBlocks (4 * m) from (now c)) coded (now r) (m * m) ⌝ }
+    ensures { λ _. ⌜ now (p .exit)
+        ≡ blocksPainted (standRule w x y m) (now (p .entry)) w x y m (squareBlocks (4 * m) from (now (c .entry))) (m * m) ⌝ }
+    ensures { λ _. ⌜ FirstFit (now (c .entry)) from (m * m) ⌝ }
 {
     for i in 0..m * m {
         let s = sub_block(w, x, y, m, i);
-        add(&mut p[..], w, s.at, coded[i], r, i, c[16 * i]);
+        let b = from + i;
+        add(&mut p[..], w, s.at, coded[b], r, b, c[b] as i32);
     }
 }
 
@@ -106,18 +149,19 @@ fn small_blocks(
     modes: &[u8; 16],
     coded: [bool; 16],
     r: &[i16; 256],
-    c: &[i32],
+    c: &[i16],
 )
     requires { ⌜ Square (length (now p)) w x y 16 ⌝ }
     requires { ⌜ ((k : ℕ) → k < 16 → getD (now modes) k 0 < 10) ⌝ }
-    requires { ⌜ Ready (now c) coded (now r) 16 ⌝ }
-    ensures { λ _. ⌜ now (p .exit)
-        ≡ blocksPainted (smallRule w x y right (now (modes .entry))) (now (p .entry)) w x y 4 (now (c .entry)) 16 ⌝ }
+    requires { ⌜ Ready (now c) 0 (squareBlocks 16 0 (now c)) coded (now r) 16 ⌝ }
+    ensures { λ _. ⌜ now (p .exit) ≡ blocksPainted (smallRule w x y right (now (modes .entry))) (now (p .entry)) w x y 4
+        (squareBlocks 16 0 (now (c .entry))) 16 ⌝ }
+    ensures { λ _. ⌜ FirstFit (now (c .entry)) 0 16 ⌝ }
 {
     for i in 0..16usize {
         let s = sub_block(w, x, y, 4, i);
         predict_small(&mut p[..], w, s, i % 4 == 3, right, modes[i]);
-        add(&mut p[..], w, s.at, coded[i], r, i, c[16 * i]);
+        add(&mut p[..], w, s.at, coded[i], r, i, c[i] as i32);
     }
 }
 
@@ -130,13 +174,15 @@ pub(crate) fn small_square(
     modes: &[u8; 16],
     coded: [bool; 16],
     r: &[i16; 256],
-    c: &[i32],
+    c: &[i16],
 )
     requires { ⌜ Square (length (now p)) w x y 16 ⌝ }
     requires { ⌜ (x + 16 < w → x + 20 ≤ w) ⌝ }
     requires { ⌜ ((k : ℕ) → k < 16 → getD (now modes) k 0 < 10) ⌝ }
-    requires { ⌜ Ready (now c) coded (now r) 16 ⌝ }
-    ensures { λ _. ⌜ now (p .exit) ≡ squarePainted (now (p .entry)) w x y 16 true 0 (now (modes .entry)) (now (c .entry)) ⌝ }
+    requires { ⌜ Ready (now c) 0 (squareBlocks 16 0 (now c)) coded (now r) 16 ⌝ }
+    ensures { λ _. ⌜ now (p .exit)
+        ≡ squarePainted (now (p .entry)) w x y 16 true 0 (now (modes .entry)) (squareBlocks 16 0 (now (c .entry))) ⌝ }
+    ensures { λ _. ⌜ FirstFit (now (c .entry)) 0 16 ⌝ }
 {
     let right = above_right(&p[..], w, x, y);
     small_blocks(p, w, x, y, right, modes, coded, r, c);
@@ -152,14 +198,16 @@ pub(crate) fn large_square(
     mode: u8,
     coded: [bool; 16],
     r: &[i16; 256],
-    c: &[i32],
+    c: &[i16],
+    from: usize,
 )
     requires { ⌜ Square (length (now p)) w x y size ⌝ }
     requires { ⌜ Size size ⌝ }
     requires { ⌜ mode < 4 ⌝ }
-    requires { ⌜ Ready (now c) coded (now r) (size / 4 * (size / 4)) ⌝ }
-    ensures { λ _. ⌜ now (p .exit) ≡ squarePainted (now (p .entry)) w x y size false mode [] (now (c .entry)) ⌝ }
+    requires { ⌜ Ready (now c) from (squareBlocks size from (now c)) coded (now r) (size / 4 * (size / 4)) ⌝ }
+    ensures { λ _. ⌜ now (p .exit) ≡ squarePainted (now (p .entry)) w x y size false mode [] (squareBlocks size from (now (c .entry))) ⌝ }
+    ensures { λ _. ⌜ FirstFit (now (c .entry)) from (size / 4 * (size / 4)) ⌝ }
 {
     predict(&mut p[..], w, x, y, size, mode);
-    add_blocks(p, w, x, y, size / 4, coded, r, c);
+    add_blocks(p, w, x, y, size / 4, coded, r, c, from);
 }

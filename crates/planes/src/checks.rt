@@ -1,9 +1,9 @@
 // Whether the arguments of the public call lie in their ranges. Nothing is multiplied before it is known to be small.
 ghost use mathlib.Core.Path.{_≡_};
-ghost use lib.Dec.{eqb};
 ghost use Prim.Native.Nat.{_*_, _≤_};
 ghost use Rattle.planes.specs.Predict.{Size};
 ghost use Rattle.planes.specs.Paint.{modesBelow, paintModesFine, squareFine};
+ghost use Rattle.planes.specs.Steps.{blocksFine};
 
 fn each_below(modes: &[u8; 16], limit: u8) -> bool
     ensures { λ r. ⌜ r ≡ modesBelow limit (now (modes .entry)) ⌝ }
@@ -44,12 +44,15 @@ pub(crate) fn square_fine(len: usize, stride: usize, column: usize, row: usize, 
         & (row < rows / size)
 }
 
-// How many coefficients there are.
-pub(crate) fn length_fine(size: usize, len: usize) -> bool
+// Whether there are 8 or 16 blocks, with those of the square among them.
+pub(crate) fn blocks_fine(size: usize, len: usize, from: usize) -> bool
     requires { ⌜ Size size ⌝ }
-    ensures { λ r. ⌜ r ≡ eqb len (size * size) ⌝ }
+    ensures { λ r. ⌜ r ≡ blocksFine size len from ⌝ }
 {
-    len == size * size
+    if 16 < from {
+        return false;
+    }
+    ((len == 128) | (len == 256)) & (16 * from + size * size <= len)
 }
 
 // Where the kth square of a row or a column begins.

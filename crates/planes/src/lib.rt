@@ -10,11 +10,11 @@ mod put;
 use numbers::Checked;
 use transform::lanes::residuals;
 ghost use mathlib.Core.Path.{_≡_};
-ghost use Rattle.planes.specs.Paint.{paintOf};
+ghost use Rattle.planes.specs.Paint.{paintOf, squareBlocks};
 
 // Paints the square of macroblock (column, row): 16 samples wide in luma, where the modes may be small, and 8 in chroma.
-// `coefficients` has sixteen for each sub-block of 4 by 4, in raster order; `mode` counts where `small` does not hold, `modes` where
-// it does.
+// `coefficients` has 8 or 16 sub-blocks of 4 by 4 by lanes, number k of block i of n at n * k + i; the square's are those from block
+// `from` on, in raster order. `mode` counts where `small` does not hold, `modes` where it does.
 pub fn paint(
     plane: &mut [u8],
     stride: usize,
@@ -24,10 +24,12 @@ pub fn paint(
     small: bool,
     mode: u8,
     modes: &[u8; 16],
-    coefficients: &[i32],
+    coefficients: &[i16],
+    from: usize,
 ) -> Checked
     ensures { λ q. ⌜ record { answer = q; plane = now (plane .exit) }
-        ≡ paintOf (now (plane .entry)) stride column row size small mode (now (modes .entry)) (now (coefficients .entry)) ⌝ }
+        ≡ paintOf (now (plane .entry)) stride column row size small mode (now (modes .entry))
+        (squareBlocks size from (now (coefficients .entry))) ⌝ }
 {
     if !checks::modes_fine(size, small, mode, modes) {
         return Checked::Refused;
@@ -35,13 +37,13 @@ pub fn paint(
     if !checks::square_fine(plane.len(), stride, column, row, size) {
         return Checked::Refused;
     }
-    if !checks::length_fine(size, coefficients.len()) {
+    if !checks::blocks_fine(size, coefficients.len(), from) {
         return Checked::Refused;
     }
     let coded = blocks::coded_blocks(coefficients, coefficients.len() / 16);
     let mut values = blocks::no_values();
-    if !residuals(coefficients, coded, &mut values) {
-        return Checked::Refused;
+    if blocks::any(coded) {
+        residuals(coefficients, &mut values);
     }
     let x = checks::scaled(column, size);
     let y = checks::scaled(row, size);
@@ -58,6 +60,7 @@ pub fn paint(
             coded,
             &values,
             coefficients,
+            from,
         );
     }
     Checked::Done

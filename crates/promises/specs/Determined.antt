@@ -43,7 +43,7 @@ use Rattle.tile.specs.Partitions.{pickOf, contentsOf, tokenContents, readersOf}
 use Rattle.modes.specs.declared.answers.Kinds.{Kinds}
 use Rattle.modes.specs.declared.contexts.Context.{Context}
 use Rattle.residual.specs.Residual as Residual
-use Rattle.planes.specs.Paint.{paintOf}
+use Rattle.planes.specs.Paint.{paintOf, squareBlocks}
 use Rattle.header.specs.Frame.{announcedOf, framedOf}
 use Rattle.header.specs.declared.frame.Announced.{Announced}
 use Rattle.macroblock.specs.declared.arguments.Place.{Place}
@@ -241,8 +241,8 @@ pub transform-transform : (c : List ℤ) (walsh : Bool) → One (λ o. o ≡ tra
 transform-transform c walsh = determined (transformOf c walsh)
 
 -- transform::lanes::residuals
-pub transform-residuals : (c : List ℤ) (coded : List Bool) (values : List ℤ) → One (λ o. o ≡ residualsOf c coded values)
-transform-residuals c coded values = determined (residualsOf c coded values)
+pub transform-residuals : (c values : List ℤ) → One (λ o. o ≡ residualsOf c values)
+transform-residuals c values = determined (residualsOf c values)
 
 -- ---- filter
 -- filter::filter
@@ -349,8 +349,8 @@ residual-decode-header-reads s r h segment small skip top left out = determined 
 
 -- ---- planes
 -- planes::paint
-pub planes-paint : (plane : List ℕ) (stride column row size : ℕ) (small : Bool) (mode : ℕ) (modes : List ℕ) (coefficients : List ℤ) → One (λ o. o ≡ paintOf plane stride column row size small mode modes coefficients)
-planes-paint plane stride column row size small mode modes coefficients = determined (paintOf plane stride column row size small mode modes coefficients)
+pub planes-paint : (plane : List ℕ) (stride column row size : ℕ) (small : Bool) (mode : ℕ) (modes : List ℕ) (coefficients : List ℤ) (from : ℕ) → One (λ o. o ≡ paintOf plane stride column row size small mode modes (squareBlocks size from coefficients))
+planes-paint plane stride column row size small mode modes coefficients from = determined (paintOf plane stride column row size small mode modes (squareBlocks size from coefficients))
 
 -- ---- tile
 -- tile::checks::side_fine

@@ -38,9 +38,10 @@ use Rattle.modes.specs.Answers.{contextsOf, eachBelow, kindsOf, prefixAnswer, m
 use Rattle.modes.specs.Contexts.{emptyContext, contextFine}
 use Rattle.modes.specs.declared.answers.Kinds.{Kinds}
 use Rattle.modes.specs.declared.contexts.Context.{Context}
+use Rattle.transform.specs.Lanes.{squaresOf}
 use Rattle.residual.specs.Residual as Residual
 use Rattle.residual.specs.Residual.{Model, Values, residualOf, residualNumberOf, residualValuesOf}
-use Rattle.planes.specs.Paint.{squarePainted, paintFine, paintOf}
+use Rattle.planes.specs.Paint.{squareBlocks, squarePainted, paintFine, paintOf}
 use Rattle.lent.specs.Records.{recordsIn, columnWidth, columnAt, columnSet, columnWritten, columnFound, modeWidth, kindsAt, modesAt, modeSet, kindsFine, modeWritten, modeFound, strengthWidth, strengthAt, strengthSet, strengthWritten, strengthFound}
 use Rattle.macroblock.specs.declared.arguments.Place.{Place}
 use Rattle.macroblock.specs.declared.arguments.Readers.{Readers}
@@ -195,15 +196,16 @@ pub record Numbers : Type 0 where
   pub residual-decode : (s : List ℕ) (r : Reader) (table : List ℕ) (f : Factors) (small skip : Bool) (top left : List ℕ) (old : List ℤ)
       → let c = Residual.residualCallOf s r table f small skip top left old in
       Answered {X = Values × List ℤ} 7 (validOf s r && Residual.residualArguments table top left (length old)) (run (residualOf table f small skip top left) s r) (residualNumberOf (c .answer)) (residualValuesOf (c .answer), c .out)
-      (noValues, old) (λ m q. (record { reader = q; empty = m .empty; top = m .top; left = m .left }, m .coefficients))
+      (noValues, old) (λ m q. (record { reader = q; empty = m .empty; top = m .top; left = m .left }, squaresOf (m .coefficients)))
   -- residual::decode_header
   pub residual-decode-header : (s : List ℕ) (r : Reader) (h : List ℤ) (segment : ℕ) (small skip : Bool) (top left : List ℕ) (old : List ℤ)
       → let c = Residual.residualByHeaderOf s r h segment small skip top left old in
       Answered {X = Values × List ℤ} 7 ((headerOf h && ltb segment 4) && (validOf s r && Residual.residualArguments (headerTable h) top left (length old))) (run (residualOf (headerTable h) (factorsOf h segment) small skip top left) s r)
-      (residualNumberOf (c .answer)) (residualValuesOf (c .answer), c .out) (noValues, old) (λ m q. (record { reader = q; empty = m .empty; top = m .top; left = m .left }, m .coefficients))
+      (residualNumberOf (c .answer)) (residualValuesOf (c .answer), c .out) (noValues, old) (λ m q. (record { reader = q; empty = m .empty; top = m .top; left = m .left }, squaresOf (m .coefficients)))
   -- planes::paint
-  pub paint : (p : List ℕ) (w column row n : ℕ) (small : Bool) (mode : ℕ) (modes : List ℕ) (c : List ℤ)
-      → Checked 9 (paintFine (length p) w column row n small mode modes c) (checkedNumberOf (paintOf p w column row n small mode modes c .answer)) (paintOf p w column row n small mode modes c .plane)
+  pub paint : (p : List ℕ) (w column row n : ℕ) (small : Bool) (mode : ℕ) (modes : List ℕ) (coefficients : List ℤ) (from : ℕ)
+      → let c = squareBlocks n from coefficients in
+      Checked 9 (paintFine (length p) w column row n small mode modes c) (checkedNumberOf (paintOf p w column row n small mode modes c .answer)) (paintOf p w column row n small mode modes c .plane)
       p (squarePainted p w (column * n) (row * n) n small mode modes c)
   -- ---- lent: 9
   -- lent::columns::write_column, read_column

@@ -221,7 +221,7 @@ numbers-bind = record {
   read-modes = λ s a r top left old. reads _ (run (modesOf a top left) s r) (toStaged old) (λ c. stageNumberOf (c .answer)) (λ c. (stageValuesOf (c .answer), c .modes)) refl refl refl refl (λ m q. (refl, refl));
   residual-decode = λ s r table f small skip top left old. reads _ (run (residualOf table f small skip top left) s r) (Residual.toResidualCalled old) (λ c. residualNumberOf (c .answer)) (λ c. (residualValuesOf (c .answer), c .out)) refl refl refl refl (λ m q. (refl, refl));
   residual-decode-header = λ s r h segment small skip top left old. reads-both (headerOf h && ltb segment 4) (validOf s r && Residual.residualArguments (headerTable h) top left (length old)) (run (residualOf (headerTable h) (factorsOf h segment) small skip top left) s r) (Residual.toResidualCalled old) {y = Residual.refusedResidual old} (λ c. residualNumberOf (c .answer)) (λ c. (residualValuesOf (c .answer), c .out)) refl refl refl refl (λ m q. (refl, refl));
-  paint = λ p w column row n small mode modes c. checked-cond _ (λ (x : PaintedPlane). checkedNumberOf (x .answer)) (λ (x : PaintedPlane). x .plane) refl refl refl refl;
+  paint = λ p w column row n small mode modes c from. checked-cond _ (λ (x : PaintedPlane). checkedNumberOf (x .answer)) (λ (x : PaintedPlane). x .plane) refl refl refl refl;
   write-column = λ mem x c. checked _ (λ (w : Records.Written). checkedNumberOf (w .answer)) (λ (w : Records.Written). w .mem) refl refl refl refl;
   read-column = λ mem x. checked _ (λ (t : Records.Taken). checkedNumberOf (t .answer)) (λ (t : Records.Taken). contextIn (t .bytes)) refl refl refl refl;
   write-modes = λ mem i k modes. checked _ (λ (w : Records.Written). checkedNumberOf (w .answer)) (λ (w : Records.Written). w .mem) refl refl refl refl;

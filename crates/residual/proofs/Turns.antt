@@ -23,8 +23,9 @@ use Rattle.transform.specs.TransformLaws.{transform-good}
 use Rattle.coefficients.specs.declared.block.Block.the-variants as B
 use Rattle.coefficients.specs.declared.block.BlockRead.{BlockRead}
 use Rattle.transform.specs.declared.Transformed.{Transformed}
+use Rattle.transform.specs.Lanes.{squaresOf}
 use Rattle.residual.specs.Residual.{Model, Flags, ModelInRange, initial, coordinates, secondKind, kindOf, zeroOf, coded, spread, secondPlace, second, sixteenAt, stored, advance, blocksFrom, dcStage, cleared, residualOf, noResidual, toResidualCalled, residualAnswer}
-use Rattle.residual.specs.ResidualLaws.{kind-in, initial-whole, zeros-sixteen, sixteen-in, sixteen-fit, second-within, advance-within, blocks-few}
+use Rattle.residual.specs.ResidualLaws.{kind-in, initial-whole, zeros-sixteen, sixteen-in, sixteen-fit, second-within, advance-within, blocks-few, residual-within}
 use Rattle.residual.specs.ResidualSteps.{modelOf, turnOf, Part, BlockPart, Held, coded-at, coded-count, second-count, second-missing, second-ended, advance-count, advance-missing, advance-ended, blocks-none, blocks-missing, blocks-next, blocks-count-none, blocks-count-missing, blocks-count-next, residual-skip, residual-missing, residual-next, residual-count-skip, residual-count-missing, residual-count-next, call-missing, call-handed}
 use Rattle.residual.specs.declared.Ended.the-variants as E
 use Rattle.residual.specs.declared.ResidualRead.{ResidualRead}
@@ -186,13 +187,28 @@ module _ (s table : List ℕ) (f : Factors) (small skip : Bool) (r : Reader) (to
         let c : count (residualOf table f small skip top left) s r ≡ count (dcStage table f small (initial top left)) s r + count (blocksFrom table f small 24 0 (modelOf (t .state) to)) s (t .state .reader) = rw k (residual-count-next table f small s top left r w) in
         record { gave = rw k (residual-next table f small s top left r w) ∙ g .gave; took = omega (arith, begun .took, g .took, c) }
 
+-- the numbers of what a run gave
+abbrev numbers : List ℤ → Given Model → List ℤ
+numbers l (given m r) = m .coefficients
+numbers l missing = l
+
 -- what the inner call returns after it
 module _ (s : List ℕ) (r : Reader) (table : List ℕ) (f : Factors) (small skip : Bool) (top left : List ℕ) (old : List ℤ) (t : Turn) (to : List ℤ) (e : Part (residualOf table f small skip top left) s r t to) where
   pub call-lost : t .ended ≡ false → {q : ResidualRead} → q ≡ record { residual = noResidual E.Missing; reads = t .reads } → (record { answer = q .residual; out = old } ≡ residualAnswer s r table f small skip top left old) × (q .reads ≡ count (residualOf table f small skip top left) s r)
   call-lost h k = (call-missing s r table f small skip top left old (turn-lost t to h (e .gave)) (rw k refl), rw k (e .took))
 
-  pub call-got : t .ended ≡ true → {out : List ℤ} → out ≡ to → (record { answer = toResidualCalled old (given (modelOf (t .state) to) (t .state .reader)) .answer; out = out } ≡ residualAnswer s r table f small skip top left old) × (t .reads ≡ count (residualOf table f small skip top left) s r)
+  pub call-got : t .ended ≡ true → {out : List ℤ} → out ≡ squaresOf to → (record { answer = toResidualCalled old (given (modelOf (t .state) to) (t .state .reader)) .answer; out = out } ≡ residualAnswer s r table f small skip top left old) × (t .reads ≡ count (residualOf table f small skip top left) s r)
   call-got h k = (call-handed s r table f small skip top left old (turn-got t to h (e .gave)) k, e .took)
+
+  -- the numbers that it lays over: of sixteen bits, and zeros where nothing was read
+  module _ (h : t .ended ≡ true) where
+    pub call-whole : Valid s r → Bytes s → Bytes table → Flags top → Flags left → ModelInRange (modelOf (t .state) to)
+    call-whole v y b i j = run-valid (residual-within table f b small skip i j) y v (turn-got t to h (e .gave)) .value
+
+    pub call-zeros : skip ≡ true → to ≡ replicate 384 (pos 0)
+    call-zeros k =
+        let g : run (residualOf table f small true top left) s r ≡ given (modelOf (t .state) to) (t .state .reader) = rw k at (turn-got t to h (e .gave)) in
+        ap (numbers to) (sym g ∙ residual-skip table f small s top left r)
 
 -- the kinds that the code made
 pub second-fine : (f : Factors) {k : Kind} → k ≡ secondKind f → (k .kind < 4) × (k .first ≤ 1)

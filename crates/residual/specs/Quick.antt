@@ -1,22 +1,24 @@
--- A macroblock over a wide reader, part after part: part 0 is the second-order block, part i + 1 is block i. Their numbers stand in one list,
--- sixteen a part, so the 384 of the macroblock stand behind the sixteen of the second-order block.
-use Prim.Native.Nat.{ℕ, zero, suc, _+_, _*_}
+-- A macroblock over a wide reader, part after part: part 0 is the second-order block, part i + 1 is block i. Their numbers stand in one list:
+-- the 384 of the macroblock by lanes, as they are handed over, then the sixteen of the second-order block.
+use Prim.Native.Nat.{ℕ, zero, suc, _+_, _*_, _/_, _%_}
 use mathlib.Core.Bool.{Bool, true, false, _&&_}
-use mathlib.Core.List.{List, _++_}
+use mathlib.Core.List.{List}
 use mathlib.Core.Path.{_≡_}
-use lib.Dec.{leb}
+use lib.Dec.{ltb, leb}
 use lib.IntN.{ℤ, pos}
-use lib.ListN.{getD, take, drop}
+use lib.ListN.{getD}
+use Rattle.numbers.specs.Lists.{build}
 use Rattle.reader.specs.Reading.{Reading, done, _>>=_}
 use Rattle.reader.specs.Trace.{count}
 use Rattle.reader.specs.declared.boolean.Reader.{Reader}
 use Rattle.header.specs.declared.quantizers.Factors.{Factors}
 use Rattle.transform.specs.Transform.{transformOf}
-use Rattle.residual.specs.Residual.{Model, secondKind, kindOf, secondPlace, coordinates, sixteenAt, spread, zeroOf, second, advance, residualOf, residualAnswer}
+use Rattle.residual.specs.Residual.{Model, secondKind, kindOf, secondPlace, coordinates, sixteenAt, stored, zeroOf, second, advance, residualOf, residualAnswer}
 use Rattle.residual.specs.declared.blocks.Kind.{Kind}
 use Rattle.residual.specs.declared.contexts.FlagsAt.{FlagsAt}
 use Rattle.residual.specs.declared.quick.Quick.{Quick}
 use Rattle.residual.specs.declared.quick.Passing.{Passing}
+use Rattle.coefficients.specs.declared.fast.Spots.{Spots}
 use Rattle.wide.specs.declared.wide.Wide.{Wide}
 
 -- what goes from part to part, and the flags
@@ -31,9 +33,31 @@ pub record Wider : Type 0 where
 abbrev pub widerOf : Passing → (top left : List ℕ) → Wider
 widerOf m top left = record { next = m .next; reads = m .reads; top = top; left = left; empty = m .empty }
 
+-- ---- where the numbers stand
+-- those of block i: by lanes, sixteen blocks of luma, then eight of chroma
+unfoldable pub blockSpots : (i : ℕ) → Spots
+blockSpots i =
+    elim (ltb i 16) [
+      | true ↦ record { at = i; step = 16 }
+      | false ↦ record { at = 240 + i; step = 8 }
+    ]
+
+-- those of a part: of the second-order block behind them
+abbrev pub spotsAt : (j : ℕ) → Spots
+spotsAt zero = record { at = 384; step = 1 }
+spotsAt (suc i) = blockSpots i
+
+-- number p of the macroblock, counted block after block
+abbrev pub numberAt : (p : ℕ) → ℕ
+numberAt p = blockSpots (p / 16) .at + blockSpots (p / 16) .step * (p % 16)
+
+-- the numbers of the macroblock, block after block
+unfoldable pub inBlocks : (flat : List ℤ) → List ℤ
+inBlocks flat = build 384 (λ p. getD flat (numberAt p) (pos 0))
+
 -- the model that it stands for, with the numbers
 abbrev pub modelAt : Wider → (flat : List ℤ) → Model
-modelAt m flat = record { top = m .top; left = m .left; coefficients = drop 16 flat; empty = m .empty }
+modelAt m flat = record { top = m .top; left = m .left; coefficients = inBlocks flat; empty = m .empty }
 
 -- ---- the parts
 module _ (f : Factors) (small : Bool) where
@@ -58,14 +82,14 @@ module _ (table : List ℕ) (f : Factors) (small : Bool) where
     partsFrom n (suc j) next
 
 -- ---- what a part that was read leaves
--- the transform of a second-order block gives the first coefficient of each luma block
+-- the transform of a second-order block gives the first coefficient of each luma block: lane 0
 abbrev pub settledOf : (j : ℕ) → List ℤ → List ℤ
-settledOf zero flat = take 16 flat ++ spread (drop 16 flat) (transformOf (sixteenAt flat 0) true .samples) 16
+settledOf zero flat = stored flat 0 (transformOf (sixteenAt flat 384) true .samples)
 settledOf (suc i) flat = flat
 
 abbrev pub emptyAfter : (j end : ℕ) → Bool → List ℤ → Bool
 emptyAfter zero end empty flat = empty
-emptyAfter (suc i) end empty flat = empty && (leb end 1 && zeroOf (getD flat (16 * suc i) (pos 0)))
+emptyAfter (suc i) end empty flat = empty && (leb end 1 && zeroOf (getD flat (blockSpots i .at) (pos 0)))
 
 -- ---- the whole: where the end was not passed it is the call's answer and the count of M-103; else nothing is written
 abbrev pub QuickWhere : Bool → List ℕ → Reader → List ℕ → Factors → (small : Bool) → (top left : List ℕ) → (old new : List ℤ) → Quick → Type 0

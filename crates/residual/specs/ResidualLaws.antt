@@ -31,9 +31,11 @@ use Rattle.header.specs.Quantizers.{factorsOf}
 use Rattle.header.specs.declared.quantizers.Factors.{Factors}
 use Rattle.coefficients.specs.BlockLaws.{SixteenBits, Sixteen, block-within}
 use Rattle.coefficients.specs.Block.{headerTable}
+use Rattle.transform.specs.LanesLaws.{length-squares}
 use Rattle.transform.specs.Transform.{samplesOf}
 use Rattle.transform.specs.TransformLaws.{CoefficientsIn, transform-good, transform-walsh-in}
-use Rattle.residual.specs.Residual.{Model, Flags, ModelInRange, initial, coordinates, secondKind, lumaKind, kindOf, flagged, spread, secondPlace, second, sixteenAt, emptyOf, advance, blocksFrom, cleared, residualOf, ResidualCalled, toResidualCalled, residualArguments, residualAnswer, residualCallOf, residualByHeaderOf, residualReads}
+use Rattle.residual.specs.SquaresLaws.{blocks-of-squares}
+use Rattle.residual.specs.Residual.{Model, Flags, ModelInRange, initial, coordinates, secondKind, lumaKind, kindOf, flagged, spread, secondPlace, second, sixteenAt, emptyOf, advance, blocksFrom, cleared, residualOf, ResidualCalled, blocksOf, toResidualCalled, residualArguments, residualAnswer, residualCallOf, residualByHeaderOf, residualReads}
 use Rattle.residual.specs.ResidualSteps.{arguments-good, decode-passed, reads-passed, decode-refused, header-passed}
 use Rattle.residual.specs.declared.Ended.{Ended}
 use Rattle.residual.specs.declared.Ended.the-variants as E
@@ -211,11 +213,11 @@ abbrev pub fromResidual : List ℤ → Residual → Given Model
 fromResidual l x = fromEnded (x .top) (x .left) l (x .answer)
 
 abbrev fromResidualCalled : ResidualCalled → Given Model
-fromResidualCalled c = fromResidual (c .out) (c .answer)
+fromResidualCalled c = fromResidual (blocksOf (c .out)) (c .answer)
 
-from-called : (old : List ℤ) (g : Given Model) → g ≡ fromResidualCalled (toResidualCalled old g)
-from-called old (given m r) = refl
-from-called old missing = refl
+from-called : (old : List ℤ) (g : Given Model) → ((m : Model) (q : Reader) → g ≡ given m q → length (m .coefficients) ≡ 384) → g ≡ fromResidualCalled (toResidualCalled old g)
+from-called old (given m r) h = ap (λ (l : List ℤ). given (record { top = m .top; left = m .left; coefficients = l; empty = m .empty }) r) (sym (blocks-of-squares (m .coefficients) (h m r refl)))
+from-called old missing h = refl
 
 -- an answer that gives nothing is the zero answer, and leaves the numbers as they were
 pub record Kept (x : Residual) (l old : List ℤ) : Type 0 where
@@ -228,11 +230,7 @@ module _ (s : List ℕ) (r : Reader) (table : List ℕ) (f : Factors) (small ski
   pub decode-good : Valid s r → Good table top left old → residualAnswer s r table f small skip top left old ≡ residualCallOf s r table f small skip top left old
   decode-good v g = decode-passed s r table f small skip top left old (valid-test s r v) (arguments-good table top left (length old) (g .size) (g .top-flags) (g .left-flags) (g .long))
 
-  -- THE LAWS for callers of `decode`: what it gave, and how many symbols it read
-  pub decoded : Valid s r → Good table top left old → {x : Residual} {l : List ℤ} → record { answer = x; out = l } ≡ residualCallOf s r table f small skip top left old → run (residualOf table f small skip top left) s r ≡ fromResidual l x
-  unfolding residualAnswer
-  decoded v g e = from-called old (run (residualOf table f small skip top left) s r) ∙ ap fromResidualCalled (decode-good v g ∙ sym e)
-
+  -- how many symbols it read
   pub decode-reads : Valid s r → Good table top left old → {n : ℕ} → n ≡ residualReads s r table f small skip top left old → n ≡ count (residualOf table f small skip top left) s r
   decode-reads v g e = e ∙ sym (reads-passed s r table f small skip top left old (valid-test s r v) (arguments-good table top left (length old) (g .size) (g .top-flags) (g .left-flags) (g .long)))
 
@@ -244,22 +242,42 @@ module _ (s : List ℕ) (r : Reader) (table : List ℕ) (f : Factors) (small ski
   pub decode-ends : Valid s r → Good table top left old → Bytes s → Bytes table → {m : Model} {q : Reader} → run (residualOf table f small skip top left) s r ≡ given m q → ReadingLaws.Ended ModelInRange s r m q
   decode-ends v g y b e = run-valid (residual-within table f b small skip (g .top-flags) (g .left-flags)) y v e
 
-  pub decode-kept : {x : Residual} {l : List ℤ} → record { answer = x; out = l } ≡ residualCallOf s r table f small skip top left old → fromResidual l x ≡ missing → Kept x l old
+  -- THE LAW for callers of `decode`: what it gave, with its numbers one block after the other
+  pub decoded : Valid s r → Good table top left old → Bytes s → Bytes table → {x : Residual} {l : List ℤ} → record { answer = x; out = l } ≡ residualCallOf s r table f small skip top left old → run (residualOf table f small skip top left) s r ≡ fromResidual (blocksOf l) x
+  unfolding residualAnswer
+  decoded v g y b e = from-called old (run (residualOf table f small skip top left) s r) (λ m q h. decode-ends v g y b h .value .long) ∙ ap fromResidualCalled (decode-good v g ∙ sym e)
+
+  pub decode-kept : (c : List ℤ) {x : Residual} {l : List ℤ} → record { answer = x; out = l } ≡ residualCallOf s r table f small skip top left old → fromResidual c x ≡ missing → Kept x l old
   unfolding residualCallOf residualAnswer
-  decode-kept {x} {l} e m = go (validOf s r && residualArguments table top left (length old)) refl
+  decode-kept c {x} {l} e m = go (validOf s r && residualArguments table top left (length old)) refl
     where
       kept : {c : ResidualCalled} → record { answer = x; out = l } ≡ c → Kept (c .answer) (c .out) old → Kept x l old
       kept h k = record { same = ap (λ (a : ResidualCalled). a .out) h ∙ k .same; top = ap (λ (a : ResidualCalled). a .answer .top) h ∙ k .top; left = ap (λ (a : ResidualCalled). a .answer .left) h ∙ k .left }
 
-      given-not : (g : Given Model) → fromResidualCalled (toResidualCalled old g) ≡ missing → Kept (toResidualCalled old g .answer) (toResidualCalled old g .out) old
+      given-not : (g : Given Model) → fromResidual c (toResidualCalled old g .answer) ≡ missing → Kept (toResidualCalled old g .answer) (toResidualCalled old g .out) old
       given-not (given n q) h = absurd (never-both refl h)
       given-not missing h = record { same = refl; top = refl; left = refl }
 
       go : (b : Bool) → validOf s r && residualArguments table top left (length old) ≡ b → Kept x l old
       go true k =
           let w : record { answer = x; out = l } ≡ toResidualCalled old (run (residualOf table f small skip top left) s r) = e ∙ rw (k, residualCallOf) in
-          kept w (given-not (run (residualOf table f small skip top left) s r) (sym (ap fromResidualCalled w) ∙ m))
+          kept w (given-not (run (residualOf table f small skip top left) s r) (sym (ap (λ (a : ResidualCalled). fromResidual c (a .answer)) w) ∙ m))
       go false k = kept (e ∙ sym (decode-refused s r table f small skip top left old k refl)) (record { same = refl; top = refl; left = refl })
+
+  -- the lent numbers stay 384
+  pub decode-long : {x : Residual} {l : List ℤ} → length old ≡ 384 → record { answer = x; out = l } ≡ residualCallOf s r table f small skip top left old → length l ≡ 384
+  unfolding residualCallOf residualAnswer
+  decode-long {x} {l} h e = go (validOf s r && residualArguments table top left (length old)) refl
+    where
+      called : (g : Given Model) → length (toResidualCalled old g .out) ≡ 384
+      called (given m q) = length-squares (m .coefficients)
+      called missing = h
+
+      go : (b : Bool) → validOf s r && residualArguments table top left (length old) ≡ b → length l ≡ 384
+      go true k =
+          let w : record { answer = x; out = l } ≡ toResidualCalled old (run (residualOf table f small skip top left) s r) = e ∙ rw (k, residualCallOf) in
+          ap (λ (a : ResidualCalled). length (a .out)) w ∙ called (run (residualOf table f small skip top left) s r)
+      go false k = ap (λ (a : ResidualCalled). length (a .out)) (e ∙ sym (decode-refused s r table f small skip top left old k refl)) ∙ h
 
 -- with a header, where it is fine and there is such a segment
 pub header-good : (s : List ℕ) (r : Reader) (h : List ℤ) (segment : ℕ) (small skip : Bool) (top left : List ℕ) (old : List ℤ) → headerOf h ≡ true → segment < 4 → residualCallOf s r (headerTable h) (factorsOf h segment) small skip top left old ≡ residualByHeaderOf s r h segment small skip top left old

@@ -1,7 +1,7 @@
 // The residual of a macroblock: the coefficients of its blocks and what they leave behind for its neighbours (RFC 6386, section 13).
 use crate::blocks::read;
 use crate::contexts::flags_fine;
-use crate::flat::hand_over;
+use crate::flat::squares;
 use crate::quick::read_quick;
 use coefficients::block::probabilities;
 use header::entries::PROBABILITY_COUNT;
@@ -68,7 +68,7 @@ fn read_residual(
     skip: bool,
     top: [u8; 9],
     left: [u8; 9],
-    out: &mut [i32],
+    out: &mut [i16],
 ) -> ResidualRead
     requires { ⌜ Valid (now s) r × (length (now table) ≡ probabilityCount) ⌝ }
     requires { ⌜ (Flags top × Flags left) × (length (now out) ≡ 384) ⌝ }
@@ -81,7 +81,7 @@ fn read_residual(
     if !t.ended {
         return no_residual(Ended::Missing, t.reads);
     }
-    hand_over(out, &flat);
+    squares(out, &flat, skip);
     let m = t.state;
     let next = m.reader;
     let top = m.top;
@@ -107,7 +107,7 @@ fn read_fast(
     skip: bool,
     top: [u8; 9],
     left: [u8; 9],
-    out: &mut [i32],
+    out: &mut [i16],
 ) -> ResidualRead
     requires { ⌜ Valid (now s) r × (length (now table) ≡ probabilityCount) ⌝ }
     requires { ⌜ (Flags top × Flags left) × (length (now out) ≡ 384) ⌝ }
@@ -132,7 +132,8 @@ fn arguments(table: &[u8], top: [u8; 9], left: [u8; 9], size: usize) -> bool
     (table.len() == PROBABILITY_COUNT) & (flags_fine(top) & (flags_fine(left) & (size == 384)))
 }
 
-// The residual of a macroblock: the reader after it, its flags, its 384 coefficients in `out`, which every other answer leaves as it was.
+// The residual of a macroblock: the reader after it, its flags, its 384 coefficients by lanes in `out`, which every other
+// answer leaves as it was.
 pub fn decode(
     s: &[u8],
     r: Reader,
@@ -142,7 +143,7 @@ pub fn decode(
     skip: bool,
     top: [u8; 9],
     left: [u8; 9],
-    out: &mut [i32],
+    out: &mut [i16],
 ) -> ResidualRead
     ensures { λ q. ⌜ (record { answer = q .residual; out = now (out .exit) }
         ≡ residualCallOf (now (s .entry)) r (now (table .entry)) f small skip top left (now (out .entry)))
@@ -167,7 +168,7 @@ pub fn decode_header(
     r: Reader,
     top: [u8; 9],
     left: [u8; 9],
-    out: &mut [i32],
+    out: &mut [i16],
 ) -> ResidualRead
     ensures { λ q. ⌜ (record { answer = q .residual; out = now (out .exit) }
         ≡ residualByHeaderOf (now (s .entry)) r (now (h .entry)) segment small skip top left (now (out .entry)))

@@ -10,9 +10,8 @@ use crate::blocks::zero;
 use crate::contexts::FlagsAt;
 use crate::contexts::location;
 use crate::flat::hand_over;
-use crate::flat::sixteen;
-use crate::flat::spread;
 use crate::no_residual;
+use coefficients::fast::Spots;
 use coefficients::fast::coded_block;
 use header::quantizers::Factors;
 use reader::boolean::Reader;
@@ -23,20 +22,20 @@ use wide::wide::narrow;
 use wide::wide::widen;
 ghost use mathlib.Core.Path.{_≡_};
 ghost use mathlib.Core.Bool.{true, false};
-ghost use Prim.Native.Nat.{_+_, _*_, _<_, _≤_};
-ghost use lib.IntN.{pos};
+ghost use Prim.Native.Nat.{_<_};
+ghost use lib.IntN.{pos, negsuc};
 ghost use lib.ListN.{length, replicate};
 ghost use Rattle.header.specs.Entries.{probabilityCount};
+ghost use Rattle.numbers.specs.In.{Each};
 ghost use Rattle.reader.specs.BooleanLaws.{Valid};
-ghost use Rattle.transform.specs.Transform.{transformOf};
 ghost use Rattle.wide.specs.Counted.{counted};
 ghost use Rattle.wide.specs.WideRuns.{WideReads};
-ghost use Rattle.residual.specs.Residual.{Flags, sixteenAt, residualOf};
-ghost use Rattle.residual.specs.Quick.{widerOf, modelAt, kindAt, placeAt, settledOf, emptyAfter, QuickWhere};
+ghost use Rattle.residual.specs.Residual.{Flags, sixteenAt, stored, residualOf};
+ghost use Rattle.residual.specs.Quick.{widerOf, modelAt, kindAt, placeAt, spotsAt, settledOf, emptyAfter, QuickWhere};
 ghost use Rattle.residual.specs.QuickLaws.{Ready, Parted};
 
-// What goes from block to block. The flags stand beside it, and the numbers: sixteen of the second-order block, then the 384 of the
-// macroblock.
+// What goes from block to block. The flags stand beside it, and the numbers: the 384 of the macroblock, then sixteen of the second-order
+// block.
 pub(crate) struct Passing {
     pub next: Wide,
     pub reads: u64,
@@ -69,19 +68,65 @@ fn place_at(j: usize) -> FlagsAt
     location(j - 1)
 }
 
+// Where the numbers of a part go: by lanes, sixteen of luma, then eight of chroma, then those of the second-order block.
+fn spots_at(j: usize) -> Spots
+    requires { ⌜ j < 25 ⌝ }
+    ensures { λ p. ⌜ (p ≡ spotsAt j) × (p .at < 400) ⌝ }
+{
+    if j == 0 {
+        return Spots { at: 384, step: 1 };
+    }
+    if j < 17 {
+        return Spots {
+            at: j - 1,
+            step: 16,
+        };
+    }
+    Spots {
+        at: 239 + j,
+        step: 8,
+    }
+}
+
+// The numbers of the second-order block.
+fn seconds(flat: &[i16]) -> [i32; 16]
+    requires { ⌜ length (now flat) ≡ 400 ⌝ }
+    ensures { λ c. ⌜ c ≡ sixteenAt (now (flat .entry)) 384 ⌝ }
+{
+    let mut c = [0; 16];
+    let mut k = 0;
+    while k < 16 {
+        c[k] = flat[384 + k] as i32;
+        k = k + 1;
+    }
+    c
+}
+
+// The first coefficient of each luma block.
+fn set_firsts(flat: &mut [i16], dc: &[i32; 16])
+    requires { ⌜ (length (now flat) ≡ 400) × Each (negsuc 32767) (pos 32767) (now dc) ⌝ }
+    ensures { λ _. ⌜ now (flat .exit) ≡ stored (now (flat .entry)) 0 (now (dc .entry)) ⌝ }
+{
+    let mut k = 0;
+    while k < 16 {
+        flat[k] = dc[k] as i16;
+        k = k + 1;
+    }
+}
+
 // The second-order block's transform gives the first coefficient of each luma block.
-fn spread_second(flat: &mut [i32])
+fn spread_second(flat: &mut [i16])
     requires { ⌜ length (now flat) ≡ 400 ⌝ }
     ensures { λ _. ⌜ now (flat .exit) ≡ settledOf 0 (now (flat .entry)) ⌝ }
 {
-    let c = sixteen(flat, 0);
+    let c = seconds(&flat[..]);
     let t = transform(&c, true);
     let dc = t.samples;
-    spread(&mut flat[16..400], &dc);
+    set_firsts(flat, &dc);
 }
 
 // What a part that was read leaves: whether the macroblock is still empty.
-fn settle(flat: &mut [i32], j: usize, end: usize, empty: bool) -> bool
+fn settle(flat: &mut [i16], j: usize, end: usize, empty: bool) -> bool
     requires { ⌜ (length (now flat) ≡ 400) × (j < 25) ⌝ }
     ensures { λ b. ⌜ (now (flat .exit) ≡ settledOf j (now (flat .entry))) × (b ≡ emptyAfter j end empty (now (flat .entry))) ⌝ }
 {
@@ -89,7 +134,8 @@ fn settle(flat: &mut [i32], j: usize, end: usize, empty: bool) -> bool
         spread_second(flat);
         return empty;
     }
-    empty & ((end <= 1) & zero(flat[16 * j]))
+    let at = spots_at(j).at;
+    empty & ((end <= 1) & zero(flat[at] as i32))
 }
 
 // A part in the context of its two flags.
@@ -102,7 +148,7 @@ fn part(
     j: usize,
     top: &mut [u8; 9],
     left: &mut [u8; 9],
-    flat: &mut [i32],
+    flat: &mut [i16],
 ) -> Passing
     requires { ⌜ Ready (now table) (widerOf m (now top) (now left)) j (now flat) × (j < 25) ⌝ }
     ensures { λ q. ⌜ Parted (now (s .entry)) (now (table .entry)) f small (widerOf m (now (top .entry)) (now (left .entry))) j
@@ -123,7 +169,7 @@ fn part(
         k.q0,
         k.q1,
         flat,
-        16 * j,
+        spots_at(j),
     );
     let empty = settle(flat, j, b.end, m.empty);
     let on = k.first < b.end;
@@ -146,7 +192,7 @@ fn parts(
     start: Passing,
     top: &mut [u8; 9],
     left: &mut [u8; 9],
-    flat: &mut [i32],
+    flat: &mut [i16],
 ) -> Passing
     requires { ⌜ (length (now table) ≡ probabilityCount) × (now flat ≡ replicate 400 (pos 0)) ⌝ }
     requires { ⌜ (Flags (now top) × Flags (now left)) × ((start .reads ≡ 0) × (start .empty ≡ true)) ⌝ }
@@ -173,14 +219,14 @@ pub(crate) fn read_quick(
     small: bool,
     top: [u8; 9],
     left: [u8; 9],
-    out: &mut [i32],
+    out: &mut [i16],
 ) -> Quick
     requires { ⌜ Valid (now s) r × (length (now table) ≡ probabilityCount) ⌝ }
     requires { ⌜ (Flags top × Flags left) × (length (now out) ≡ 384) ⌝ }
     ensures { λ q. ⌜ QuickWhere (q .fine) (now (s .entry)) r (now (table .entry)) f small top left
         (now (out .entry)) (now (out .exit)) q ⌝ }
 {
-    let mut flat = [0; 400];
+    let mut flat = [0i16; 400];
     let mut above = top;
     let mut beside = left;
     let start = Passing {
@@ -205,7 +251,7 @@ pub(crate) fn read_quick(
             read: no_residual(Ended::Missing, 0),
         };
     }
-    hand_over(out, &flat[16..400]);
+    hand_over(out, &flat[0..384]);
     let residual = Residual {
         answer: Ended::Done(narrow(s, w), m.empty),
         top: above,

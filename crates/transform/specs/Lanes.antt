@@ -1,49 +1,58 @@
--- The residuals of a square of 4 or 16 blocks: RFC 6386 section 14.4 for each block that is asked for. Number k of block i stands at place
--- 16 * k + i of what is answered.
-use mathlib.Core.Bool.{Bool, true, false, cond, _&&_, _||_}
-use mathlib.Core.List.{List}
-use Prim.Native.Nat.{ℕ, _+_, _*_, _/_, _%_}
-use lib.Dec.{eqb, ltb}
+-- Several blocks of sixteen numbers at once: how they stand side by side, and the residuals of 8 or 16 of them (RFC 6386 section 14.4).
+use mathlib.Core.Bool.{Bool, true, false, cond, _||_}
+use mathlib.Core.List.{List, _++_}
+use Prim.Native.Nat.{ℕ, zero, suc, _+_, _*_, _/_, _%_}
+use lib.Dec.{eqb}
 use lib.IntN.{ℤ, pos}
-use lib.ListN.{length, getD}
+use lib.ListN.{length, getD, set, take, drop}
 use Rattle.numbers.specs.Clamp.{signedTo}
 use Rattle.numbers.specs.Lists.{build}
-use Rattle.numbers.specs.Tables.{allBelow}
-use Rattle.transform.specs.Transform.{at, samplesOf, fits16}
+use Rattle.transform.specs.Transform.{at, samplesOf}
+
+-- ---- blocks one after the other, and by lanes
+-- n blocks, one after the other, by lanes: number k of block i stands at n * k + i
+unfoldable pub byLanes : (n : ℕ) → List ℤ → List ℤ
+byLanes n c = build (16 * n) (λ p. getD c (16 * (p % n) + p / n) (pos 0))
+
+-- and back: n blocks by lanes, one after the other
+unfoldable pub byBlocks : (n : ℕ) → List ℤ → List ℤ
+byBlocks n l = build (16 * n) (λ p. getD l (n * (p % 16) + p / 16) (pos 0))
+
+-- a macroblock's 24 blocks: sixteen of luma by lanes, then eight of chroma
+unfoldable pub squaresOf : List ℤ → List ℤ
+squaresOf c = byLanes 16 (take 256 c) ++ byLanes 8 (drop 256 c)
 
 -- block i of blocks one after the other
 unfoldable pub blockOf : List ℤ → (i : ℕ) → List ℤ
 blockOf c i = build 16 (λ k. at c (16 * i + k))
 
--- block i of numbers by their place in the block
-unfoldable pub laneOf : List ℤ → (i : ℕ) → List ℤ
-laneOf t i = build 16 (λ k. at t (16 * k + i))
-
--- as many coefficients as 4 or 16 blocks have
+-- ---- the residuals of blocks by lanes
+-- as many coefficients as 8 or 16 blocks have
 abbrev pub knownLength : ℕ → Bool
-knownLength n = eqb n 64 || eqb n 256
+knownLength n = eqb n 128 || eqb n 256
 
--- each fits 16 bits
-abbrev pub eachFits16 : List ℤ → Bool
-eachFits16 c = allBelow (length c) (λ k. fits16 (at c k))
+-- number k of the residual of block i of n, in 16 bits: what lies beyond them is the nearest there
+abbrev pub residualOf : (n : ℕ) (c : List ℤ) (i k : ℕ) → ℤ
+residualOf n c i k = signedTo 32767 (at (samplesOf false (blockOf (byBlocks n c) i)) k)
 
--- both
-unfoldable pub residualsFit : List ℤ → Bool
-residualsFit c = knownLength (length c) && eachFits16 c
+-- of sixteen blocks by lanes, block i: the first n of its numbers are those of f, and the others what they were
+unfoldable pub laned : List ℤ → (i : ℕ) (f : ℕ → ℤ) (n : ℕ) → List ℤ
+laned t i f zero = t
+laned t i f (suc k) = set (laned t i f k) (16 * k + i) (f k)
 
--- number k of block i of the residual, in 16 bits: what lies beyond them is the nearest there; 0 where the block is not asked for
-abbrev pub residualOf : (c : List ℤ) (coded : List Bool) (i k : ℕ) → ℤ
-residualOf c coded i k = cond (ltb i (length c / 16) && getD coded i false) (signedTo 32767 (at (samplesOf false (blockOf c i)) k)) (pos 0)
+-- the same for the first n blocks, all sixteen numbers of each: f i k is number k of block i
+unfoldable pub turnedTo : (f : ℕ → ℕ → ℤ) (t : List ℤ) (n : ℕ) → List ℤ
+turnedTo f t zero = t
+turnedTo f t (suc i) = laned (turnedTo f t i) i (f i) 16
 
 -- ---- the public call
--- whether the coefficients are as they must be, and the residuals
+-- whether there are as many coefficients as there must be, and the residuals
 pub record Residuals : Type 0 where
   pub fit : Bool
   pub values : List ℤ
 
--- the residuals of the blocks that are asked for; where the coefficients are not as they must be, what was lent stays
-unfoldable pub residualsOf : (c : List ℤ) (coded : List Bool) (before : List ℤ) → Residuals
-residualsOf c coded before =
-    cond (residualsFit c)
-    (record { fit = true; values = build 256 (λ j. residualOf c coded (j % 16) (j / 16)) })
-    (record { fit = false; values = before })
+-- the residuals of 8 or 16 blocks in the places of the first of sixteen; of any other number of blocks, what was lent stays
+unfoldable pub residualsOf : (c before : List ℤ) → Residuals
+residualsOf c before =
+    let n = length c / 16 in
+    cond (knownLength (length c)) (record { fit = true; values = turnedTo (residualOf n c) before n }) (record { fit = false; values = before })

@@ -4,6 +4,7 @@ use mathlib.Core.Bool.{Bool, true, false, _&&_}
 use mathlib.Core.List.{List, [], _∷_}
 use mathlib.Core.Logic.{inl, inr}
 use Prim.Native.Nat.{ℕ, zero, suc, _+_, _*_, _/_, _%_, _<_}
+use native.Mathlib.Decide.{ℕ-discrete}
 use native.Mathlib.Omega.{arith}
 use lib.Dec.{T, ltb, lit<}
 use lib.IntN.{ℤ, pos, negsuc, _+ℤ_, _-ℤ_, _*ℤ_, +ℤ-idr}
@@ -104,6 +105,10 @@ fits-in z e = range-in (negsuc 32767) (pos 32767) z e
 pub below-all : (f : ℕ → Bool) (n : ℕ) → ((i : ℕ) → i < n → f i ≡ true) → allBelow n f ≡ true
 below-all f zero h = refl
 below-all f (suc n) h = both-true (h n (omega arith)) (below-all f n (λ i l. h i (omega arith)))
+
+-- one more number that something holds of
+pub below-next : (P : ℕ → Type 0) (k : ℕ) → P k → ((j : ℕ) → j < k → P j) → (j : ℕ) → j < k + 1 → P j
+below-next P k p h j l = elim (ℕ-discrete j k) [ yes e ↦ rw e p | no e ↦ h j (omega arith) ]
 
 pub good-fit : {c : List ℤ} → blockFits c ≡ true → CoefficientsIn c
 unfolding blockFits

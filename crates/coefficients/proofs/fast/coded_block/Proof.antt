@@ -13,22 +13,22 @@ room-requires : tie.Need-room-requires
 room-requires c κs = search needs
 
 returns : tie.Need-returns
-returns c = (coded-none _ _ _ _ _ _ _ (sym (c .before .room .ensures) ∙ not-true _ (c .if1 .taken)) refl refl, omega arith)
+returns c = (coded-none _ _ _ _ _ _ _ _ (sym (c .before .room .ensures) ∙ not-true _ (c .if1 .taken)) refl refl, omega arith)
 
 -- what the test showed
-fine : (c : tie.Else1) → (let a = c .before .before .before .before .args in roomOf (a .table .now) (a .kind) (a .ctx) (a .first) (length (a .out .now)) (a .at) ≡ true)
+fine : (c : tie.Else1) → (let a = c .before .before .before .before .args in roomOf (a .table .now) (a .kind) (a .ctx) (a .first) (length (a .out .now)) (a .spots .at) (a .spots .step) ≡ true)
 fine c = sym (c .before .room .ensures) ∙ not-false _ (c .if1 .left)
 
 read-block-requires : tie.Need-read-block-requires
 read-block-requires c κs =
     let a = c .before .before .before .before .before .args in
-    room-fact (a .table .now) (a .kind) (a .ctx) (a .first) (length (a .out .now)) (a .at) (fine (c .before))
+    room-fact (a .table .now) (a .kind) (a .ctx) (a .first) (length (a .out .now)) (a .spots .at) (a .spots .step) (fine (c .before))
 
 same-length : tie.Need-same-length
 same-length c = search needs
 
 returns-2 : tie.Need-returns-2
-returns-2 c = (coded-some _ _ _ _ _ _ _ (fine (c .before .before .before)) (c .before .read-block .ensures .0), c .before .read-block .ensures .1)
+returns-2 c = (coded-some _ _ _ _ _ _ _ _ (fine (c .before .before .before)) (c .before .read-block .ensures .0), c .before .read-block .ensures .1)
 
 pub coded-block-spec : {M : Type 1} → statement M
 coded-block-spec =

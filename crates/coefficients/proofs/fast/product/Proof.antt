@@ -3,10 +3,11 @@ use Prim.Native.Nat.{_*_, _%_}
 use mathlib.Core.List.{List, [], _∷_}
 use mathlib.Core.Path.{sym, _∙_}
 use lib.IntN.{pos}
-use mir.Syntax.{w32}
+use mir.Syntax.{w16, w32}
 use borrow.Author.Needs.{needs}
-use Rattle.numbers.specs.Eval.{E, Var, v, lit, _⊖_, fits, is}
+use Rattle.numbers.specs.Eval.{E, Var, v, lit, _⊖_, fits, know}
 use Rattle.numbers.specs.Hand.{known, there, unsigned-below}
+use Rattle.numbers.specs.Know.{fit, rounded}
 use Rattle.coefficients.specs.FastLaws.{wrap-raised}
 use Rattle.coefficients.proofs.fast.product.Statement.{statement}
 use Rattle.coefficients.proofs.fast.product.Tie as tie
@@ -27,8 +28,11 @@ cast-result c = search needs
 sub-result : tie.Need-sub-result
 sub-result c = fits w32 (ρ c) x tt
 
+cast-result-2 : tie.Need-cast-result-2
+cast-result-2 c = fit (know w32 (ρ c) x tt) tt
+
 returns : tie.Need-returns
-returns c = let a = c .before .args in is w32 (ρ c) x tt ∙ sym (wrap-raised (a .negative) (a .v * a .q) (c .raised .ensures .1) (c .raised .ensures .0))
+returns c = let a = c .before .args in rounded w16 (know w32 (ρ c) x tt) tt .eq ∙ sym (wrap-raised (a .negative) (a .v * a .q) (c .raised .ensures .1) (c .raised .ensures .0))
 
 pub product-spec : {M : Type 1} → statement M
-product-spec = tie.close (tie.spec raised-requires cast-result sub-result returns)
+product-spec = tie.close (tie.spec raised-requires cast-result sub-result cast-result-2 returns)

@@ -1,6 +1,6 @@
 use Prim.Native.Nat.{_*_}
 use mathlib.Core.Path.{_∙_, ap}
-use mir.Syntax.{w32}
+use mir.Syntax.{w16}
 use borrow.Author.Needs.{needs}
 use Rattle.numbers.specs.Hand.{answered}
 use Rattle.numbers.specs.Wrap.{wrapZ}
@@ -20,7 +20,7 @@ returns : tie.Need-returns
 returns c =
     let a = c .before .before .before .args in
     let g = c .before .before .half .ensures in
-    let e = answered w32 (c .product .ensures) (wrap-in _) tt .eq in
+    let e = answered w16 (c .product .ensures) (wrap-in _) tt .eq in
     (ap (λ (b : Bit). b .next) g, (e ∙ ap (λ (b : Bit). wrapZ (signOf (b .on) (a .v * a .q))) g, rw e (wrap-in _)))
 
 pub signed-spec : {M : Type 1} → statement M

@@ -1,4 +1,4 @@
-use Rattle.macroblock.specs.MacroblockLaws.{planes-painted}
+use Rattle.macroblock.specs.MacroblockLaws.{squares-painted}
 use borrow.Author.Needs.{needs}
 use Rattle.macroblock.proofs.squares.squares.Statement.{statement}
 use Rattle.macroblock.proofs.squares.squares.Tie as tie
@@ -55,7 +55,9 @@ same-length-3 : tie.Need-same-length-3
 same-length-3 c = search needs
 
 returns : tie.Need-returns
-returns c = planes-painted (c .before .before .before .before .before .before .before .before .before .before .before .before .before .before .before .before .before .before .before .pre .0) (c .before .before .before .before .before .before .before .before .before .before .before .before .before .before .before .before .before .before .before .pre .1) (c .before .before .before .before .before .before .before .before .before .before .before .before .paint .ensures) (c .before .before .before .before .before .before .before .paint2 .ensures) (c .before .before .paint3 .ensures)
+returns c =
+    let p = c .before .before .before .before .before .before .before .before .before .before .before .before .before .before .before .before .before .before .before .pre in
+    squares-painted _ (p .1 .0) (p .0) (p .1 .1) (c .before .before .before .before .before .before .before .before .before .before .before .before .paint .ensures) (c .before .before .before .before .before .before .before .paint2 .ensures) (c .before .before .paint3 .ensures)
 
 pub squares-spec : {M : Type 1} → statement M
 squares-spec =

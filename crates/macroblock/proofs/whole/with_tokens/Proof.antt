@@ -3,11 +3,12 @@ use lib.ListN.{replicate}
 use Prim.Native.Nat.{ℕ}
 use mathlib.Core.Path.{_≡_, refl, sym, _∙_, ap}
 use Rattle.reader.specs.Boolean.{given}
+use Rattle.reader.specs.BooleanLaws.{Bytes}
 use Rattle.reader.specs.Reading.{run}
 use Rattle.header.specs.declared.quantizers.Factors.{Factors}
 use Rattle.modes.specs.Answers.{macroblockOf}
-use Rattle.residual.specs.Residual.{residualOf}
-use Rattle.residual.specs.ResidualLaws.{fromResidual, fromEnded, decoded, decode-ends}
+use Rattle.residual.specs.Residual.{residualOf, blocksOf}
+use Rattle.residual.specs.ResidualLaws.{fromResidual, fromEnded, decoded, decode-ends, decode-long}
 use Rattle.header.specs.Frame.{factorsAt}
 use Rattle.reader.specs.Trace.{count}
 use Rattle.residual.specs.ResidualLaws as ResidualLaws
@@ -49,13 +50,20 @@ stopped-requires c κs = search needs
 abbrev start : tie.After-c2 → tie.Start
 start c = c .before .before .before .before .before .before .before .before .before .before .before .before .before .before .before .before
 
+-- what is lent are bytes
+tokens-bytes : (c : tie.After-c2) → Bytes (start c .args .tokens .now)
+tokens-bytes c i = c .before .before .before .before .before .before .before .before .before .before .before .before .before .before .before .shared-slice-known .given i .fits
+
+table-bytes : (c : tie.After-c2) → Bytes (start c .args .table .now)
+table-bytes c i = c .before .before .before .before .before .before .before .before .before .before .before .before .before .before .shared-slice-known2 .given i .fits
+
 -- what the residual's answer says of the grammar
-is : (c : tie.After-c2) → (let a = start c .args in run (residualOf (a .table .now) (factorsAt (a .frame) (a .m .kinds .segment)) (a .m .kinds .small) (a .m .kinds .skip) (a .around .top .flags) (a .around .left .flags)) (a .tokens .now) (a .t) ≡ fromResidual (c .before .decode .last .1 .1 .1 .1 .1 .1 .1 .1 .0) (c .before .decode .result .residual))
+is : (c : tie.After-c2) → (let a = start c .args in run (residualOf (a .table .now) (factorsAt (a .frame) (a .m .kinds .segment)) (a .m .kinds .small) (a .m .kinds .skip) (a .around .top .flags) (a .around .left .flags)) (a .tokens .now) (a .t) ≡ fromResidual (blocksOf (c .before .decode .last .1 .1 .1 .1 .1 .1 .1 .1 .0)) (c .before .decode .result .residual))
 is c =
     let a = start c .args in
     let p = start c .pre .0 in
     ap (λ (f : Factors). run (residualOf (a .table .now) f (a .m .kinds .small) (a .m .kinds .skip) (a .around .top .flags) (a .around .left .flags)) (a .tokens .now) (a .t)) (sym (c .before .before .before .factors-of .ensures ∙ ap (factorsAt (a .frame)) (c .before .before .before .before .index .ensures)))
-    ∙ decoded _ _ _ _ _ _ _ _ _ (p .token) (record { size = p .size; top-flags = p .top; left-flags = p .left; long = refl }) (c .before .decode .ensures .0)
+    ∙ decoded _ _ _ _ _ _ _ _ _ (p .token) (record { size = p .size; top-flags = p .top; left-flags = p .left; long = refl }) (tokens-bytes c) (table-bytes c) (c .before .decode .ensures .0)
 
 -- and its count
 counted : (c : tie.After-c2) → (let a = start c .args in c .before .decode .result .reads ≡ macroblockTokenReads (a .tokens .now) (a .t) (a .frame) (a .table .now) (a .around) (given (macroblockOf (a .m .kinds) (a .m .modes)) (a .m .next)))
@@ -69,10 +77,10 @@ abbrev at-c2 : tie.After-known-told → tie.After-c2
 at-c2 c = c .before .before .before .before
 
 -- the coefficients, the flags and the reader that it gave
-gave : (c : tie.After-known-told) → (let d = at-c2 c in let x = d .before .decode .result .residual in let a = start d .args in run (residualOf (a .table .now) (factorsAt (a .frame) (a .m .kinds .segment)) (a .m .kinds .small) (a .m .kinds .skip) (a .around .top .flags) (a .around .left .flags)) (a .tokens .now) (a .t) ≡ given (record { top = x .top; left = x .left; coefficients = d .before .decode .last .1 .1 .1 .1 .1 .1 .1 .1 .0; empty = c .before .answer .given .0 .1 .0 }) (c .before .answer .given .0 .0))
+gave : (c : tie.After-known-told) → (let d = at-c2 c in let x = d .before .decode .result .residual in let a = start d .args in run (residualOf (a .table .now) (factorsAt (a .frame) (a .m .kinds .segment)) (a .m .kinds .small) (a .m .kinds .skip) (a .around .top .flags) (a .around .left .flags)) (a .tokens .now) (a .t) ≡ given (record { top = x .top; left = x .left; coefficients = blocksOf (d .before .decode .last .1 .1 .1 .1 .1 .1 .1 .1 .0); empty = c .before .answer .given .0 .1 .0 }) (c .before .answer .given .0 .0))
 gave c =
     let d = at-c2 c in
-    is d ∙ ap (fromEnded (d .before .decode .result .residual .top) (d .before .decode .result .residual .left) (d .before .decode .last .1 .1 .1 .1 .1 .1 .1 .1 .0)) (c .before .answer .given .1)
+    is d ∙ ap (fromEnded (d .before .decode .result .residual .top) (d .before .decode .result .residual .left) (blocksOf (d .before .decode .last .1 .1 .1 .1 .1 .1 .1 .1 .0))) (c .before .answer .given .1)
 
 returns : tie.Need-returns
 returns c =
@@ -90,8 +98,8 @@ squares-requires c κs =
     let k = c .before .before .before .before .before in
     let d = at-c2 k in
     let p = start d .pre in
-    let e = decode-ends _ _ _ _ _ _ _ _ (replicate 384 (pos 0)) (p .0 .token) (record { size = p .0 .size; top-flags = p .0 .top; left-flags = p .0 .left; long = refl }) (λ i. d .before .before .before .before .before .before .before .before .before .before .before .before .before .before .before .shared-slice-known .given i .fits) (λ i. d .before .before .before .before .before .before .before .before .before .before .before .before .before .before .shared-slice-known2 .given i .fits) (gave k) in
-    (p .1 .1, painting (p .1 .0) (e .value))
+    let e = decode-ends _ _ _ _ _ _ _ _ (replicate 384 (pos 0)) (p .0 .token) (record { size = p .0 .size; top-flags = p .0 .top; left-flags = p .0 .left; long = refl }) (tokens-bytes d) (table-bytes d) (gave k) in
+    (p .1 .1, (decode-long _ _ _ _ _ _ _ _ _ refl (d .before .decode .ensures .0), painting (p .1 .0) (e .value)))
 
 ending-requires : tie.Need-ending-requires
 ending-requires c κs = let p = start (c .before .before .before .before .before .before .before .before .before .before .before .before .before .before .before .before .before .before) .pre in (p .1 .0 .segment, p .0 .sound)

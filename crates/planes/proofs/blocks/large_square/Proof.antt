@@ -10,14 +10,15 @@ add-blocks-requires : tie.Need-add-blocks-requires
 add-blocks-requires c κs =
     let d = c .before .before .before in
     let r = d .before .before .before .pre in
-    (rw (d .predict .ensures, length-rows, quarter (r .1 .0)) (r .0), (size-sides (r .1 .0), r .1 .1 .1))
+    (rw (d .predict .ensures, length-rows, quarter (r .1 .0)) (r .0), (size-sides (r .1 .0), rw (quarter (r .1 .0)) (r .1 .1 .1)))
 
 returns : tie.Need-returns
 returns c =
     let a = c .before .before in
     let d = a .before .before .before .before in
     let r = d .before .before .before .pre in
-    square-put _ _ _ _ _ _ _ (r .1 .0) (r .0) (d .predict .ensures) (a .add-blocks .ensures)
+    let e = a .add-blocks .ensures in
+    (square-put _ _ _ _ _ _ _ (r .1 .0) (r .0) (d .predict .ensures) (rw (quarter (r .1 .0)) at (e .0)), e .1)
 
 pub large-square-spec : {M : Type 1} → statement M
 large-square-spec =

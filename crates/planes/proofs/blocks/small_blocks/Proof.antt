@@ -1,20 +1,24 @@
 -- `small_blocks` meets its contract: a sub-block a turn.
 use mathlib.Core.Logic.{inr}
-use mathlib.Core.Path.{_≡_, refl, sym}
-use Prim.Native.Nat.{_*_, _-_, _≤_}
+use mathlib.Core.Path.{_≡_, refl, sym, subst}
+use Prim.Native.Nat.{ℕ, _+_, _-_, _≤_}
+use native.Mathlib.Nat.{zero-add}
 use native.Mathlib.Omega.{arith}
-use lib.ListN.{length}
-use mir.Syntax.{w32}
-use Rattle.numbers.specs.Hand.{there, passed}
-use Rattle.planes.specs.Paint.{blocksPainted, smallRule}
+use lib.IntN.{ℤ, pos, negsuc}
+use lib.ListN.{length, getD}
+use mir.Syntax.{w16, w32}
+use Rattle.numbers.specs.Know.{Know, round, fit, inside, inside-read}
+use Rattle.transform.specs.TransformLaws.{below-next}
+use Rattle.planes.specs.Paint.{blocksPainted, smallRule, squareBlocks}
 use Rattle.planes.specs.PaintLaws.{blocks-none, length-blocks, length-painted}
 use Rattle.planes.specs.Places.{Lies, lies-block, sub-lies, not-last}
-use Rattle.planes.proofs.Turns.{small-turn}
+use Rattle.planes.specs.Steps.{FirstFit, Fits16}
+use Rattle.planes.proofs.Turns.{taken, passed, small-turn}
 use Rattle.planes.proofs.blocks.small_blocks.Statement.{statement}
 use Rattle.planes.proofs.blocks.small_blocks.Tie as tie
 
 abbrev Inv-loop : tie.InvT-loop
-Inv-loop p₀ w x y right modes r c coded i₀ p i = (i ≤ 16) × (p ≡ blocksPainted (smallRule w x y right modes) p₀ w x y 4 c i)
+Inv-loop p₀ w x y right modes r c coded i₀ p i = (i ≤ 16) × (p ≡ blocksPainted (smallRule w x y right modes) p₀ w x y 4 (squareBlocks 16 0 c) i) × FirstFit c 0 i
 
 abbrev μ-loop : tie.MeasureT-loop
 μ-loop p₀ w x y right modes r c coded i₀ p i = 16 - i
@@ -35,32 +39,42 @@ predict-small-requires c κs =
     let i = t .before .before .loop .i in
     (lies t, (λ e. omega (arith, not-last i e, r .0 .columns, t .sub-block .ensures .across), r .1 .0 i (omega arith)))
 
+-- the first coefficient, as it is read
+abbrev turn : tie.After-add-arg2 Inv-loop μ-loop → tie.After-sub-block Inv-loop μ-loop
+turn c = c .before .before .before .before .before .before .before
+
+abbrev first : tie.After-add-arg2 Inv-loop μ-loop → ℤ
+first c = let t = turn c in getD (t .before .before .before .before .args .c .now) (t .before .before .loop .i) (pos 0)
+
+dc : (c : tie.After-add-arg2 Inv-loop μ-loop) → Know (round w32 (round w16 (first c))) (first c) (negsuc 32767) (pos 32767)
+dc c = passed (first c) (c .add-arg2 .given)
+
 add-requires : tie.Need-add-requires Inv-loop μ-loop
 add-requires c κs =
     let d = c .before .before .before .before in
-    let t = d .before .before .before in
-    let r = t .before .before .before .before .pre .1 .1 in
-    (lies-block (still d), (omega arith, (r .near, passed w32 (r .fit .at _) tt tt)))
+    (lies-block (still d), (omega arith, (turn c .before .before .before .before .pre .1 .1 .near, inside-read (dc c))))
 
 loop-again : tie.Need-loop-again Inv-loop μ-loop
 loop-again c =
     let n = c .before .before in
     let d = n .before .before .before .before .before in
-    let t = d .before .before .before in
+    let t = turn (n .before) in
     let s = t .before .before .before .before in
     let l = t .before .before .loop in (
       omega arith,
-      small-turn (s .pre .1 .1) _ _ _ (l .i) (omega arith) (t .sub-block .ensures) refl (there w32 (s .pre .1 .1 .fit .at (16 * l .i)) tt .eq) (s .args .right) (s .args .modes .now) _
+      small-turn (s .pre .1 .1) _ _ _ (l .i) (omega arith) (t .sub-block .ensures) refl (dc (n .before) .eq) (s .args .right) (s .args .modes .now) _
           (l .inv .1) (lies t) (s .pre .1 .0 (l .i) (omega arith)) (d .predict-small .ensures) (n .add .ensures .1) (n .add .ensures .0),
+      below-next (λ (j : ℕ). Fits16 (getD (s .args .c .now) (0 + j) (pos 0))) (l .i) (subst (λ (k : ℕ). Fits16 (getD (s .args .c .now) k (pos 0))) (sym (zero-add (l .i))) (inside (dc (n .before)))) (l .inv .2),
     )
 
 returns : tie.Need-returns Inv-loop μ-loop
-returns c = let e : c .before .loop .i ≡ 16 = omega arith in rw e at (c .before .loop .inv .1)
+returns c = let e : c .before .loop .i ≡ 16 = omega arith in let v = c .before .loop .inv in (rw e at (v .1), rw e at (v .2))
 
 pub small-blocks-spec : {M : Type 1} → statement M
 small-blocks-spec =
     tie.close
-    (tie.spec Inv-loop μ-loop (λ c. (omega arith, sym (blocks-none _ _ _ _ _ _ _)))
+    (tie.spec Inv-loop μ-loop (λ c. (omega arith, sym (blocks-none _ _ _ _ _ _ _), λ j h. absurd (omega arith)))
     (λ c κs. let r = c .before .before .before .pre in (inr refl, (omega arith, (r .0 .columns, r .0 .wide, r .0 .high)))) (λ c. omega arith) predict-small-requires
-    (λ c. omega arith) (λ c. omega arith) (λ c. omega arith) (λ c. omega (arith, c .before .before .before .before .before .before .before .before .before .before .pre .1 .1 .long)) add-requires (λ c. omega arith) (λ c. omega arith) loop-again
+    (λ c. omega arith) (λ c. omega arith) (λ c. omega (arith, c .before .before .before .before .before .before .before .before .before .before .pre .1 .1 .room))
+    (λ c. fit (taken (first c) (c .add-arg2 .given)) tt) add-requires (λ c. omega arith) (λ c. omega arith) loop-again
     (λ c. rw (c .before .loop .inv .1) (length-blocks _ _ _ _ _ _ _ _)) returns)

@@ -6,7 +6,9 @@ use Rattle.planes.proofs.blocks.small_square.Statement.{statement}
 use Rattle.planes.proofs.blocks.small_square.Tie as tie
 
 returns : tie.Need-returns
-returns c = let d = c .before .before in d .small-blocks .ensures ∙ square-small _ _ _ _ _ _ _ _ _ refl refl (d .before .before .above-right .ensures)
+returns c =
+    let d = c .before .before in
+    (d .small-blocks .ensures .0 ∙ square-small _ _ _ _ _ _ _ _ _ refl refl (d .before .before .above-right .ensures), d .small-blocks .ensures .1)
 
 pub small-square-spec : {M : Type 1} → statement M
 small-square-spec =

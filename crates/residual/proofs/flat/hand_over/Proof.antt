@@ -3,7 +3,7 @@ use mathlib.Core.Path.{refl, sym, _∙_}
 use native.Mathlib.Omega.{arith}
 use lib.IntN.{pos}
 use lib.ListN.{getD}
-use mir.Syntax.{w32}
+use mir.Syntax.{w16}
 use Rattle.numbers.specs.Hand.{back}
 use Rattle.numbers.specs.Lists.{Filled, filled-none, filled-next, filled-all, built}
 use Rattle.residual.proofs.flat.hand_over.Statement.{statement}
@@ -37,7 +37,7 @@ loop-less : tie.Need-loop-less Inv-loop μ-loop
 loop-less c = omega arith
 
 loop-again : tie.Need-loop-again Inv-loop μ-loop
-loop-again c = filled-next _ (omega arith) (back w32 (c .out .given)) (c .before .before .loop .inv)
+loop-again c = filled-next _ (omega arith) (back w16 (c .out .given)) (c .before .before .loop .inv)
 
 same-length : tie.Need-same-length Inv-loop μ-loop
 same-length c = c .before .loop .inv .long ∙ sym (c .before .before .pre .0)

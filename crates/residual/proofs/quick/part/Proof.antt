@@ -36,8 +36,8 @@ cast-ctx c =
     let p = c .before .before .place-at .result in
     omega (arith, h .top .each (p .x), h .left .each (p .y))
 
-mul-coded-block : tie.Need-mul-coded-block
-mul-coded-block c = search needs
+spots-at-requires : tie.Need-spots-at-requires
+spots-at-requires c κs = search needs
 
 coded-block-requires : tie.Need-coded-block-requires
 coded-block-requires c κs = search needs
@@ -58,25 +58,26 @@ element-write-left : tie.Need-element-write-left
 element-write-left c = search needs
 
 add-t35 : tie.Need-add-t35
-add-t35 c = let b = c .before .before .before .before .before .before .before .before .before .before .before .before .before .before .before .before .before in record { fits = omega (arith, b .pre .0 .few, b .pre .1, c .before .before .before .before .before .before .before .before .before .coded-block .ensures .1) }
+add-t35 c = let b = c .before .before .before .before .before .before .before .before .before .before .before .before .before .before .before .before .before .before in record { fits = omega (arith, b .pre .0 .few, b .pre .1, c .before .before .before .before .before .before .before .before .before .coded-block .ensures .1) }
 
 same-length : tie.Need-same-length
 same-length c = search needs
 
 returns : tie.Need-returns
 returns c =
-    let b = c .before .before .before .before .before .before .before .before .before .before .before .before .before .before .before .before .before in
+    let x = c .before .before .before .before .before .before .before .before .before in
+    let o = x .before .spots-at in
+    let p = x .before .before .before .before .before .place-at in
+    let d = x .before .before .before .before .before .before .kind-at in
+    let b = x .before .before .before .before .before .before .before .before .before in
     let a = b .args in
     let h = b .pre .0 in
-    let p = c .before .before .before .before .before .before .before .before .before .before .before .before .before .place-at in
-    let k = c .before .before .before .before .before .before .before .before .before .before .before .before .before .before .kind-at .ensures in
-    let x = c .before .before .before .before .before .before .before .before .before .coded-block in
     let e = c .before .before .before .before .before .before .settle .ensures in
-    let on : Bool = ltb (c .before .before .before .before .before .before .before .before .before .before .before .before .before .before .kind-at .result .first) (x .result .end) in
+    let on : Bool = ltb (d .result .first) (x .coded-block .result .end) in
     let few : getD (a .top .now) (p .result .x) 0 + getD (a .left .now) (p .result .y) 0 < 3 = omega (arith, h .top .each (p .result .x), h .left .each (p .result .y)) in
-    let room = coded-room (a .table .now) (a .flat .now) (a .f) (a .small) (a .j) k few (h .size) (h .long) (b .pre .1) in
-    part-read (a .s .now) (a .table .now) (a .f) (a .small) (widerOf (a .m) (a .top .now) (a .left .now)) (a .j) (a .flat .now) _ _ (x .result) (λ i. c .before .before .before .before .before .before .before .before .before .before .before .before .before .before .before .shared-slice-known2 .given i .fits) h
-    k (p .ensures .0) refl (coded-read _ _ _ _ _ _ _ room (x .ensures .0)) (x .ensures .1) (e .0) (e .1) (ap (λ (v : ℕ). set (a .top .now) (p .result .x) v) (byte-bit on)) (ap (λ (v : ℕ). set (a .left .now) (p .result .y) v) (byte-bit on))
+    let room = coded-room (a .table .now) (a .flat .now) (a .f) (a .small) (a .j) (d .ensures) (o .ensures .0) few (h .size) (h .long) (b .pre .1) in
+    part-read (a .s .now) (a .table .now) (a .f) (a .small) (widerOf (a .m) (a .top .now) (a .left .now)) (a .j) (a .flat .now) _ _ (x .coded-block .result) (λ i. x .before .before .before .before .before .before .before .shared-slice-known2 .given i .fits) h (b .pre .1)
+    (d .ensures) (p .ensures .0) (o .ensures .0) refl (coded-read _ _ _ _ _ _ _ _ room (x .coded-block .ensures .0)) (x .coded-block .ensures .1) (e .0) (e .1) (ap (λ (v : ℕ). set (a .top .now) (p .result .x) v) (byte-bit on)) (ap (λ (v : ℕ). set (a .left .now) (p .result .y) v) (byte-bit on))
 
 pub part-spec : {M : Type 1} → statement M
 part-spec =
@@ -88,7 +89,7 @@ part-spec =
     element-copy-out-ctx-2
     add-ctx
     cast-ctx
-    mul-coded-block
+    spots-at-requires
     coded-block-requires
     settle-requires
     cast-top

@@ -11,10 +11,10 @@ returns : tie.Need-returns
 returns c =
     let b = c .before in
     let a = b .before in
-    back w16 (a .before .t6 .given) ∷≡ back w16 (a .t11 .given) ∷≡ back w16 (b .t16 .given) ∷≡ back w16 (c .t21 .given) ∷≡ refl
+    back w16 (a .before .t6 .given) ∷≡ back w16 (a .t10 .given) ∷≡ back w16 (b .t15 .given) ∷≡ back w16 (c .t20 .given) ∷≡ refl
 
 pub lane-row-spec : {M : Type 1} → statement M
 lane-row-spec =
     tie.close
     (tie.spec (λ c. search needs) (λ c. search needs) (λ c. search needs) (λ c. search needs) (λ c. search needs) (λ c. search needs)
-    (λ c. search needs) (λ c. search needs) (λ c. search needs) (λ c. search needs) (λ c. search needs) returns)
+    (λ c. search needs) (λ c. search needs) (λ c. search needs) (λ c. search needs) (λ c. search needs) (λ c. search needs) (λ c. search needs) returns)

@@ -4,7 +4,7 @@ use Prim.Native.Nat.{ℕ, _+_, _-_, _≤_}
 use native.Mathlib.Nat.{add-assoc, add-zero}
 use native.Mathlib.Omega.{arith}
 use lib.IntN.{pos, negsuc}
-use mir.Syntax.{w32}
+use mir.Syntax.{w16}
 use Rattle.numbers.specs.Hand.{back}
 use Rattle.numbers.specs.Tables.{allBelow}
 use Rattle.transform.specs.Transform.{at}
@@ -25,7 +25,7 @@ loop-again : tie.Need-loop-again Inv-loop μ-loop
 loop-again c =
     let l = c .before .before .loop in
     let a = c .before .before .before .args in
-    (omega arith, rw (← add-assoc) (within-next (negsuc 2047) (pos 2047) (a .c .now) (a .from + l .k) (back w32 (c .x .given)) (l .inv .1)))
+    (omega arith, rw (← add-assoc) (within-next (negsuc 2047) (pos 2047) (a .c .now) (a .from + l .k) (back w16 (c .x .given)) (l .inv .1)))
 
 returns : tie.Need-returns Inv-loop μ-loop
 returns c = let e : c .before .loop .k ≡ 64 = omega arith in rw e at (c .before .loop .inv .1)

@@ -2,7 +2,7 @@
 use mathlib.Core.Bool.{false}
 use mathlib.Core.List.{List}
 use mathlib.Core.Path.{_≡_, refl, sym, ap, _∙_}
-use Prim.Native.Nat.{ℕ, _-_, _≤_}
+use Prim.Native.Nat.{_-_, _≤_}
 use native.Mathlib.Omega.{arith}
 use lib.IntN.{ℤ}
 use lib.Signed.{leZ-yes}
@@ -12,22 +12,22 @@ use Rattle.numbers.specs.ClampLaws.{clamp-in}
 use Rattle.numbers.specs.Hand.{back, answered}
 use Rattle.numbers.specs.Tests.{never}
 use Rattle.transform.specs.Transform.{at, samplesOf}
-use Rattle.transform.specs.Lanes.{blockOf}
-use Rattle.transform.specs.LanesLaws.{aloneAt, laned, laned-none, laned-next, block-fits}
+use Rattle.transform.specs.Lanes.{laned}
+use Rattle.transform.specs.LanesLaws.{laneOf, aloneAt, laned-none, laned-next}
 use Rattle.transform.proofs.lanes.put_alone.Statement.{statement}
 use Rattle.transform.proofs.lanes.put_alone.Tie as tie
 
 abbrev Inv-loop : tie.InvT-loop
-Inv-loop c i t₀ s k₀ t k = (k ≤ 16) × (s ≡ samplesOf false (blockOf c i)) × (t ≡ laned t₀ i (aloneAt c i) k)
+Inv-loop c n i t₀ s k₀ t k = (k ≤ 16) × (s ≡ samplesOf false (laneOf n c i)) × (t ≡ laned t₀ i (aloneAt n c i) k)
 
 abbrev μ-loop : tie.MeasureT-loop
-μ-loop c i t₀ s k₀ t k = 16 - k
+μ-loop c n i t₀ s k₀ t k = 16 - k
 
 samples-requires : tie.Need-samples-requires Inv-loop μ-loop
-samples-requires c κs = (rw (c .before .block .ensures) (block-fits (c .before .before .pre .1) _), λ e. absurd (never e refl))
+samples-requires c κs = (rw (c .before .block .ensures .0) (c .before .block .ensures .1), λ e. absurd (never e refl))
 
 loop-holds : tie.Need-loop-holds Inv-loop μ-loop
-loop-holds c = (omega arith, c .samples .ensures ∙ ap (samplesOf false) (c .before .before .block .ensures), sym (laned-none _ _ _))
+loop-holds c = (omega arith, c .samples .ensures ∙ ap (samplesOf false) (c .before .before .block .ensures .0), sym (laned-none _ _ _))
 
 loop-again : tie.Need-loop-again Inv-loop μ-loop
 loop-again c =
@@ -42,6 +42,6 @@ returns c = let e : c .before .loop .k ≡ 16 = omega arith in rw e at (c .befor
 pub put-alone-spec : {M : Type 1} → statement M
 put-alone-spec =
     tie.close
-    (tie.spec Inv-loop μ-loop (λ c κs. c .pre .0) samples-requires loop-holds (λ c. omega arith) (λ c. omega arith) (λ c κs. tt)
+    (tie.spec Inv-loop μ-loop (λ c κs. c .pre) samples-requires loop-holds (λ c. omega arith) (λ c. omega arith) (λ c κs. tt)
     (λ c. omega arith) (λ c. omega arith) (λ c. omega arith) (λ c. omega arith) (λ c. omega arith)
     (λ c. omega arith) loop-again returns)

@@ -5,11 +5,11 @@ use Prim.Native.Nat.{ℕ, _-_, _/_, _%_, _≤_}
 use mathlib.Core.Bool.{false}
 use native.Mathlib.Omega.{arith}
 use mir.Syntax.{w16}
-use mir.Val.{SFits}
 use Rattle.numbers.specs.Eval.{v, shr, is}
 use Rattle.numbers.specs.Hand.{known, any}
 use Rattle.transform.specs.Transform.{cell, resultOf}
-use Rattle.transform.specs.LanesLaws.{laned, laned-none, laned-next}
+use Rattle.transform.specs.Lanes.{laned}
+use Rattle.transform.specs.LanesLaws.{laned-none, laned-next}
 use Rattle.transform.proofs.lanes.put_lane.Statement.{statement}
 use Rattle.transform.proofs.lanes.put_lane.Tie as tie
 

@@ -1,28 +1,28 @@
--- `turn` meets its contract: a block a turn, whose coefficients still stand.
+-- `turn` meets its contract: a block a turn.
 use mathlib.Core.Path.{_≡_, sym, _∙_}
 use Prim.Native.Nat.{_-_, _≤_}
 use native.Mathlib.Omega.{arith}
 use Rattle.transform.specs.TransformLaws.{SmallIn, first-asks, second-asks}
-use Rattle.transform.specs.Lanes.{laneOf}
-use Rattle.transform.specs.LanesLaws.{turnedTo, turned-none, turned-next, turned-small}
+use Rattle.transform.specs.Lanes.{turnedTo}
+use Rattle.transform.specs.LanesLaws.{laneOf, turnedAt, turned-none, turned-stages, lane-small}
 use Rattle.transform.proofs.lanes.turn.Statement.{statement}
 use Rattle.transform.proofs.lanes.turn.Tie as tie
 
 abbrev Inv-loop : tie.InvT-loop
-Inv-loop t₀ n i₀ t i = (i ≤ n) × (t ≡ turnedTo t₀ i)
+Inv-loop c n t₀ i₀ t i = (i ≤ n) × (t ≡ turnedTo (turnedAt n c) t₀ i)
 
 abbrev μ-loop : tie.MeasureT-loop
-μ-loop t₀ n i₀ t i = n - i
+μ-loop c n t₀ i₀ t i = n - i
 
-fit : (c : tie.After-lane Inv-loop μ-loop) → SmallIn (laneOf (c .before .before .before .before .loop .t) (c .before .before .before .before .loop .i))
-fit c = let l = c .before .before .before .before .loop in rw (l .inv .1) (turned-small _ (l .i) (omega arith) (c .before .before .before .before .before .pre .1))
+fit : (c : tie.After-lane Inv-loop μ-loop) → let a = c .before .before .before .before .args in SmallIn (laneOf (a .n) (a .c .now) (c .before .before .before .loop .i))
+fit c = lane-small _ _ (c .before .before .before .before .pre .1)
 
 loop-again : tie.Need-loop-again Inv-loop μ-loop
 loop-again c =
     let h = c .before in
     let g = h .before .before in
-    let l = g .before .before .before .before .loop in
-    (omega arith, c .put-lane .ensures ∙ turned-next _ (l .i) (l .inv .1) (g .lane .ensures) (h .before .first-pass .ensures) (h .second-pass .ensures))
+    let l = g .before .before .before .loop in
+    (omega arith, c .put-lane .ensures ∙ turned-stages _ _ _ (l .i) (l .inv .1) (g .lane .ensures) (h .before .first-pass .ensures) (h .second-pass .ensures))
 
 returns : tie.Need-returns Inv-loop μ-loop
 returns c = let e : c .before .loop .i ≡ c .before .before .args .n = omega arith in rw e at (c .before .loop .inv .1)
@@ -30,7 +30,7 @@ returns c = let e : c .before .loop .i ≡ c .before .before .args .n = omega ar
 pub turn-spec : {M : Type 1} → statement M
 turn-spec =
     tie.close
-    (tie.spec Inv-loop μ-loop (λ c. (omega arith, sym (turned-none _))) (λ c κs. omega arith)
+    (tie.spec Inv-loop μ-loop (λ c. (omega arith, sym (turned-none _ _))) (λ c κs. omega arith)
     (λ c κs. first-asks (fit c) (c .lane .ensures))
     (λ c κs. second-asks (fit (c .before)) (c .before .lane .ensures) (c .first-pass .ensures))
     (λ c κs. omega arith)
