@@ -12,42 +12,16 @@ need qemu-x86_64 qemu-user
 need gcc gcc libc6-dev
 need python3 python3
 out=target/bench
-webp=libwebp-1.2.4
 qemu="qemu-x86_64"
 [ "$(uname -m)" = x86_64 ] || qemu="$qemu -L /usr/x86_64-linux-gnu"
 
 gcc -shared -fPIC -O2 -o $out/insncount.so bench/insncount.c
 $X86CC -O2 -Iinclude -o $out/bench examples/c/bench.c "$ARCHIVE"
 
-# libwebp from Debian's source, its decoder alone, twice: without SIMD (an empty config.h chooses none) and with its SSE2 and SSE4.1 code.
-if [ ! -d $out/$webp ]; then
-    tar=libwebp_1.2.4.orig.tar.gz
-    # the machine's own package sources, asked for the source
-    lists=$PWD/$out/apt
-    mkdir -p "$lists/lists/partial" "$lists/cache/archives/partial" "$lists/parts"
-    cat /etc/apt/sources.list.d/*.sources 2>/dev/null | sed 's/^Types:.*/Types: deb-src/' >"$lists/parts/src.sources" || true
-    cat /etc/apt/sources.list 2>/dev/null | sed -n 's/^deb /deb-src /p' >"$lists/parts/src.list" || true
-    sources() { apt-get -q -o Dir::Etc::SourceList=/dev/null -o Dir::Etc::SourceParts="$lists/parts" -o Dir::State::Lists="$lists/lists" -o Dir::Cache="$lists/cache" "$@"; }
-    [ -f $out/$tar ] || { sources update && (cd $out && sources source --download-only libwebp); } >$out/apt.log 2>&1 || { cat $out/apt.log >&2; exit 1; }
-    echo "7bf5a8a28cc69bcfa8cb214f2c3095703c6b73ac5fba4d5480c205331d9494df  $out/$tar" | sha256sum -c --quiet
-    tar -xzf $out/$tar -C $out
-fi
-# libwebp NAME CONFIG [FLAG]: bench/webp.c over it, built so
-libwebp() {
-    local o=$out/o-$1 f
-    [ -x $out/"$1" ] && return
-    rm -rf "$o"
-    mkdir -p "$o/src/webp"
-    printf "$2" >"$o/src/webp/config.h"
-    for f in $out/$webp/src/{dec,utils}/*.c $out/$webp/src/dsp/{alpha_processing,cpu,dec,dec_clip_tables,filters,lossless,rescaler,upsampling,yuv}*.c; do
-        case $f in *_neon.c | *_mips*.c | *_msa.c) continue ;; esac
-        $X86CC -O3 -DHAVE_CONFIG_H ${3:+"$3"} -I"$o" -I$out/$webp -c -o "$o/$(basename "$f" .c).o" "$f"
-    done
-    $X86CC -O2 -I$out/$webp -o $out/"$1" bench/webp.c "$o"/*.o -lm -lpthread
-}
-rm -f $out/$webp/src/webp/config.h
-libwebp webp ''
-libwebp webp-sse '#define WEBP_HAVE_SSE2 1\n#define WEBP_HAVE_SSE41 1\n' -msse4.1
+# libwebp twice: without SIMD and with its SSE2 and SSE4.1 code.
+. bench/libwebp.sh
+libwebp webp "$X86CC" ''
+libwebp webp-sse "$X86CC" '#define WEBP_HAVE_SSE2 1\n#define WEBP_HAVE_SSE41 1\n' -msse4.1
 
 # count PROGRAM FILE TIMES [deblock]: instructions of so many decodes
 count() {
