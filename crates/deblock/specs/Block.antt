@@ -28,5 +28,5 @@ shuffledOf t = build 128 (λ j. getD t (j / 2 + j % 2 * 64) 0)
 unfoldable pub columnsOf : List ℕ → List ℕ
 columnsOf t = build 128 (λ j. getD t (j % 16 * 8 + j / 16) 0)
 
-unfoldable pub rowsOf : List ℕ → List ℕ
-rowsOf t = build 128 (λ j. getD t (j % 8 * 16 + j / 8) 0)
+unfoldable pub sampleRows : List ℕ → List ℕ
+sampleRows t = build 128 (λ j. getD t (j % 8 * 16 + j / 8) 0)

@@ -25,7 +25,7 @@ use Rattle.deblock.specs.Deblock.{Change, turns, acrossOf, laidBack, kep
 use Rattle.deblock.specs.DeblockLaws.{Closed, turns-closed, length-across, across-bytes, position-bytes, position-laid, position-still, length-edge, position-off, position-at}
 use Rattle.deblock.specs.LocalLaws.{edge-moves-six, one-row}
 use Rattle.deblock.specs.MovesLaws.{Number, number}
-use Rattle.deblock.specs.Block.{actingOf, rowsCopied, shuffledOf, columnsOf, rowsOf}
+use Rattle.deblock.specs.Block.{actingOf, rowsCopied, shuffledOf, columnsOf, sampleRows}
 
 -- ---- rows copied
 module _ (to : List ℕ) (at w : ℕ) (from : List ℕ) (start v n : ℕ) where
@@ -115,13 +115,13 @@ module _ (t : List ℕ) where
       let k = half-below j h in
       shuffled-at (shuffledOf (shuffledOf t)) j h ∙ shuffled-at (shuffledOf t) (half j) k ∙ shuffled-at t (half (half j)) (half-below (half j) k)
 
-  three-shuffles : shuffledOf (shuffledOf (shuffledOf t)) ≡ rowsOf t
-  unfolding rowsOf
+  three-shuffles : shuffledOf (shuffledOf (shuffledOf t)) ≡ sampleRows t
+  unfolding sampleRows
   three-shuffles =
       built (shuffledOf (shuffledOf (shuffledOf t))) 128 _ 0 (length-shuffled (shuffledOf (shuffledOf t)))
       (λ j h. three-at j h ∙ ap (λ (i : ℕ). getD t i 0) (same-place (λ i. half (half (half i))) (λ i. i % 8 * 16 + i / 8) refl j h))
 
-pub rows-shuffled : (t : List ℕ) {a b c : List ℕ} → a ≡ shuffledOf t → b ≡ shuffledOf a → c ≡ shuffledOf b → c ≡ rowsOf t
+pub rows-shuffled : (t : List ℕ) {a b c : List ℕ} → a ≡ shuffledOf t → b ≡ shuffledOf a → c ≡ shuffledOf b → c ≡ sampleRows t
 rows-shuffled t e f g = g ∙ ap shuffledOf (f ∙ ap shuffledOf e) ∙ three-shuffles t
 
 module _ (t : List ℕ) where
@@ -139,8 +139,8 @@ module _ (t : List ℕ) where
   columns-at i k h l =
       getD-build 128 _ (i + 16 * k) 0 (omega arith) ∙ ap (λ (j : ℕ). getD t j 0) {x = (i + 16 * k) % 16 * 8 + (i + 16 * k) / 16} {y = 8 * i + k} (omega arith)
 
-  pub rows-at : (i k : ℕ) → i < 16 → k < 8 → getD (rowsOf t) (8 * i + k) 0 ≡ getD t (i + 16 * k) 0
-  unfolding rowsOf
+  pub rows-at : (i k : ℕ) → i < 16 → k < 8 → getD (sampleRows t) (8 * i + k) 0 ≡ getD t (i + 16 * k) 0
+  unfolding sampleRows
   rows-at i k h l =
       getD-build 128 _ (8 * i + k) 0 (omega arith) ∙ ap (λ (j : ℕ). getD t j 0) {x = (8 * i + k) % 8 * 16 + (8 * i + k) / 8} {y = i + 16 * k} (omega arith)
 
@@ -148,9 +148,9 @@ module _ (t : List ℕ) where
   unfolding columnsOf
   length-columns = length-build 128 _
 
-  pub length-rowsOf : length (rowsOf t) ≡ 128
-  unfolding rowsOf
-  length-rowsOf = length-build 128 _
+  pub length-sampleRows : length (sampleRows t) ≡ 128
+  unfolding sampleRows
+  length-sampleRows = length-build 128 _
 
   pub columns-bytes : Bytes t → Bytes (columnsOf t)
   unfolding columnsOf
@@ -390,12 +390,12 @@ module _ (at w : ℕ) where
           taken = λ i k h m. columns-at t (l + i) k (omega arith) m ∙ taken i k h m;
         }
 
-  pub upright-end : (g : Edge) {n l : ℕ} {p c o q : List ℕ} → Part at w 1 n l p c → 8 ≤ w → o ≡ sweepOf g 0 1 16 16 c → q ≡ rowsCopied p at w (rowsOf o) (8 * l) 8 8 n → q ≡ sweepOf g at w 1 n p
+  pub upright-end : (g : Edge) {n l : ℕ} {p c o q : List ℕ} → Part at w 1 n l p c → 8 ≤ w → o ≡ sweepOf g 0 1 16 16 c → q ≡ rowsCopied p at w (sampleRows o) (8 * l) 8 8 n → q ≡ sweepOf g at w 1 n p
   upright-end g {n} {l} {p} {c} {o} {q} z wide swept e =
-      edge-is g z swept (rw e (length-rows p at w (rowsOf o) (8 * l) 8 8 n))
-      (λ i k h m. rw e (ap (λ (x : ℕ). getD (rowsCopied p at w (rowsOf o) (8 * l) 8 8 n) x 0) {x = at + i * w + k * 1} {y = at + i * w + k} (omega arith) ∙ rows-in p at w (rowsOf o) (8 * l) 8 8 n i k wide (λ j a. omega (arith, z .room j a)) h m
-      ∙ ap (λ (x : ℕ). getD (rowsOf o) x 0) {x = 8 * l + i * 8 + k} {y = 8 * (l + i) + k} (omega arith) ∙ rows-at o (l + i) k (omega (arith, z .few)) m))
-      (λ x none. rw e (rows-off p at w (rowsOf o) (8 * l) 8 8 n x (λ r k a b f. none r k a b (omega arith))))
+      edge-is g z swept (rw e (length-rows p at w (sampleRows o) (8 * l) 8 8 n))
+      (λ i k h m. rw e (ap (λ (x : ℕ). getD (rowsCopied p at w (sampleRows o) (8 * l) 8 8 n) x 0) {x = at + i * w + k * 1} {y = at + i * w + k} (omega arith) ∙ rows-in p at w (sampleRows o) (8 * l) 8 8 n i k wide (λ j a. omega (arith, z .room j a)) h m
+      ∙ ap (λ (x : ℕ). getD (sampleRows o) x 0) {x = 8 * l + i * 8 + k} {y = 8 * (l + i) + k} (omega arith) ∙ rows-at o (l + i) k (omega (arith, z .few)) m))
+      (λ x none. rw e (rows-off p at w (sampleRows o) (8 * l) 8 8 n x (λ r k a b f. none r k a b (omega arith))))
 
 -- rows that end with the last of them
 pub row-room : (at w m n : ℕ) {len : ℕ} → at + m * w + n ≤ len → (i : ℕ) → i ≤ m → at + i * w + n ≤ len

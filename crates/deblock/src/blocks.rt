@@ -3,7 +3,7 @@ ghost use mathlib.Core.Path.{_≡_};
 ghost use Prim.Native.Nat.{ℕ, _+_, _*_, _<_, _≤_};
 ghost use lib.ListN.{length};
 ghost use Rattle.numbers.specs.Runs.{copied};
-ghost use Rattle.deblock.specs.Block.{rowsCopied, shuffledOf, columnsOf, rowsOf};
+ghost use Rattle.deblock.specs.Block.{rowsCopied, shuffledOf, columnsOf, sampleRows};
 
 fn copy_row(to: &mut [u8], at: usize, from: &[u8], start: usize, n: usize)
     requires { ⌜ (at + n ≤ length (now to)) × (start + n ≤ length (now from)) ⌝ }
@@ -57,7 +57,7 @@ pub(crate) fn columns(t: &[u8; 128]) -> [u8; 128]
 
 // And back.
 pub(crate) fn rows(t: &[u8; 128]) -> [u8; 128]
-    ensures { λ r. ⌜ r ≡ rowsOf (now (t .entry)) ⌝ }
+    ensures { λ r. ⌜ r ≡ sampleRows (now (t .entry)) ⌝ }
 {
     let a = shuffled(t);
     let b = shuffled(&a);

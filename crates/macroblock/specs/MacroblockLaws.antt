@@ -26,7 +26,7 @@ use Rattle.modes.specs.Answers.{kindsOf, contextsOf}
 use Rattle.modes.specs.Contexts.{emptyContext}
 use Rattle.transform.specs.Lanes.{byBlocks}
 use Rattle.transform.specs.LanesLaws.{length-by-blocks}
-use Rattle.residual.specs.Residual.{Model, ModelInRange, Flags, residualOf, blocksOf}
+use Rattle.residual.specs.Residual.{Model, ModelInRange, Flags, residualOf, macroblockBlocks}
 use Rattle.residual.specs.SquaresLaws.{blocks-luma, blocks-chroma}
 use Rattle.numbers.specs.declared.Checked.{Checked}
 use Rattle.planes.specs.Paint.{PaintedPlane, paintOf, squareBlocks}
@@ -156,23 +156,23 @@ module _ {place : Place} {p : Planes} {m : Macroblock} {c : List ℤ} (g : Laid 
 
 -- ---- their coefficients, of those by lanes
 module _ (l : List ℤ) (long : length l ≡ 384) where
-  luma-square : squareBlocks 16 0 (take 256 l) ≡ take 256 (blocksOf l)
+  luma-square : squareBlocks 16 0 (take 256 l) ≡ take 256 (macroblockBlocks l)
   luma-square =
       square-taken 16 0 (take 256 l) (inr refl) (length-take-le 256 l (omega (arith, long)))
       ∙ take-all 256 (byBlocks 16 (take 256 l)) (omega (arith, length-by-blocks 16 (take 256 l))) ∙ sym (blocks-luma l)
 
-  chroma-square : (from : ℕ) → squareBlocks 8 from (take 128 (drop 256 l)) ≡ take 64 (drop (256 + 16 * from) (blocksOf l))
+  chroma-square : (from : ℕ) → squareBlocks 8 from (take 128 (drop 256 l)) ≡ take 64 (drop (256 + 16 * from) (macroblockBlocks l))
   chroma-square from =
       let e : length (drop 256 l) ≡ 128 = omega (arith, length-drop 256 l, long) in
       ap (squareBlocks 8 from) (take-all 128 (drop 256 l) (omega (arith, e)))
       ∙ square-taken 8 from (drop 256 l) (inl refl) e
-      ∙ ap (λ (x : List ℤ). take 64 (drop (16 * from) x)) (sym (blocks-chroma l)) ∙ ap (take 64) (drop-drop (16 * from) 256 (blocksOf l))
+      ∙ ap (λ (x : List ℤ). take 64 (drop (16 * from) x)) (sym (blocks-chroma l)) ∙ ap (take 64) (drop-drop (16 * from) 256 (macroblockBlocks l))
 
-  module _ {place : Place} {p : Planes} {m : Macroblock} (g : Laid place p) (h : Painting m (blocksOf l)) {a b d : Checked} {y u v : List ℕ} where
+  module _ {place : Place} {p : Planes} {m : Macroblock} (g : Laid place p) (h : Painting m (macroblockBlocks l)) {a b d : Checked} {y u v : List ℕ} where
     pub squares-painted : record { answer = a; plane = y } ≡ paintOf (p .y) (place .width) (place .column) (place .row) 16 (m .small) (getD (m .modes) 0 0) (m .modes) (squareBlocks 16 0 (take 256 l))
         → record { answer = b; plane = u } ≡ paintOf (p .u) (place .width / 2) (place .column) (place .row) 8 false (m .chroma) (m .modes) (squareBlocks 8 0 (take 128 (drop 256 l)))
         → record { answer = d; plane = v } ≡ paintOf (p .v) (place .width / 2) (place .column) (place .row) 8 false (m .chroma) (m .modes) (squareBlocks 8 4 (take 128 (drop 256 l)))
-        → _≡_ {A = Planes} (record { y = y; u = u; v = v }) (paintedPlanes place m (blocksOf l) p)
+        → _≡_ {A = Planes} (record { y = y; u = u; v = v }) (paintedPlanes place m (macroblockBlocks l) p)
     squares-painted e f k =
         planes-painted g h
         (e ∙ ap (paintOf (p .y) (place .width) (place .column) (place .row) 16 (m .small) (getD (m .modes) 0 0) (m .modes)) luma-square)

@@ -4,7 +4,7 @@ use modes::answers::Kinds;
 use planes::paint;
 ghost use mathlib.Core.Path.{_≡_};
 ghost use lib.ListN.{length};
-ghost use Rattle.residual.specs.Residual.{blocksOf};
+ghost use Rattle.residual.specs.Residual.{macroblockBlocks};
 ghost use Rattle.modes.specs.Answers.{macroblockOf};
 ghost use Rattle.macroblock.specs.Macroblock.{planesOf, paintedPlanes};
 ghost use Rattle.macroblock.specs.MacroblockLaws.{Laid, Painting};
@@ -25,9 +25,9 @@ pub(crate) fn squares(
     c: &[i16],
 )
     requires { ⌜ Laid place (planesOf (now y) (now u) (now v)) ⌝ }
-    requires { ⌜ (length (now c) ≡ 384) × Painting (macroblockOf kinds (now modes)) (blocksOf (now c)) ⌝ }
+    requires { ⌜ (length (now c) ≡ 384) × Painting (macroblockOf kinds (now modes)) (macroblockBlocks (now c)) ⌝ }
     ensures { λ q. ⌜ planesOf (now (y .exit)) (now (u .exit)) (now (v .exit))
-        ≡ paintedPlanes place (macroblockOf kinds (now (modes .entry))) (blocksOf (now (c .entry)))
+        ≡ paintedPlanes place (macroblockOf kinds (now (modes .entry))) (macroblockBlocks (now (c .entry)))
         (planesOf (now (y .entry)) (now (u .entry)) (now (v .entry))) ⌝ }
 {
     let width = place.width;

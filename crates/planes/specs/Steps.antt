@@ -27,7 +27,7 @@ use Rattle.numbers.specs.Parts.{up, nlt-le, of-le, add-parts, lt-parts}
 use Rattle.numbers.specs.Runs.{placed, placed-none, placed-next, placed-same, length-placed, copied}
 use Rattle.numbers.specs.Tests.{lt-or, eq-or, never, not-so, both-left, both-right, both-true, cond-at}
 use Rattle.transform.specs.Transform.{samplesOf}
-use Rattle.transform.specs.Lanes.{byBlocks, blockOf, knownLength, residualOf, residualsOf}
+use Rattle.transform.specs.Lanes.{byBlocks, blockNumbers, knownLength, laneResidual, residualsOf}
 use Rattle.transform.specs.LanesLaws.{laneRow, length-by-blocks, blocks-at, known-blocks, whole-blocks, residuals-at, residuals-in}
 use Rattle.transform.specs.TransformBounds.{numeral-in}
 use Rattle.transform.specs.TransformLaws.{below-four, below-all, below-next, in-range, shortcut}
@@ -68,8 +68,8 @@ blockCopied p w at b = row (row (row (row p at 0) (at + w) 4) (at + 2 * w) 8) (a
 abbrev pub sumAt : List ℕ → (at : ℕ) (r : List ℤ) (k : ℕ) → ℕ
 sumAt p at r k = clipZ (pos (getD p (at + k) 0) +ℤ getD r k (pos 0))
 
-unfoldable pub sumsOf : List ℕ → (at : ℕ) (r : List ℤ) → List ℕ
-sumsOf p at r = build 4 (sumAt p at r)
+unfoldable pub rowSums : List ℕ → (at : ℕ) (r : List ℤ) → List ℕ
+rowSums p at r = build 4 (sumAt p at r)
 
 -- the same in their place, and four rows added to four rows
 unfoldable pub rowAdded : List ℕ → (at : ℕ) (r : List ℤ) → List ℕ
@@ -225,12 +225,12 @@ module _ (p : List ℕ) (at : ℕ) (r : List ℤ) where
   length-added = length-placed p at _ 4
 
   pub four-sums : {a b c d : ℕ} → a ≡ clipZ (pos (getD p at 0) +ℤ getD r 0 (pos 0)) → b ≡ sumAt p at r 1 → c ≡ sumAt p at r 2 → d ≡ sumAt p at r 3
-      → a ∷ b ∷ c ∷ d ∷ [] ≡ sumsOf p at r
-  unfolding sumsOf build
+      → a ∷ b ∷ c ∷ d ∷ [] ≡ rowSums p at r
+  unfolding rowSums build
   four-sums e f g h = (e ∙ ap (λ (n : ℕ). clipZ (pos (getD p n 0) +ℤ getD r 0 (pos 0))) (sym (add-zero at))) ∷≡ f ∷≡ g ∷≡ h ∷≡ refl
 
-  pub sums-placed : {b q : List ℕ} → b ≡ sumsOf p at r → q ≡ placed p at (λ k. getD b (0 + k) 0) 4 → q ≡ rowAdded p at r
-  unfolding rowAdded sumsOf
+  pub sums-placed : {b q : List ℕ} → b ≡ rowSums p at r → q ≡ placed p at (λ k. getD b (0 + k) 0) 4 → q ≡ rowAdded p at r
+  unfolding rowAdded rowSums
   sums-placed e f = f ∙ placed-same p at _ (sumAt p at r) 4 (λ k h. rw (e, zero-add) (getD-build 4 (sumAt p at r) k 0 h))
 
 -- the same length after it
@@ -604,9 +604,9 @@ module _ {n : ℕ} (from : ℕ) (c : List ℤ) (s : Size n) where
 
     -- what stands ready, by what is known of the residuals: `lane` is asked where one is coded
     pub square-ready : (coded : List Bool) {v : List ℤ} → Coded c (length c / 16) coded (length c / 16) → Each (negsuc 150000) (pos 150001) v
-        → ((i k : ℕ) → i < length c / 16 → k < 16 → getD coded i false ≡ true → getD v (16 * k + i) (pos 0) ≡ residualOf (length c / 16) c i k)
+        → ((i k : ℕ) → i < length c / 16 → k < 16 → getD coded i false ≡ true → getD v (16 * k + i) (pos 0) ≡ laneResidual (length c / 16) c i k)
         → Ready c from (squareBlocks n from c) coded v (n / 4 * (n / 4))
-    unfolding blockResidual blockOf
+    unfolding blockResidual blockNumbers
     square-ready coded d e r =
         let N = length c / 16 in
         let S = squareBlocks n from c in

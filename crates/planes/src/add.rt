@@ -9,7 +9,7 @@ ghost use Rattle.numbers.specs.Clamp.{clipZ};
 ghost use Rattle.numbers.specs.In.{In, Each};
 ghost use Rattle.numbers.specs.Lists.{Bytes};
 ghost use Rattle.transform.specs.LanesLaws.{laneRow};
-ghost use Rattle.planes.specs.Steps.{noLess, noMore, sumsOf, rowAdded, laneAdded, meanOf, meanAdded, Residual};
+ghost use Rattle.planes.specs.Steps.{noLess, noMore, rowSums, rowAdded, laneAdded, meanOf, meanAdded, Residual};
 ghost use Rattle.planes.specs.Places.{Block};
 
 // v as a sample. One test after the other, so that the compiler can take several samples at once.
@@ -43,7 +43,7 @@ fn sum(p: u8, r: i32) -> u8
 fn sums(p: &[u8], at: usize, r: [i32; 4]) -> [u8; 4]
     requires { ⌜ at + 4 ≤ length (now p) ⌝ }
     requires { ⌜ Each (negsuc 150000) (pos 150001) r ⌝ }
-    ensures { λ q. ⌜ q ≡ sumsOf (now (p .entry)) at r ⌝ }
+    ensures { λ q. ⌜ q ≡ rowSums (now (p .entry)) at r ⌝ }
 {
     [
         sum(p[at], r[0]),

@@ -38,7 +38,7 @@ use Rattle.modes.specs.Answers.{contextsOf, eachBelow, kindsOf, prefixAnswer, m
 use Rattle.modes.specs.Contexts.{emptyContext, contextFine}
 use Rattle.modes.specs.declared.answers.Kinds.{Kinds}
 use Rattle.modes.specs.declared.contexts.Context.{Context}
-use Rattle.transform.specs.Lanes.{squaresOf}
+use Rattle.transform.specs.Lanes.{macroblockLanes}
 use Rattle.residual.specs.Residual as Residual
 use Rattle.residual.specs.Residual.{Model, Values, residualOf, residualNumberOf, residualValuesOf}
 use Rattle.planes.specs.Paint.{squareBlocks, squarePainted, paintFine, paintOf}
@@ -196,12 +196,12 @@ pub record Numbers : Type 0 where
   pub residual-decode : (s : List ℕ) (r : Reader) (table : List ℕ) (f : Factors) (small skip : Bool) (top left : List ℕ) (old : List ℤ)
       → let c = Residual.residualCallOf s r table f small skip top left old in
       Answered {X = Values × List ℤ} 7 (validOf s r && Residual.residualArguments table top left (length old)) (run (residualOf table f small skip top left) s r) (residualNumberOf (c .answer)) (residualValuesOf (c .answer), c .out)
-      (noValues, old) (λ m q. (record { reader = q; empty = m .empty; top = m .top; left = m .left }, squaresOf (m .coefficients)))
+      (noValues, old) (λ m q. (record { reader = q; empty = m .empty; top = m .top; left = m .left }, macroblockLanes (m .coefficients)))
   -- residual::decode_header
   pub residual-decode-header : (s : List ℕ) (r : Reader) (h : List ℤ) (segment : ℕ) (small skip : Bool) (top left : List ℕ) (old : List ℤ)
       → let c = Residual.residualByHeaderOf s r h segment small skip top left old in
       Answered {X = Values × List ℤ} 7 ((headerOf h && ltb segment 4) && (validOf s r && Residual.residualArguments (headerTable h) top left (length old))) (run (residualOf (headerTable h) (factorsOf h segment) small skip top left) s r)
-      (residualNumberOf (c .answer)) (residualValuesOf (c .answer), c .out) (noValues, old) (λ m q. (record { reader = q; empty = m .empty; top = m .top; left = m .left }, squaresOf (m .coefficients)))
+      (residualNumberOf (c .answer)) (residualValuesOf (c .answer), c .out) (noValues, old) (λ m q. (record { reader = q; empty = m .empty; top = m .top; left = m .left }, macroblockLanes (m .coefficients)))
   -- planes::paint
   pub paint : (p : List ℕ) (w column row n : ℕ) (small : Bool) (mode : ℕ) (modes : List ℕ) (coefficients : List ℤ) (from : ℕ)
       → let c = squareBlocks n from coefficients in

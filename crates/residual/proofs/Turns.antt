@@ -23,7 +23,7 @@ use Rattle.transform.specs.TransformLaws.{transform-good}
 use Rattle.coefficients.specs.declared.block.Block.the-variants as B
 use Rattle.coefficients.specs.declared.block.BlockRead.{BlockRead}
 use Rattle.transform.specs.declared.Transformed.{Transformed}
-use Rattle.transform.specs.Lanes.{squaresOf}
+use Rattle.transform.specs.Lanes.{macroblockLanes}
 use Rattle.residual.specs.Residual.{Model, Flags, ModelInRange, initial, coordinates, secondKind, kindOf, zeroOf, coded, spread, secondPlace, second, sixteenAt, stored, advance, blocksFrom, dcStage, cleared, residualOf, noResidual, toResidualCalled, residualAnswer}
 use Rattle.residual.specs.ResidualLaws.{kind-in, initial-whole, zeros-sixteen, sixteen-in, sixteen-fit, second-within, advance-within, blocks-few, residual-within}
 use Rattle.residual.specs.ResidualSteps.{modelOf, turnOf, Part, BlockPart, Held, coded-at, coded-count, second-count, second-missing, second-ended, advance-count, advance-missing, advance-ended, blocks-none, blocks-missing, blocks-next, blocks-count-none, blocks-count-missing, blocks-count-next, residual-skip, residual-missing, residual-next, residual-count-skip, residual-count-missing, residual-count-next, call-missing, call-handed}
@@ -197,7 +197,7 @@ module _ (s : List ℕ) (r : Reader) (table : List ℕ) (f : Factors) (small ski
   pub call-lost : t .ended ≡ false → {q : ResidualRead} → q ≡ record { residual = noResidual E.Missing; reads = t .reads } → (record { answer = q .residual; out = old } ≡ residualAnswer s r table f small skip top left old) × (q .reads ≡ count (residualOf table f small skip top left) s r)
   call-lost h k = (call-missing s r table f small skip top left old (turn-lost t to h (e .gave)) (rw k refl), rw k (e .took))
 
-  pub call-got : t .ended ≡ true → {out : List ℤ} → out ≡ squaresOf to → (record { answer = toResidualCalled old (given (modelOf (t .state) to) (t .state .reader)) .answer; out = out } ≡ residualAnswer s r table f small skip top left old) × (t .reads ≡ count (residualOf table f small skip top left) s r)
+  pub call-got : t .ended ≡ true → {out : List ℤ} → out ≡ macroblockLanes to → (record { answer = toResidualCalled old (given (modelOf (t .state) to) (t .state .reader)) .answer; out = out } ≡ residualAnswer s r table f small skip top left old) × (t .reads ≡ count (residualOf table f small skip top left) s r)
   call-got h k = (call-handed s r table f small skip top left old (turn-got t to h (e .gave)) k, e .took)
 
   -- the numbers that it lays over: of sixteen bits, and zeros where nothing was read

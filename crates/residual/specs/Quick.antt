@@ -48,12 +48,12 @@ spotsAt zero = record { at = 384; step = 1 }
 spotsAt (suc i) = blockSpots i
 
 -- number p of the macroblock, counted block after block
-abbrev pub numberAt : (p : ℕ) → ℕ
-numberAt p = blockSpots (p / 16) .at + blockSpots (p / 16) .step * (p % 16)
+abbrev pub numberPlace : (p : ℕ) → ℕ
+numberPlace p = blockSpots (p / 16) .at + blockSpots (p / 16) .step * (p % 16)
 
 -- the numbers of the macroblock, block after block
 unfoldable pub inBlocks : (flat : List ℤ) → List ℤ
-inBlocks flat = build 384 (λ p. getD flat (numberAt p) (pos 0))
+inBlocks flat = build 384 (λ p. getD flat (numberPlace p) (pos 0))
 
 -- the model that it stands for, with the numbers
 abbrev pub modelAt : Wider → (flat : List ℤ) → Model

@@ -39,9 +39,9 @@ use Rattle.wide.specs.WideLaws.{Sim}
 use Rattle.wide.specs.WideRuns.{WideReads, Gave, Going, going-start, going-as, going-weaken, going-counted, going-next, going-told, wide-counted}
 use Rattle.wide.specs.declared.wide.Wide.{Wide}
 use Rattle.reader.specs.Trace.{count}
-use Rattle.transform.specs.Lanes.{squaresOf}
+use Rattle.transform.specs.Lanes.{macroblockLanes}
 use Rattle.residual.specs.SquaresLaws.{squares-are}
-use Rattle.residual.specs.Quick.{Wider, blockSpots, spotsAt, numberAt, inBlocks, modelAt, kindAt, placeAt, quickPart, partsFrom, settledOf, emptyAfter, QuickWhere}
+use Rattle.residual.specs.Quick.{Wider, blockSpots, spotsAt, numberPlace, inBlocks, modelAt, kindAt, placeAt, quickPart, partsFrom, settledOf, emptyAfter, QuickWhere}
 use Rattle.residual.specs.Residual.{Model, Flags, initial, secondKind, kindOf, coordinates, coded, flagged, spread, secondPlace, second, sixteenAt, stored, emptyOf, zeroOf, advance, blocksFrom, residualOf, residualAnswer}
 use Rattle.residual.specs.ResidualLaws.{kind-in, flags-flagged, zeros-sixteen, sixteen-fit}
 use Rattle.residual.specs.ResidualSteps.{call-handed}
@@ -99,18 +99,18 @@ spot-chroma i k h = ap (λ (x : Spots). x .at + x .step * k) (block-chroma i h)
 spot-below : (i k : ℕ) → i < 24 → k < 16 → spot i k < 384
 spot-below i k h g = ⊎-elim (λ (l : i < 16). omega (arith, spot-luma i k l)) (λ (l : 16 ≤ i). omega (arith, spot-chroma i k l)) (lt-or i 16)
 
-number-below : (p : ℕ) → p < 384 → numberAt p < 384
+number-below : (p : ℕ) → p < 384 → numberPlace p < 384
 number-below p h = spot-below (p / 16) (p % 16) (omega arith) (omega arith)
 
 -- and no other number's
-number-apart : (p q : ℕ) → p < 384 → q < 384 → numberAt p ≡ numberAt q → p ≡ q
+number-apart : (p q : ℕ) → p < 384 → q < 384 → numberPlace p ≡ numberPlace q → p ≡ q
 number-apart p q h g e =
     ⊎-elim
     (λ (l : p / 16 < 16). ⊎-elim (λ (m : q / 16 < 16). omega (arith, e, spot-luma (p / 16) (p % 16) l, spot-luma (q / 16) (q % 16) m)) (λ (m : 16 ≤ q / 16). omega (arith, e, spot-luma (p / 16) (p % 16) l, spot-chroma (q / 16) (q % 16) m)) (lt-or (q / 16) 16))
     (λ (l : 16 ≤ p / 16). ⊎-elim (λ (m : q / 16 < 16). omega (arith, e, spot-chroma (p / 16) (p % 16) l, spot-luma (q / 16) (q % 16) m)) (λ (m : 16 ≤ q / 16). omega (arith, e, spot-chroma (p / 16) (p % 16) l, spot-chroma (q / 16) (q % 16) m)) (lt-or (q / 16) 16))
     (lt-or (p / 16) 16)
 
-number-block : (i k : ℕ) → k < 16 → spot i k ≡ numberAt (16 * i + k)
+number-block : (i k : ℕ) → k < 16 → spot i k ≡ numberPlace (16 * i + k)
 number-block i k h =
     let d : i ≡ (16 * i + k) / 16 = omega arith in
     let m : k ≡ (16 * i + k) % 16 = omega arith in
@@ -127,25 +127,25 @@ module _ (l : List ℤ) where
   unfolding inBlocks
   length-in-blocks = length-build 384 _
 
-  in-blocks-at : (p : ℕ) → p < 384 → getD (inBlocks l) p (pos 0) ≡ getD l (numberAt p) (pos 0)
+  in-blocks-at : (p : ℕ) → p < 384 → getD (inBlocks l) p (pos 0) ≡ getD l (numberPlace p) (pos 0)
   unfolding inBlocks
-  in-blocks-at p h = getD-build 384 (λ p. getD l (numberAt p) (pos 0)) p (pos 0) h
+  in-blocks-at p h = getD-build 384 (λ p. getD l (numberPlace p) (pos 0)) p (pos 0) h
 
   -- one of them set
-  in-blocks-set : (q : ℕ) (v : ℤ) → q < 384 → 384 ≤ length l → inBlocks (set l (numberAt q) v) ≡ set (inBlocks l) q v
+  in-blocks-set : (q : ℕ) (v : ℤ) → q < 384 → 384 ≤ length l → inBlocks (set l (numberPlace q) v) ≡ set (inBlocks l) q v
   unfolding inBlocks
-  in-blocks-set q v h n = sym (built (set (inBlocks l) q v) 384 (λ p. getD (set l (numberAt q) v) (numberAt p) (pos 0)) (pos 0) (length-set (inBlocks l) q v ∙ length-in-blocks) at)
+  in-blocks-set q v h n = sym (built (set (inBlocks l) q v) 384 (λ p. getD (set l (numberPlace q) v) (numberPlace p) (pos 0)) (pos 0) (length-set (inBlocks l) q v ∙ length-in-blocks) at)
     where
-      at : (p : ℕ) → p < 384 → getD (set (inBlocks l) q v) p (pos 0) ≡ getD (set l (numberAt q) v) (numberAt p) (pos 0)
+      at : (p : ℕ) → p < 384 → getD (set (inBlocks l) q v) p (pos 0) ≡ getD (set l (numberPlace q) v) (numberPlace p) (pos 0)
       at p g = elim (eq-or p q) [
-        | inl e ↦ rw e (getD-set-same (inBlocks l) q v (pos 0) (rw length-in-blocks h) ∙ sym (getD-set-same l (numberAt q) v (pos 0) (omega (arith, number-below q h))))
-        | inr e ↦ getD-set-other (inBlocks l) q p v (pos 0) e ∙ in-blocks-at p g ∙ sym (getD-set-other l (numberAt q) (numberAt p) v (pos 0) (λ z. e (number-apart p q g h z)))
+        | inl e ↦ rw e (getD-set-same (inBlocks l) q v (pos 0) (rw length-in-blocks h) ∙ sym (getD-set-same l (numberPlace q) v (pos 0) (omega (arith, number-below q h))))
+        | inr e ↦ getD-set-other (inBlocks l) q p v (pos 0) e ∙ in-blocks-at p g ∙ sym (getD-set-other l (numberPlace q) (numberPlace p) v (pos 0) (λ z. e (number-apart p q g h z)))
       ]
 
   -- one behind them set
   in-blocks-past : (x : ℕ) (v : ℤ) → 384 ≤ x → inBlocks (set l x v) ≡ inBlocks l
   unfolding inBlocks
-  in-blocks-past x v h = build-same 384 _ _ (λ p g. getD-set-other l x (numberAt p) v (pos 0) (λ e. omega (arith, number-below p g)))
+  in-blocks-past x v h = build-same 384 _ _ (λ p g. getD-set-other l x (numberPlace p) v (pos 0) (λ e. omega (arith, number-below p g)))
 
 length-spaced : (l : List ℤ) (at step : ℕ) (f : ℕ → ℤ) (n : ℕ) → length (spaced l at step f n) ≡ length l
 unfolding spaced
@@ -174,7 +174,7 @@ unfolding placed spread
 in-blocks-firsts l dc zero g k = refl
 in-blocks-firsts l dc (suc n) g k =
     let x : List ℤ = placed l 0 (λ j. getD dc j (pos 0)) n in
-    let e : 0 + n ≡ numberAt (16 * n) =
+    let e : 0 + n ≡ numberPlace (16 * n) =
     let d : n ≡ 16 * n / 16 = omega arith in
     let m : 0 ≡ 16 * n % 16 = omega arith in
     omega (arith, spot-luma n 0 (omega arith), ap₂ spot d m) in
@@ -184,22 +184,22 @@ in-blocks-firsts l dc (suc n) g k =
 
 in-blocks-zeros : inBlocks (replicate 400 (pos 0)) ≡ replicate 384 (pos 0)
 unfolding inBlocks
-in-blocks-zeros = build-same 384 _ (λ p. pos 0) (λ p h. getD-constant 400 (numberAt p) (pos 0)) ∙ build-constant 384 (pos 0)
+in-blocks-zeros = build-same 384 _ (λ p. pos 0) (λ p h. getD-constant 400 (numberPlace p) (pos 0)) ∙ build-constant 384 (pos 0)
 
 -- what is handed over
-in-blocks-squares : (l : List ℤ) → length l ≡ 400 → take 384 l ≡ squaresOf (inBlocks l)
+in-blocks-squares : (l : List ℤ) → length l ≡ 400 → take 384 l ≡ macroblockLanes (inBlocks l)
 in-blocks-squares l e = squares-are (inBlocks l) (length-take-le 384 l (omega arith)) luma chroma
   where
     luma : (p : ℕ) → p < 256 → getD (take 384 l) p (pos 0) ≡ getD (inBlocks l) (16 * (p % 16) + p / 16) (pos 0)
     luma p h =
         let q : ℕ = 16 * (p % 16) + p / 16 in
-        let z : numberAt q ≡ p = omega (arith, spot-luma (q / 16) (q % 16) (omega arith)) in
+        let z : numberPlace q ≡ p = omega (arith, spot-luma (q / 16) (q % 16) (omega arith)) in
         getD-take 384 l p (pos 0) (omega arith) ∙ sym (in-blocks-at l q (omega arith) ∙ ap (λ (x : ℕ). getD l x (pos 0)) z)
 
     chroma : (p : ℕ) → p < 128 → getD (take 384 l) (256 + p) (pos 0) ≡ getD (inBlocks l) (256 + (16 * (p % 8) + p / 8)) (pos 0)
     chroma p h =
         let q : ℕ = 256 + (16 * (p % 8) + p / 8) in
-        let z : numberAt q ≡ 256 + p = omega (arith, spot-chroma (q / 16) (q % 16) (omega arith)) in
+        let z : numberPlace q ≡ 256 + p = omega (arith, spot-chroma (q / 16) (q % 16) (omega arith)) in
         getD-take 384 l (256 + p) (pos 0) (omega arith) ∙ sym (in-blocks-at l q (omega arith) ∙ ap (λ (x : ℕ). getD l x (pos 0)) z)
 
 -- the numbers that a part is read from

@@ -22,7 +22,7 @@ unfoldable pub use Rattle.coefficients.specs.Fast.{sixteenAt}
 pub use Rattle.coefficients.specs.Fast.{stored}
 use Rattle.coefficients.specs.Block.{Coefficients, block, headerTable}
 use Rattle.transform.specs.Transform.{samplesOf}
-use Rattle.transform.specs.Lanes.{byBlocks, squaresOf}
+use Rattle.transform.specs.Lanes.{byBlocks, macroblockLanes}
 use Rattle.residual.specs.declared.Ended.{Ended}
 use Rattle.residual.specs.declared.Ended.the-variants as E
 use Rattle.residual.specs.declared.Residual.{Residual}
@@ -158,12 +158,12 @@ abbrev pub noResidual : Ended → Residual
 noResidual a = record { answer = a; top = replicate 9 0; left = replicate 9 0 }
 
 -- what lies by lanes, one block after the other again
-unfoldable pub blocksOf : List ℤ → List ℤ
-blocksOf l = byBlocks 16 (take 256 l) ++ byBlocks 8 (drop 256 l)
+unfoldable pub macroblockBlocks : List ℤ → List ℤ
+macroblockBlocks l = byBlocks 16 (take 256 l) ++ byBlocks 8 (drop 256 l)
 
 -- a run as an answer, and the lent numbers after it: the coefficients by lanes
 abbrev pub toResidualCalled : (old : List ℤ) → Given Model → ResidualCalled
-toResidualCalled old (given m r) = record { answer = record { answer = E.Done r (m .empty); top = m .top; left = m .left }; out = squaresOf (m .coefficients) }
+toResidualCalled old (given m r) = record { answer = record { answer = E.Done r (m .empty); top = m .top; left = m .left }; out = macroblockLanes (m .coefficients) }
 toResidualCalled old missing = record { answer = noResidual E.Missing; out = old }
 
 -- a refusal: the lent numbers are as they were

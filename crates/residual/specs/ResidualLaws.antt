@@ -35,7 +35,7 @@ use Rattle.transform.specs.LanesLaws.{length-squares}
 use Rattle.transform.specs.Transform.{samplesOf}
 use Rattle.transform.specs.TransformLaws.{CoefficientsIn, transform-good, transform-walsh-in}
 use Rattle.residual.specs.SquaresLaws.{blocks-of-squares}
-use Rattle.residual.specs.Residual.{Model, Flags, ModelInRange, initial, coordinates, secondKind, lumaKind, kindOf, flagged, spread, secondPlace, second, sixteenAt, emptyOf, advance, blocksFrom, cleared, residualOf, ResidualCalled, blocksOf, toResidualCalled, residualArguments, residualAnswer, residualCallOf, residualByHeaderOf, residualReads}
+use Rattle.residual.specs.Residual.{Model, Flags, ModelInRange, initial, coordinates, secondKind, lumaKind, kindOf, flagged, spread, secondPlace, second, sixteenAt, emptyOf, advance, blocksFrom, cleared, residualOf, ResidualCalled, macroblockBlocks, toResidualCalled, residualArguments, residualAnswer, residualCallOf, residualByHeaderOf, residualReads}
 use Rattle.residual.specs.ResidualSteps.{arguments-good, decode-passed, reads-passed, decode-refused, header-passed}
 use Rattle.residual.specs.declared.Ended.{Ended}
 use Rattle.residual.specs.declared.Ended.the-variants as E
@@ -213,7 +213,7 @@ abbrev pub fromResidual : List ℤ → Residual → Given Model
 fromResidual l x = fromEnded (x .top) (x .left) l (x .answer)
 
 abbrev fromResidualCalled : ResidualCalled → Given Model
-fromResidualCalled c = fromResidual (blocksOf (c .out)) (c .answer)
+fromResidualCalled c = fromResidual (macroblockBlocks (c .out)) (c .answer)
 
 from-called : (old : List ℤ) (g : Given Model) → ((m : Model) (q : Reader) → g ≡ given m q → length (m .coefficients) ≡ 384) → g ≡ fromResidualCalled (toResidualCalled old g)
 from-called old (given m r) h = ap (λ (l : List ℤ). given (record { top = m .top; left = m .left; coefficients = l; empty = m .empty }) r) (sym (blocks-of-squares (m .coefficients) (h m r refl)))
@@ -243,7 +243,7 @@ module _ (s : List ℕ) (r : Reader) (table : List ℕ) (f : Factors) (small ski
   decode-ends v g y b e = run-valid (residual-within table f b small skip (g .top-flags) (g .left-flags)) y v e
 
   -- THE LAW for callers of `decode`: what it gave, with its numbers one block after the other
-  pub decoded : Valid s r → Good table top left old → Bytes s → Bytes table → {x : Residual} {l : List ℤ} → record { answer = x; out = l } ≡ residualCallOf s r table f small skip top left old → run (residualOf table f small skip top left) s r ≡ fromResidual (blocksOf l) x
+  pub decoded : Valid s r → Good table top left old → Bytes s → Bytes table → {x : Residual} {l : List ℤ} → record { answer = x; out = l } ≡ residualCallOf s r table f small skip top left old → run (residualOf table f small skip top left) s r ≡ fromResidual (macroblockBlocks l) x
   unfolding residualAnswer
   decoded v g y b e = from-called old (run (residualOf table f small skip top left) s r) (λ m q h. decode-ends v g y b h .value .long) ∙ ap fromResidualCalled (decode-good v g ∙ sym e)
 

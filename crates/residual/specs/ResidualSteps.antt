@@ -35,7 +35,7 @@ use Rattle.coefficients.specs.Block as tokens
 use Rattle.coefficients.specs.declared.block.BlockRead.{BlockRead}
 use Rattle.coefficients.specs.declared.block.Table.{Table}
 use Rattle.transform.specs.Transform.{samplesOf}
-use Rattle.transform.specs.Lanes.{squaresOf}
+use Rattle.transform.specs.Lanes.{macroblockLanes}
 use Rattle.residual.specs.Residual.{Model, Flags, ModelInRange, initial, coordinates, secondKind, kindOf, coded, flagged, spread, secondPlace, second, sixteenAt, stored, emptyOf, advance, blocksFrom, dcStage, cleared, residualOf, noResidual, toResidualCalled, flagsOf, residualArguments, residualAnswer, residualCallOf, residualByHeaderOf, residualReads, residualByHeaderReads}
 use Rattle.residual.specs.declared.Ended.the-variants as E
 use Rattle.residual.specs.declared.Residual.{Residual}
@@ -220,7 +220,7 @@ module _ (s : List ℕ) (r : Reader) (table : List ℕ) (f : Factors) (small ski
   unfolding residualAnswer
   call-missing e h = rw h (sym (ap (toResidualCalled old) e))
 
-  pub call-handed : {m : Model} {q : Reader} → run (residualOf table f small skip top left) s r ≡ given m q → {to : List ℤ} → to ≡ squaresOf (m .coefficients) → record { answer = toResidualCalled old (given m q) .answer; out = to } ≡ residualAnswer s r table f small skip top left old
+  pub call-handed : {m : Model} {q : Reader} → run (residualOf table f small skip top left) s r ≡ given m q → {to : List ℤ} → to ≡ macroblockLanes (m .coefficients) → record { answer = toResidualCalled old (given m q) .answer; out = to } ≡ residualAnswer s r table f small skip top left old
   unfolding residualAnswer
   call-handed e h = rw h (sym (ap (toResidualCalled old) e))
 

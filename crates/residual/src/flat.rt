@@ -6,7 +6,7 @@ ghost use lib.IntN.{pos, negsuc};
 ghost use lib.ListN.{length, replicate};
 ghost use Rattle.numbers.specs.In.{Each};
 ghost use Rattle.residual.specs.Residual.{sixteenAt, stored, spread};
-ghost use Rattle.transform.specs.Lanes.{squaresOf};
+ghost use Rattle.transform.specs.Lanes.{macroblockLanes};
 ghost use Rattle.residual.specs.SquaresLaws.{laidFrom};
 
 // The sixteen from a place on.
@@ -88,7 +88,7 @@ fn lay(out: &mut [i16], flat: &[i32], n: usize, from: usize)
 pub(crate) fn squares(out: &mut [i16], flat: &[i32], skip: bool)
     requires { ⌜ (length (now out) ≡ 384) × (length (now flat) ≡ 384) ⌝ }
     requires { ⌜ Each (negsuc 32767) (pos 32767) (now flat) × (skip ≡ true → now flat ≡ replicate 384 (pos 0)) ⌝ }
-    ensures { λ _. ⌜ now (out .exit) ≡ squaresOf (now (flat .entry)) ⌝ }
+    ensures { λ _. ⌜ now (out .exit) ≡ macroblockLanes (now (flat .entry)) ⌝ }
 {
     if skip {
         clear(out);

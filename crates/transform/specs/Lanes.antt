@@ -19,12 +19,12 @@ unfoldable pub byBlocks : (n : ℕ) → List ℤ → List ℤ
 byBlocks n l = build (16 * n) (λ p. getD l (n * (p % 16) + p / 16) (pos 0))
 
 -- a macroblock's 24 blocks: sixteen of luma by lanes, then eight of chroma
-unfoldable pub squaresOf : List ℤ → List ℤ
-squaresOf c = byLanes 16 (take 256 c) ++ byLanes 8 (drop 256 c)
+unfoldable pub macroblockLanes : List ℤ → List ℤ
+macroblockLanes c = byLanes 16 (take 256 c) ++ byLanes 8 (drop 256 c)
 
 -- block i of blocks one after the other
-unfoldable pub blockOf : List ℤ → (i : ℕ) → List ℤ
-blockOf c i = build 16 (λ k. at c (16 * i + k))
+unfoldable pub blockNumbers : List ℤ → (i : ℕ) → List ℤ
+blockNumbers c i = build 16 (λ k. at c (16 * i + k))
 
 -- ---- the residuals of blocks by lanes
 -- as many coefficients as 8 or 16 blocks have
@@ -32,8 +32,8 @@ abbrev pub knownLength : ℕ → Bool
 knownLength n = eqb n 128 || eqb n 256
 
 -- number k of the residual of block i of n, in 16 bits: what lies beyond them is the nearest there
-abbrev pub residualOf : (n : ℕ) (c : List ℤ) (i k : ℕ) → ℤ
-residualOf n c i k = signedTo 32767 (at (samplesOf false (blockOf (byBlocks n c) i)) k)
+abbrev pub laneResidual : (n : ℕ) (c : List ℤ) (i k : ℕ) → ℤ
+laneResidual n c i k = signedTo 32767 (at (samplesOf false (blockNumbers (byBlocks n c) i)) k)
 
 -- of sixteen blocks by lanes, block i: the first n of its numbers are those of f, and the others what they were
 unfoldable pub laned : List ℤ → (i : ℕ) (f : ℕ → ℤ) (n : ℕ) → List ℤ
@@ -55,4 +55,4 @@ pub record Residuals : Type 0 where
 unfoldable pub residualsOf : (c before : List ℤ) → Residuals
 residualsOf c before =
     let n = length c / 16 in
-    cond (knownLength (length c)) (record { fit = true; values = turnedTo (residualOf n c) before n }) (record { fit = false; values = before })
+    cond (knownLength (length c)) (record { fit = true; values = turnedTo (laneResidual n c) before n }) (record { fit = false; values = before })

@@ -24,7 +24,7 @@ use Rattle.numbers.specs.Tests.{lt-or, eq-or}
 use Rattle.transform.specs.Transform.{Grid, at, cell, gridOf, verticalPass, horizontalPass, resultOf, resultsOf, samplesOf}
 use Rattle.transform.specs.TransformBounds.{numeral-in}
 use Rattle.transform.specs.TransformLaws.{CoefficientsIn, range-in, SmallIn, small-samples-in}
-use Rattle.transform.specs.Lanes.{byLanes, byBlocks, squaresOf, blockOf, knownLength, residualOf, laned, turnedTo, Residuals, residualsOf}
+use Rattle.transform.specs.Lanes.{byLanes, byBlocks, macroblockLanes, blockNumbers, knownLength, laneResidual, laned, turnedTo, Residuals, residualsOf}
 
 -- ---- blocks one after the other, and by lanes
 pub length-by-lanes : (n : ℕ) (c : List ℤ) → length (byLanes n c) ≡ 16 * n
@@ -60,16 +60,16 @@ blocks-of-lanes n c h e =
     ap (λ (j : ℕ). getD c j (pos 0)) z ∙ sym (lanes-at n c (p / 16) (p % 16) (omega arith) (omega arith))))
 
 -- a macroblock's 24 blocks: those of luma, and those of chroma
-pub squares-luma : (c : List ℤ) → take 256 (squaresOf c) ≡ byLanes 16 (take 256 c)
-unfolding squaresOf
+pub squares-luma : (c : List ℤ) → take 256 (macroblockLanes c) ≡ byLanes 16 (take 256 c)
+unfolding macroblockLanes
 squares-luma c = take-at (byLanes 16 (take 256 c)) (byLanes 8 (drop 256 c)) 256 (length-by-lanes 16 (take 256 c))
 
-pub squares-chroma : (c : List ℤ) → drop 256 (squaresOf c) ≡ byLanes 8 (drop 256 c)
-unfolding squaresOf
+pub squares-chroma : (c : List ℤ) → drop 256 (macroblockLanes c) ≡ byLanes 8 (drop 256 c)
+unfolding macroblockLanes
 squares-chroma c = drop-at (byLanes 16 (take 256 c)) (byLanes 8 (drop 256 c)) 256 (length-by-lanes 16 (take 256 c))
 
-pub length-squares : (c : List ℤ) → length (squaresOf c) ≡ 384
-unfolding squaresOf
+pub length-squares : (c : List ℤ) → length (macroblockLanes c) ≡ 384
+unfolding macroblockLanes
 length-squares c =
     length-append (byLanes 16 (take 256 c)) (byLanes 8 (drop 256 c)) ∙ ap₂ _+_ (length-by-lanes 16 (take 256 c)) (length-by-lanes 8 (drop 256 c))
 
@@ -77,8 +77,8 @@ length-squares c =
 unfoldable pub laneOf : (n : ℕ) → List ℤ → (i : ℕ) → List ℤ
 laneOf n c i = build 16 (λ k. at c (n * k + i))
 
-pub block-lane : (n : ℕ) (c : List ℤ) (i : ℕ) → i < n → blockOf (byBlocks n c) i ≡ laneOf n c i
-unfolding blockOf laneOf
+pub block-lane : (n : ℕ) (c : List ℤ) (i : ℕ) → i < n → blockNumbers (byBlocks n c) i ≡ laneOf n c i
+unfolding blockNumbers laneOf
 block-lane n c i h = build-same 16 _ _ (λ k g. blocks-at n c i k h g)
 
 -- how long the coefficients of 8 or of 16 blocks are
@@ -260,17 +260,17 @@ module _ (c before : List ℤ) where
 
 -- ---- what callers cite: of an answer and the values that it leaves
 module _ (c before : List ℤ) {b : Bool} {v : List ℤ} (e : record { fit = b; values = v } ≡ residualsOf c before) (d : knownLength (length c) ≡ true) where
-  residuals-are : v ≡ turnedTo (residualOf (length c / 16) c) before (length c / 16)
+  residuals-are : v ≡ turnedTo (laneResidual (length c / 16) c) before (length c / 16)
   unfolding residualsOf
   residuals-are = ap (λ (r : Residuals). r .values) (rw d at e)
 
   -- number k of block i is its residual, in 16 bits
-  pub residuals-at : length before ≡ 256 → (i k : ℕ) → i < length c / 16 → k < 16 → at v (16 * k + i) ≡ residualOf (length c / 16) c i k
+  pub residuals-at : length before ≡ 256 → (i k : ℕ) → i < length c / 16 → k < 16 → at v (16 * k + i) ≡ laneResidual (length c / 16) c i k
   residuals-at l i k h g =
-      ap (λ (x : List ℤ). at x (16 * k + i)) residuals-are ∙ turned-in (residualOf (length c / 16) c) before l (length c / 16) i k h (whole-blocks (known-blocks (length c) d) .1) g
+      ap (λ (x : List ℤ). at x (16 * k + i)) residuals-are ∙ turned-in (laneResidual (length c / 16) c) before l (length c / 16) i k h (whole-blocks (known-blocks (length c) d) .1) g
 
   -- near 0, where those before them were
   pub residuals-in : Each (negsuc 150000) (pos 150001) before → Each (negsuc 150000) (pos 150001) v
   residuals-in f =
       rw residuals-are
-      (record { at = turned-keeps (In (negsuc 150000) (pos 150001)) (residualOf (length c / 16) c) before (length c / 16) (λ i k. In-wider (clamp-in (leZ-yes tt) _) tt) (f .at) })
+      (record { at = turned-keeps (In (negsuc 150000) (pos 150001)) (laneResidual (length c / 16) c) before (length c / 16) (λ i k. In-wider (clamp-in (leZ-yes tt) _) tt) (f .at) })

@@ -5,7 +5,7 @@ use Prim.Native.Nat.{ℕ}
 use native.Mathlib.Omega.{arith}
 use borrow.Author.Needs.{needs}
 use Rattle.deblock.specs.Block.{rowsCopied, columnsOf}
-use Rattle.deblock.specs.BlockLaws.{Part, row-room, length-rowsOf, upright-one, upright-end, part-still}
+use Rattle.deblock.specs.BlockLaws.{Part, row-room, length-sampleRows, upright-one, upright-end, part-still}
 use Rattle.deblock.proofs.sweeps.upright.Statement.{statement}
 use Rattle.deblock.proofs.sweeps.upright.Tie as tie
 
@@ -19,7 +19,7 @@ copy-requires : tie.Need-copy-requires
 copy-requires c κs = λ i h. (omega arith, row-room _ _ 15 8 (c .before .before .before .pre .0) i (omega arith))
 
 copy-requires-2 : tie.Need-copy-requires-2
-copy-requires-2 c κs = λ i h. (row-room _ _ 15 8 (c .before .before .before .before .before .before .before .before .before .before .before .before .before .before .before .pre .0) i (omega arith), rw (c .before .before .rows .ensures, length-rowsOf) (omega arith))
+copy-requires-2 c κs = λ i h. (row-room _ _ 15 8 (c .before .before .before .before .before .before .before .before .before .before .before .before .before .before .before .pre .0) i (omega arith), rw (c .before .before .rows .ensures, length-sampleRows) (omega arith))
 
 returns : tie.Need-returns
 returns c =

@@ -6,7 +6,7 @@ use native.Mathlib.Omega.{arith}
 use borrow.Author.Needs.{needs}
 use lib.ListN.{length}
 use Rattle.deblock.specs.Block.{rowsCopied, columnsOf}
-use Rattle.deblock.specs.BlockLaws.{Part, length-rows, length-rowsOf, row-room, upright-two, upright-end, part-still}
+use Rattle.deblock.specs.BlockLaws.{Part, length-rows, length-sampleRows, row-room, upright-two, upright-end, part-still}
 use Rattle.deblock.proofs.sweeps.upright_pair.Statement.{statement}
 use Rattle.deblock.proofs.sweeps.upright_pair.Tie as tie
 
@@ -27,10 +27,10 @@ copy-requires-2 c κs =
     λ i h. (rw long (omega arith), row-room _ _ 7 8 (c .before .before .before .before .before .before .before .before .pre .1) i (omega arith))
 
 copy-requires-3 : tie.Need-copy-requires-3
-copy-requires-3 c κs = λ i h. (row-room _ _ 7 8 (c .before .before .before .before .before .before .before .before .before .before .before .before .before .before .before .before .before .before .before .before .pre .0) i (omega arith), rw (c .before .before .rows .ensures, length-rowsOf) (omega arith))
+copy-requires-3 c κs = λ i h. (row-room _ _ 7 8 (c .before .before .before .before .before .before .before .before .before .before .before .before .before .before .before .before .before .before .before .before .pre .0) i (omega arith), rw (c .before .before .rows .ensures, length-sampleRows) (omega arith))
 
 copy-requires-4 : tie.Need-copy-requires-4
-copy-requires-4 c κs = λ i h. (row-room _ _ 7 8 (c .before .before .before .before .before .before .before .before .before .before .before .before .before .before .before .before .before .before .before .before .before .before .before .before .before .pre .1) i (omega arith), rw (c .before .before .before .before .before .before .before .rows .ensures, length-rowsOf) (omega arith))
+copy-requires-4 c κs = λ i h. (row-room _ _ 7 8 (c .before .before .before .before .before .before .before .before .before .before .before .before .before .before .before .before .before .before .before .before .before .before .before .before .before .pre .1) i (omega arith), rw (c .before .before .before .before .before .before .before .rows .ensures, length-sampleRows) (omega arith))
 
 returns : tie.Need-returns
 returns c =

@@ -7,7 +7,7 @@ use Rattle.reader.specs.BooleanLaws.{Bytes}
 use Rattle.reader.specs.Reading.{run}
 use Rattle.header.specs.declared.quantizers.Factors.{Factors}
 use Rattle.modes.specs.Answers.{macroblockOf}
-use Rattle.residual.specs.Residual.{residualOf, blocksOf}
+use Rattle.residual.specs.Residual.{residualOf, macroblockBlocks}
 use Rattle.residual.specs.ResidualLaws.{fromResidual, fromEnded, decoded, decode-ends, decode-long}
 use Rattle.header.specs.Frame.{factorsAt}
 use Rattle.reader.specs.Trace.{count}
@@ -58,7 +58,7 @@ table-bytes : (c : tie.After-c2) → Bytes (start c .args .table .now)
 table-bytes c i = c .before .before .before .before .before .before .before .before .before .before .before .before .before .before .shared-slice-known2 .given i .fits
 
 -- what the residual's answer says of the grammar
-is : (c : tie.After-c2) → (let a = start c .args in run (residualOf (a .table .now) (factorsAt (a .frame) (a .m .kinds .segment)) (a .m .kinds .small) (a .m .kinds .skip) (a .around .top .flags) (a .around .left .flags)) (a .tokens .now) (a .t) ≡ fromResidual (blocksOf (c .before .decode .last .1 .1 .1 .1 .1 .1 .1 .1 .0)) (c .before .decode .result .residual))
+is : (c : tie.After-c2) → (let a = start c .args in run (residualOf (a .table .now) (factorsAt (a .frame) (a .m .kinds .segment)) (a .m .kinds .small) (a .m .kinds .skip) (a .around .top .flags) (a .around .left .flags)) (a .tokens .now) (a .t) ≡ fromResidual (macroblockBlocks (c .before .decode .last .1 .1 .1 .1 .1 .1 .1 .1 .0)) (c .before .decode .result .residual))
 is c =
     let a = start c .args in
     let p = start c .pre .0 in
@@ -77,10 +77,10 @@ abbrev at-c2 : tie.After-known-told → tie.After-c2
 at-c2 c = c .before .before .before .before
 
 -- the coefficients, the flags and the reader that it gave
-gave : (c : tie.After-known-told) → (let d = at-c2 c in let x = d .before .decode .result .residual in let a = start d .args in run (residualOf (a .table .now) (factorsAt (a .frame) (a .m .kinds .segment)) (a .m .kinds .small) (a .m .kinds .skip) (a .around .top .flags) (a .around .left .flags)) (a .tokens .now) (a .t) ≡ given (record { top = x .top; left = x .left; coefficients = blocksOf (d .before .decode .last .1 .1 .1 .1 .1 .1 .1 .1 .0); empty = c .before .answer .given .0 .1 .0 }) (c .before .answer .given .0 .0))
+gave : (c : tie.After-known-told) → (let d = at-c2 c in let x = d .before .decode .result .residual in let a = start d .args in run (residualOf (a .table .now) (factorsAt (a .frame) (a .m .kinds .segment)) (a .m .kinds .small) (a .m .kinds .skip) (a .around .top .flags) (a .around .left .flags)) (a .tokens .now) (a .t) ≡ given (record { top = x .top; left = x .left; coefficients = macroblockBlocks (d .before .decode .last .1 .1 .1 .1 .1 .1 .1 .1 .0); empty = c .before .answer .given .0 .1 .0 }) (c .before .answer .given .0 .0))
 gave c =
     let d = at-c2 c in
-    is d ∙ ap (fromEnded (d .before .decode .result .residual .top) (d .before .decode .result .residual .left) (blocksOf (d .before .decode .last .1 .1 .1 .1 .1 .1 .1 .1 .0))) (c .before .answer .given .1)
+    is d ∙ ap (fromEnded (d .before .decode .result .residual .top) (d .before .decode .result .residual .left) (macroblockBlocks (d .before .decode .last .1 .1 .1 .1 .1 .1 .1 .1 .0))) (c .before .answer .given .1)
 
 returns : tie.Need-returns
 returns c =
