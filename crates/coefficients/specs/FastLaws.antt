@@ -9,7 +9,7 @@ use mathlib.Core.Logic.{_⊎_, inl, inr, ⊎-elim}
 use mathlib.Core.Path.{_≡_, refl, sym, _∙_, ap}
 use lib.Dec.{leb, ltb, eqb, lit<, lit≤}
 use lib.IntN.{ℤ, pos, _+ℤ_, _-ℤ_, _*ℤ_}
-use lib.ListN.{length, getD, set, length-set}
+use lib.ListN.{length, getD, set, length-set, replicate}
 use lib.Seq.{getD-set-same, getD-set-other}
 use mir.Syntax.{w16}
 use borrow.Author.Tests.{eqb-true, ltb-true, lt-ltb, le-ltb, eq-eqb, ne-eqb, leb-true, le-leb, lt-leb}
@@ -17,7 +17,7 @@ use Rattle.header.specs.Entries.{probabilityCount}
 use Rattle.numbers.specs.Flags.{bitOf}
 use Rattle.numbers.specs.Hand.{there}
 use Rattle.numbers.specs.Know.{round}
-use Rattle.numbers.specs.Lists.{build, length-build, getD-build, built}
+use Rattle.numbers.specs.Lists.{build, length-build, getD-build, build-same, build-constant, getD-constant, built}
 use Rattle.numbers.specs.Parts.{up, dn, of-le, of-eq, add-parts, sub-parts-ℤ, up-times, dn-times}
 use Rattle.numbers.specs.Runs.{length-placed, placed-in, placed-off}
 use Rattle.numbers.specs.Tables.{allBelow, all-below}
@@ -155,12 +155,29 @@ pub length-spots : (l : List ℤ) (at step : ℕ) → length (spotsOf l at step)
 unfolding spotsOf
 length-spots l at step = length-build 16 _
 
+-- sixteen numbers side by side that are those of the spots of another list
+pub spots-same : (l m : List ℤ) (from at step : ℕ) → ((k : ℕ) → k < 16 → getD l (from + k) (pos 0) ≡ getD m (at + step * k) (pos 0)) → sixteenAt l from ≡ spotsOf m at step
+unfolding sixteenAt spotsOf
+spots-same l m from at step h = build-same 16 (λ k. getD l (from + k) (pos 0)) (λ k. getD m (at + step * k) (pos 0)) h
+
+pub spots-zeros : (n at step : ℕ) → spotsOf (replicate n (pos 0)) at step ≡ replicate 16 (pos 0)
+unfolding spotsOf
+spots-zeros n at step = build-same 16 (λ k. getD (replicate n (pos 0)) (at + step * k) (pos 0)) (λ k. pos 0) (λ k h. getD-constant n (at + step * k) (pos 0)) ∙ build-constant 16 (pos 0)
+
 pub spots-at : (l : List ℤ) (at step j : ℕ) → j < 16 → getD (spotsOf l at step) j (pos 0) ≡ getD l (at + step * j) (pos 0)
 unfolding spotsOf
 spots-at l at step j h = getD-build 16 (λ j. getD l (at + step * j) (pos 0)) j (pos 0) h
 
 module _ (l : List ℤ) (at step : ℕ) where
-  length-spaced : (f : ℕ → ℤ) (n : ℕ) → length (spaced l at step f n) ≡ length l
+  pub spaced-none : (f : ℕ → ℤ) → spaced l at step f 0 ≡ l
+  unfolding spaced
+  spaced-none f = refl
+
+  pub spaced-next : (f : ℕ → ℤ) (n : ℕ) → spaced l at step f (suc n) ≡ set (spaced l at step f n) (at + step * n) (f n)
+  unfolding spaced
+  spaced-next f n = refl
+
+  pub length-spaced : (f : ℕ → ℤ) (n : ℕ) → length (spaced l at step f n) ≡ length l
   unfolding spaced
   length-spaced f zero = refl
   length-spaced f (suc n) = length-set (spaced l at step f n) (at + step * n) (f n) ∙ length-spaced f n

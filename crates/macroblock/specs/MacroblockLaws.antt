@@ -24,10 +24,9 @@ use Rattle.modes.specs.Modes.{Macroblock, modesOf, bottomOf, rightOf}
 use Rattle.modes.specs.ModesLaws.{InRange}
 use Rattle.modes.specs.Answers.{kindsOf, contextsOf}
 use Rattle.modes.specs.Contexts.{emptyContext}
-use Rattle.transform.specs.Lanes.{byBlocks}
-use Rattle.transform.specs.LanesLaws.{length-by-blocks}
-use Rattle.residual.specs.Residual.{Model, ModelInRange, Flags, residualOf, macroblockBlocks}
-use Rattle.residual.specs.SquaresLaws.{blocks-luma, blocks-chroma}
+use Rattle.transform.specs.Lanes.{byBlocks, macroblockBlocks}
+use Rattle.transform.specs.LanesLaws.{length-by-blocks, blocks-luma, blocks-chroma}
+use Rattle.residual.specs.Residual.{Model, ModelInRange, Flags, residualOf}
 use Rattle.numbers.specs.declared.Checked.{Checked}
 use Rattle.planes.specs.Paint.{PaintedPlane, paintOf, squareBlocks}
 use Rattle.planes.specs.PaintLaws.{Proper, paint-good, square-taken}

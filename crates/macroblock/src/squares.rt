@@ -4,7 +4,7 @@ use modes::answers::Kinds;
 use planes::paint;
 ghost use mathlib.Core.Path.{_≡_};
 ghost use lib.ListN.{length};
-ghost use Rattle.residual.specs.Residual.{macroblockBlocks};
+ghost use Rattle.transform.specs.Lanes.{macroblockBlocks};
 ghost use Rattle.modes.specs.Answers.{macroblockOf};
 ghost use Rattle.macroblock.specs.Macroblock.{planesOf, paintedPlanes};
 ghost use Rattle.macroblock.specs.MacroblockLaws.{Laid, Painting};

@@ -15,14 +15,14 @@ use Rattle.header.specs.Entries.{probabilityCount}
 use Rattle.numbers.specs.Flags.{bitOf}
 use Rattle.numbers.specs.In.{Each}
 use Rattle.numbers.specs.Lists.{length-build, getD-build, built, build-same, build-constant, getD-constant}
-use Rattle.numbers.specs.Runs.{placed, length-placed, placed-next}
+use Rattle.numbers.specs.Runs.{placed, length-placed, placed-none, placed-next}
 use Rattle.numbers.specs.Tests.{lt-or, eq-or, both-true}
 use Rattle.reader.specs.BooleanLaws.{Bytes, Valid}
 use Rattle.reader.specs.Reading.{Reading, done, _>>=_}
 use Rattle.reader.specs.declared.boolean.Reader.{Reader}
 use Rattle.header.specs.declared.quantizers.Factors.{Factors}
 use Rattle.coefficients.specs.Fast.{spotsOf, spaced, strewn, BlockCoded, roomOf}
-use Rattle.coefficients.specs.FastLaws.{length-strewn, room-true}
+use Rattle.coefficients.specs.FastLaws.{spaced-none, spaced-next, length-spaced, length-strewn, spots-at, spots-same, spots-zeros, room-true}
 use Rattle.coefficients.specs.declared.fast.Spots.{Spots}
 use Rattle.coefficients.specs.BlockLaws.{block-within}
 use Rattle.coefficients.specs.Block.{Coefficients, block}
@@ -40,7 +40,7 @@ use Rattle.wide.specs.WideRuns.{WideReads, Gave, Going, going-start, going-as, 
 use Rattle.wide.specs.declared.wide.Wide.{Wide}
 use Rattle.reader.specs.Trace.{count}
 use Rattle.transform.specs.Lanes.{macroblockLanes}
-use Rattle.residual.specs.SquaresLaws.{squares-are}
+use Rattle.transform.specs.LanesLaws.{squares-are}
 use Rattle.residual.specs.Quick.{Wider, blockSpots, spotsAt, numberPlace, inBlocks, modelAt, kindAt, placeAt, quickPart, partsFrom, settledOf, emptyAfter, QuickWhere}
 use Rattle.residual.specs.Residual.{Model, Flags, initial, secondKind, kindOf, coordinates, coded, flagged, spread, secondPlace, second, sixteenAt, stored, emptyOf, zeroOf, advance, blocksFrom, residualOf, residualAnswer}
 use Rattle.residual.specs.ResidualLaws.{kind-in, flags-flagged, zeros-sixteen, sixteen-fit}
@@ -147,26 +147,21 @@ module _ (l : List ℤ) where
   unfolding inBlocks
   in-blocks-past x v h = build-same 384 _ _ (λ p g. getD-set-other l x (numberPlace p) v (pos 0) (λ e. omega (arith, number-below p g)))
 
-length-spaced : (l : List ℤ) (at step : ℕ) (f : ℕ → ℤ) (n : ℕ) → length (spaced l at step f n) ≡ length l
-unfolding spaced
-length-spaced l at step f zero = refl
-length-spaced l at step f (suc n) = length-set (spaced l at step f n) (at + step * n) (f n) ∙ length-spaced l at step f n
-
 -- a block's
 in-blocks-spaced : (l : List ℤ) (i : ℕ) (f : ℕ → ℤ) (n : ℕ) → i < 24 → n ≤ 16 → 384 ≤ length l → inBlocks (spaced l (blockSpots i .at) (blockSpots i .step) f n) ≡ placed (inBlocks l) (16 * i) f n
-unfolding spaced placed
-in-blocks-spaced l i f zero h g k = refl
+in-blocks-spaced l i f zero h g k = ap inBlocks (spaced-none l (blockSpots i .at) (blockSpots i .step) f) ∙ sym (placed-none (inBlocks l) (16 * i) f)
 in-blocks-spaced l i f (suc n) h g k =
     let x : List ℤ = spaced l (blockSpots i .at) (blockSpots i .step) f n in
-    ap (λ (q : ℕ). inBlocks (set x q (f n))) (number-block i n (omega arith))
+    ap inBlocks (spaced-next l (blockSpots i .at) (blockSpots i .step) f n)
+    ∙ ap (λ (q : ℕ). inBlocks (set x q (f n))) (number-block i n (omega arith))
     ∙ in-blocks-set x (16 * i + n) (f n) (omega arith) (rw (length-spaced l (blockSpots i .at) (blockSpots i .step) f n) k)
     ∙ ap (λ (y : List ℤ). set y (16 * i + n) (f n)) (in-blocks-spaced l i f n h (omega arith) k)
+    ∙ placed-next (inBlocks l) (16 * i) f n ∙ ap (placed (inBlocks l) (16 * i) f) (add-one n)
 
 -- those of the second-order block
 in-blocks-second : (l : List ℤ) (f : ℕ → ℤ) (n : ℕ) → inBlocks (spaced l 384 1 f n) ≡ inBlocks l
-unfolding spaced
-in-blocks-second l f zero = refl
-in-blocks-second l f (suc n) = in-blocks-past (spaced l 384 1 f n) (384 + 1 * n) (f n) (omega arith) ∙ in-blocks-second l f n
+in-blocks-second l f zero = ap inBlocks (spaced-none l 384 1 f)
+in-blocks-second l f (suc n) = ap inBlocks (spaced-next l 384 1 f n) ∙ in-blocks-past (spaced l 384 1 f n) (384 + 1 * n) (f n) (omega arith) ∙ in-blocks-second l f n
 
 -- the first of each block of luma
 in-blocks-firsts : (l dc : List ℤ) (n : ℕ) → n ≤ 16 → 384 ≤ length l → inBlocks (placed l 0 (λ j. getD dc j (pos 0)) n) ≡ spread (inBlocks l) dc n
@@ -204,22 +199,17 @@ in-blocks-squares l e = squares-are (inBlocks l) (length-take-le 384 l (omega ar
 
 -- the numbers that a part is read from
 old-at : (table : List ℕ) (f : Factors) (small : Bool) (j : ℕ) (m : Wider) (flat : List ℤ) → j < 25 → (j ≡ 0 → flat ≡ replicate 400 (pos 0)) → oldAt table f small j (modelAt m flat) ≡ spotsOf flat (spotsAt j .at) (spotsAt j .step)
-unfolding sixteenAt spotsOf
-old-at table f small zero m flat l z =
-    rw (z refl)
-    (sym (build-same 16 (λ k. getD (replicate 400 (pos 0)) (384 + 1 * k) (pos 0)) (λ k. pos 0) (λ k h. getD-constant 400 (384 + 1 * k) (pos 0)) ∙ build-constant 16 (pos 0)))
+old-at table f small zero m flat l z = rw (z refl) (sym (spots-zeros 400 384 1))
 old-at table f small (suc i) m flat l z =
-    build-same 16 (λ k. getD (inBlocks flat) (16 * i + k) (pos 0)) (λ k. getD flat (spot i k) (pos 0))
+    spots-same (inBlocks flat) flat (16 * i) (blockSpots i .at) (blockSpots i .step)
     (λ k h. in-blocks-at flat (16 * i + k) (omega arith) ∙ ap (λ (n : ℕ). getD flat n (pos 0)) (sym (number-block i k h)))
 
 first-number : (l : List ℤ) (at step : ℕ) → getD (spotsOf l at step) 0 (pos 0) ≡ getD l at (pos 0)
-unfolding spotsOf
-first-number l at step = let e : at + step * 0 ≡ at = omega arith in getD-build 16 (λ k. getD l (at + step * k) (pos 0)) 0 (pos 0) (omega arith) ∙ ap (λ (n : ℕ). getD l n (pos 0)) e
+first-number l at step = let e : at + step * 0 ≡ at = omega arith in spots-at l at step 0 (omega arith) ∙ ap (λ (n : ℕ). getD l n (pos 0)) e
 
 -- the numbers of the second-order block, as the code takes them
 second-numbers : (l : List ℤ) → sixteenAt l 384 ≡ spotsOf l 384 1
-unfolding sixteenAt spotsOf
-second-numbers l = build-same 16 (λ k. getD l (384 + k) (pos 0)) (λ k. getD l (384 + 1 * k) (pos 0)) (λ k h. let e : 384 + k ≡ 384 + 1 * k = omega arith in ap (λ (n : ℕ). getD l n (pos 0)) e)
+second-numbers l = spots-same l l 384 384 1 (λ k h. let e : 384 + k ≡ 384 + 1 * k = omega arith in ap (λ (n : ℕ). getD l n (pos 0)) e)
 
 -- ---- part 0, and the others, as the code tells them
 less-one : (i : ℕ) → suc i - 1 ≡ i

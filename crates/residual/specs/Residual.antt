@@ -2,11 +2,11 @@
 -- for the macroblocks below and to the right.
 use Prim.Native.Nat.{ℕ, zero, suc, _+_, _-_, _*_, _/_, _%_, _≤_}
 use mathlib.Core.Bool.{Bool, true, false, _&&_}
-use mathlib.Core.List.{List, _++_}
+use mathlib.Core.List.{List}
 use mathlib.Core.Path.{_≡_}
 use lib.Dec.{ltb, leb, eqb}
 use lib.IntN.{ℤ, pos, negsuc}
-use lib.ListN.{length, getD, set, replicate, take, drop}
+use lib.ListN.{length, getD, set, replicate}
 use Rattle.header.specs.Entries.{probabilityCount}
 use Rattle.numbers.specs.Flags.{bitOf}
 use Rattle.numbers.specs.In.{Each}
@@ -22,7 +22,7 @@ unfoldable pub use Rattle.coefficients.specs.Fast.{sixteenAt}
 pub use Rattle.coefficients.specs.Fast.{stored}
 use Rattle.coefficients.specs.Block.{Coefficients, block, headerTable}
 use Rattle.transform.specs.Transform.{samplesOf}
-use Rattle.transform.specs.Lanes.{byBlocks, macroblockLanes}
+use Rattle.transform.specs.Lanes.{macroblockLanes}
 use Rattle.residual.specs.declared.Ended.{Ended}
 use Rattle.residual.specs.declared.Ended.the-variants as E
 use Rattle.residual.specs.declared.Residual.{Residual}
@@ -156,10 +156,6 @@ pub record ResidualCalled : Type 0 where
 -- the answer where it has not ended: zeros
 abbrev pub noResidual : Ended → Residual
 noResidual a = record { answer = a; top = replicate 9 0; left = replicate 9 0 }
-
--- what lies by lanes, one block after the other again
-unfoldable pub macroblockBlocks : List ℤ → List ℤ
-macroblockBlocks l = byBlocks 16 (take 256 l) ++ byBlocks 8 (drop 256 l)
 
 -- a run as an answer, and the lent numbers after it: the coefficients by lanes
 abbrev pub toResidualCalled : (old : List ℤ) → Given Model → ResidualCalled

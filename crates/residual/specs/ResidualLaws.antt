@@ -31,11 +31,11 @@ use Rattle.header.specs.Quantizers.{factorsOf}
 use Rattle.header.specs.declared.quantizers.Factors.{Factors}
 use Rattle.coefficients.specs.BlockLaws.{SixteenBits, Sixteen, block-within}
 use Rattle.coefficients.specs.Block.{headerTable}
-use Rattle.transform.specs.LanesLaws.{length-squares}
+use Rattle.transform.specs.Lanes.{macroblockBlocks}
+use Rattle.transform.specs.LanesLaws.{length-squares, blocks-of-squares}
 use Rattle.transform.specs.Transform.{samplesOf}
 use Rattle.transform.specs.TransformLaws.{CoefficientsIn, transform-good, transform-walsh-in}
-use Rattle.residual.specs.SquaresLaws.{blocks-of-squares}
-use Rattle.residual.specs.Residual.{Model, Flags, ModelInRange, initial, coordinates, secondKind, lumaKind, kindOf, flagged, spread, secondPlace, second, sixteenAt, emptyOf, advance, blocksFrom, cleared, residualOf, ResidualCalled, macroblockBlocks, toResidualCalled, residualArguments, residualAnswer, residualCallOf, residualByHeaderOf, residualReads}
+use Rattle.residual.specs.Residual.{Model, Flags, ModelInRange, initial, coordinates, secondKind, lumaKind, kindOf, flagged, spread, secondPlace, second, sixteenAt, emptyOf, advance, blocksFrom, cleared, residualOf, ResidualCalled, toResidualCalled, residualArguments, residualAnswer, residualCallOf, residualByHeaderOf, residualReads}
 use Rattle.residual.specs.ResidualSteps.{arguments-good, decode-passed, reads-passed, decode-refused, header-passed}
 use Rattle.residual.specs.declared.Ended.{Ended}
 use Rattle.residual.specs.declared.Ended.the-variants as E

@@ -22,6 +22,10 @@ byBlocks n l = build (16 * n) (λ p. getD l (n * (p % 16) + p / 16) (pos 0))
 unfoldable pub macroblockLanes : List ℤ → List ℤ
 macroblockLanes c = byLanes 16 (take 256 c) ++ byLanes 8 (drop 256 c)
 
+-- and back: one block after the other again
+unfoldable pub macroblockBlocks : List ℤ → List ℤ
+macroblockBlocks l = byBlocks 16 (take 256 l) ++ byBlocks 8 (drop 256 l)
+
 -- block i of blocks one after the other
 unfoldable pub blockNumbers : List ℤ → (i : ℕ) → List ℤ
 blockNumbers c i = build 16 (λ k. at c (16 * i + k))

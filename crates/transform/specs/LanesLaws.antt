@@ -1,9 +1,9 @@
 -- What the proofs and callers cite of blocks by lanes and of their residuals.
 use mathlib.Core.Path.{_≡_, refl, sym, ap, ap₂, _∙_}
 use mathlib.Core.Bool.{Bool, true, false, _&&_}
-use mathlib.Core.List.{List, [], _∷_}
+use mathlib.Core.List.{List, [], _∷_, _++_}
 use mathlib.Core.Logic.{_⊎_, inl, inr, ⊎-elim}
-use Prim.Native.Nat.{ℕ, zero, suc, _+_, _*_, _/_, _%_, _<_, _≤_}
+use Prim.Native.Nat.{ℕ, zero, suc, _+_, _-_, _*_, _/_, _%_, _<_, _≤_}
 use native.Mathlib.Decide.{ℕ-discrete}
 use native.Mathlib.Nat.{mul-comm}
 use native.Mathlib.Numerals.{add-one}
@@ -11,20 +11,20 @@ use native.Mathlib.Omega.{arith}
 use borrow.Author.Tests.{eqb-true, ne-eqb}
 use lib.Arith.{digits-div, digits-mod, digits-lt}
 use lib.IntN.{ℤ, pos, negsuc}
-use lib.ListN.{length, length-append, getD, set, length-set, take, drop, List·getD-eq-default}
-use lib.Seq.{getD-set-same, getD-set-other, take-at, drop-at}
+use lib.ListN.{length, length-append, getD, set, length-set, take, drop, replicate, length-drop, take-append-drop, List·getD-append, List·getD-eq-default}
+use lib.Seq.{getD-set-same, getD-set-other, take-at, drop-at, length-take-le, getD-take, getD-drop, getD-append-add}
 use lib.Signed.{leZ, leZ-yes}
 use Rattle.numbers.specs.Clamp.{signedTo}
 use Rattle.numbers.specs.ClampLaws.{clamp-in, clamp-same}
 use Rattle.numbers.specs.In.{In, Each}
 use Rattle.numbers.specs.Order.{In-wider}
-use Rattle.numbers.specs.Lists.{build, built, set-keeps, build-listed, build-same, length-build, getD-build, _∷≡_}
+use Rattle.numbers.specs.Lists.{build, built, set-keeps, build-listed, build-same, length-build, getD-build, getD-constant, _∷≡_}
 use Rattle.numbers.specs.Tables.{allBelow, all-below}
 use Rattle.numbers.specs.Tests.{lt-or, eq-or}
 use Rattle.transform.specs.Transform.{Grid, at, cell, gridOf, verticalPass, horizontalPass, resultOf, resultsOf, samplesOf}
 use Rattle.transform.specs.TransformBounds.{numeral-in}
 use Rattle.transform.specs.TransformLaws.{CoefficientsIn, range-in, SmallIn, small-samples-in}
-use Rattle.transform.specs.Lanes.{byLanes, byBlocks, macroblockLanes, blockNumbers, knownLength, laneResidual, laned, turnedTo, Residuals, residualsOf}
+use Rattle.transform.specs.Lanes.{byLanes, byBlocks, macroblockLanes, macroblockBlocks, blockNumbers, knownLength, laneResidual, laned, turnedTo, Residuals, residualsOf}
 
 -- ---- blocks one after the other, and by lanes
 pub length-by-lanes : (n : ℕ) (c : List ℤ) → length (byLanes n c) ≡ 16 * n
@@ -72,6 +72,65 @@ pub length-squares : (c : List ℤ) → length (macroblockLanes c) ≡ 384
 unfolding macroblockLanes
 length-squares c =
     length-append (byLanes 16 (take 256 c)) (byLanes 8 (drop 256 c)) ∙ ap₂ _+_ (length-by-lanes 16 (take 256 c)) (length-by-lanes 8 (drop 256 c))
+
+-- a number by its place
+lanes-number : (n : ℕ) (c : List ℤ) (p : ℕ) → p < 16 * n → getD (byLanes n c) p (pos 0) ≡ getD c (16 * (p % n) + p / n) (pos 0)
+unfolding byLanes
+lanes-number n c p h = getD-build (16 * n) (λ p. getD c (16 * (p % n) + p / n) (pos 0)) p (pos 0) h
+
+-- a macroblock's there and back
+pub blocks-of-squares : (c : List ℤ) → length c ≡ 384 → macroblockBlocks (macroblockLanes c) ≡ c
+unfolding macroblockBlocks
+blocks-of-squares c e =
+    ap₂ (λ (a b : List ℤ). byBlocks 16 a ++ byBlocks 8 b) (squares-luma c) (squares-chroma c)
+    ∙ ap₂ (λ (a b : List ℤ). a ++ b) (blocks-of-lanes 16 (take 256 c) (omega arith) (length-take-le 256 c (omega arith))) (blocks-of-lanes 8 (drop 256 c) (omega arith) (omega (arith, length-drop 256 c)))
+    ∙ take-append-drop 256 c
+
+-- block after block: those of luma, and those of chroma
+pub blocks-luma : (l : List ℤ) → take 256 (macroblockBlocks l) ≡ byBlocks 16 (take 256 l)
+unfolding macroblockBlocks
+blocks-luma l = take-at (byBlocks 16 (take 256 l)) (byBlocks 8 (drop 256 l)) 256 (length-by-blocks 16 (take 256 l))
+
+pub blocks-chroma : (l : List ℤ) → drop 256 (macroblockBlocks l) ≡ byBlocks 8 (drop 256 l)
+unfolding macroblockBlocks
+blocks-chroma l = drop-at (byBlocks 16 (take 256 l)) (byBlocks 8 (drop 256 l)) 256 (length-by-blocks 16 (take 256 l))
+
+-- a number of luma, and one of chroma, by its place
+pub luma-number : (c : List ℤ) (p : ℕ) → p < 256 → getD (macroblockLanes c) p (pos 0) ≡ getD c (16 * (p % 16) + p / 16) (pos 0)
+unfolding macroblockLanes
+luma-number c p h =
+    let x : List ℤ = byLanes 16 (take 256 c) in
+    List·getD-append x (byLanes 8 (drop 256 c)) (pos 0) p (omega (arith, length-by-lanes 16 (take 256 c)))
+    ∙ lanes-number 16 (take 256 c) p (omega arith) ∙ getD-take 256 c (16 * (p % 16) + p / 16) (pos 0) (omega arith)
+
+pub chroma-number : (c : List ℤ) (p : ℕ) → p < 128 → getD (macroblockLanes c) (256 + p) (pos 0) ≡ getD c (256 + (16 * (p % 8) + p / 8)) (pos 0)
+unfolding macroblockLanes
+chroma-number c p h =
+    let x : List ℤ = byLanes 16 (take 256 c) in
+    let y : List ℤ = byLanes 8 (drop 256 c) in
+    ap (λ (n : ℕ). getD (x ++ y) (n + p) (pos 0)) (sym (length-by-lanes 16 (take 256 c)))
+    ∙ getD-append-add x y p (pos 0) ∙ lanes-number 8 (drop 256 c) p (omega arith) ∙ getD-drop 256 c (16 * (p % 8) + p / 8) (pos 0)
+
+-- a list that has the numbers of luma and of chroma where they belong
+pub squares-are : (c : List ℤ) {l : List ℤ} → length l ≡ 384 → ((p : ℕ) → p < 256 → getD l p (pos 0) ≡ getD c (16 * (p % 16) + p / 16) (pos 0))
+    → ((p : ℕ) → p < 128 → getD l (256 + p) (pos 0) ≡ getD c (256 + (16 * (p % 8) + p / 8)) (pos 0)) → l ≡ macroblockLanes c
+squares-are c {l} e f g =
+    built l 384 (λ p. getD (macroblockLanes c) p (pos 0)) (pos 0) e at
+    ∙ sym (built (macroblockLanes c) 384 (λ p. getD (macroblockLanes c) p (pos 0)) (pos 0) (length-squares c) (λ p h. refl))
+  where
+    at : (p : ℕ) → p < 384 → getD l p (pos 0) ≡ getD (macroblockLanes c) p (pos 0)
+    at p h = elim (lt-or p 256) [
+      | inl a ↦ f p a ∙ sym (luma-number c p a)
+      | inr a ↦ let q : p ≡ 256 + (p - 256) = omega arith in rw q (g (p - 256) (omega arith) ∙ sym (chroma-number c (p - 256) (omega arith)))
+    ]
+
+-- zeros are zeros
+pub squares-zeros : {l c : List ℤ} → l ≡ replicate 384 (pos 0) → c ≡ replicate 384 (pos 0) → l ≡ macroblockLanes c
+squares-zeros e f =
+    rw (e, f)
+    (squares-are (replicate 384 (pos 0)) refl
+    (λ p h. getD-constant 384 p (pos 0) ∙ sym (getD-constant 384 (16 * (p % 16) + p / 16) (pos 0)))
+    (λ p h. getD-constant 384 (256 + p) (pos 0) ∙ sym (getD-constant 384 (256 + (16 * (p % 8) + p / 8)) (pos 0))))
 
 -- block i of n blocks by lanes
 unfoldable pub laneOf : (n : ℕ) → List ℤ → (i : ℕ) → List ℤ

@@ -7,7 +7,8 @@ use Rattle.reader.specs.BooleanLaws.{Bytes}
 use Rattle.reader.specs.Reading.{run}
 use Rattle.header.specs.declared.quantizers.Factors.{Factors}
 use Rattle.modes.specs.Answers.{macroblockOf}
-use Rattle.residual.specs.Residual.{residualOf, macroblockBlocks}
+use Rattle.transform.specs.Lanes.{macroblockBlocks}
+use Rattle.residual.specs.Residual.{residualOf}
 use Rattle.residual.specs.ResidualLaws.{fromResidual, fromEnded, decoded, decode-ends, decode-long}
 use Rattle.header.specs.Frame.{factorsAt}
 use Rattle.reader.specs.Trace.{count}

@@ -1,4 +1,5 @@
-use Rattle.residual.specs.SquaresLaws.{squares-zeros, laid-squares}
+use Rattle.transform.specs.LanesLaws.{squares-zeros}
+use Rattle.residual.specs.SquaresLaws.{laid-squares}
 use borrow.Author.Needs.{needs}
 use Rattle.residual.proofs.flat.squares.Statement.{statement}
 use Rattle.residual.proofs.flat.squares.Tie as tie
