@@ -512,6 +512,7 @@ module _ (s table : List ℕ) (kind n p : ℕ) (w : Wide) where
     pub low : n ≤ q .n
     pub high : q .n ≤ 16
     pub inside : q .n < 16 → q .place + 11 ≤ length table
+    pub ahead : q .n < 16 → q .ahead ≡ getD (placesAfter kind) (q .n) 0
     pub number : (q0 q1 : ℕ) (values : List ℤ) (E : (Coefficients × ℕ) × Reader) (lim c : ℕ) → q .n < 16 → AtOne s table kind q0 q1 values E lim n p c w → AtTwo s table kind q0 q1 values E lim (q .n) (q .place) (c + (q .n - n) + 1) (q .next)
     pub ended : (q0 q1 : ℕ) (values : List ℤ) (E : (Coefficients × ℕ) × Reader) (lim c : ℕ) → q .n ≡ 16 → AtOne s table kind q0 q1 values E lim n p c w → AtEnd s table kind q0 q1 values E lim (c + (16 - n)) (q .next)
 
@@ -525,22 +526,24 @@ module _ (s table : List ℕ) (kind n p : ℕ) (w : Wide) where
       }
 
   module _ {m at : ℕ} {x : Wide} {b : Bit} (z : Zeroing m at x) (y : Bytes s) (h : getD table (at + 1) 0 < 256) (o : b ≡ wide.wideBitOf x (getD table (at + 1) 0)) where
-    pub zeroing-number : b .on ≡ true → Zeroed (record { n = m; place = at; next = b .next })
-    zeroing-number v =
+    pub zeroing-number : {places : List ℕ} {ahead : ℕ} → b .on ≡ true → places ≡ placesAfter kind → ahead ≡ getD places m 0 → Zeroed (record { n = m; place = at; ahead = ahead; next = b .next })
+    zeroing-number v g f =
         record {
           low = z .low;
           high = omega (arith, z .below);
           inside = λ i. z .inside;
+          ahead = λ i. f ∙ ap (λ (l : List ℕ). getD l m 0) g;
           number = λ q0 q1 values E lim c i a. let e : suc (c + (m - n)) ≡ c + (m - n) + 1 = omega arith in rw e at (one-on s table kind q0 q1 values E lim y h o v (z .reach q0 q1 values E lim c a));
           ended = λ q0 q1 values E lim c i a. absurd (omega (arith, z .below));
         }
 
-    pub zeroing-end : {place : ℕ} → b .on ≡ false → m + 1 ≡ 16 → Zeroed (record { n = m + 1; place = place; next = b .next })
+    pub zeroing-end : {place ahead : ℕ} → b .on ≡ false → m + 1 ≡ 16 → Zeroed (record { n = m + 1; place = place; ahead = ahead; next = b .next })
     zeroing-end v k =
         record {
           low = omega (arith, z .low);
           high = omega arith;
           inside = λ i. absurd (omega arith);
+          ahead = λ i. absurd (omega arith);
           number = λ q0 q1 values E lim c i a. absurd (omega arith);
           ended = λ q0 q1 values E lim c i a. let e : suc (c + (m - n)) ≡ c + (16 - n) = omega (arith, z .low) in rw e at (one-last s table kind q0 q1 values E lim y h o v k (z .reach q0 q1 values E lim c a));
         }

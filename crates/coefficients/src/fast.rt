@@ -69,10 +69,12 @@ pub(crate) struct Number {
     pub next: Wide,
 }
 
-// The position of the number that ended a run of zeros, where its probabilities stand, and the reader before its node 2; 16 where none did.
+// The position of the number that ended a run of zeros, where its probabilities stand and those of the position after it for context 0, and
+// the reader before its node 2; 16 where none did.
 pub(crate) struct Zeros {
     pub n: usize,
     pub place: usize,
+    pub ahead: usize,
     pub next: Wide,
 }
 
@@ -251,21 +253,24 @@ fn pass_zeros(
     let mut at = start;
     let mut next = w;
     while n < 16 {
+        let ahead = place_after(places, n);
         let z = next.bit(table[at + 1]);
         let x = z.next;
         if z.on {
             return Zeros {
                 n: n,
                 place: at,
+                ahead: ahead,
                 next: x,
             };
         }
-        at = place_after(places, n);
+        at = ahead;
         n = n + 1;
         if n == 16 {
             return Zeros {
                 n: n,
                 place: 0,
+                ahead: 0,
                 next: x,
             };
         }
@@ -274,6 +279,7 @@ fn pass_zeros(
     Zeros {
         n: n,
         place: at,
+        ahead: 0,
         next: next,
     }
 }
@@ -324,7 +330,7 @@ fn read_block(
                 next: y,
             };
         }
-        let ahead = place_after(&places, z.n);
+        let ahead = z.ahead;
         let v = read_number(s, y, table, z.place);
         let o = v.next;
         let d = signed(o, v.value, quantizer(z.n, q0, q1));

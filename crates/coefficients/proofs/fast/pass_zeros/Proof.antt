@@ -16,22 +16,22 @@ abbrev μ-loop : tie.MeasureT-loop
 loop-holds : tie.Need-loop-holds Inv-loop μ-loop
 loop-holds c = zeroing-start _ _ _ _ _ _ (c .before .before .pre .1 .1 .0) (c .before .before .pre .1 .1 .1)
 
+place-after-requires : tie.Need-place-after-requires Inv-loop μ-loop
+place-after-requires c κs = c .before .loop .inv .below
+
 add-bit : tie.Need-add-bit Inv-loop μ-loop
-add-bit c = record { fits = omega (arith, c .before .loop .inv .inside, c .before .before .before .before .pre .0 .1) }
+add-bit c = record { fits = omega (arith, c .before .before .loop .inv .inside, c .before .before .before .before .before .pre .0 .1) }
 
 shared-slice-read-bit : tie.Need-shared-slice-read-bit Inv-loop μ-loop
-shared-slice-read-bit c = omega (arith, c .before .before .loop .inv .inside)
+shared-slice-read-bit c = omega (arith, c .before .before .before .loop .inv .inside)
 
 bit-requires : tie.Need-bit-requires Inv-loop μ-loop
 bit-requires c κs = tt
 
 returns : tie.Need-returns Inv-loop μ-loop
 returns c =
-    let l = c .before .before .before .before .before in
-    zeroing-number _ _ _ _ _ _ (l .loop .inv) (λ i. l .before .before .shared-slice-known .given i .fits) (l .before .shared-slice-known2 .given (l .loop .at + 1) .fits) (c .before .before .bit .ensures) (c .if1 .taken)
-
-place-after-requires : tie.Need-place-after-requires Inv-loop μ-loop
-place-after-requires c κs = c .before .before .before .before .before .loop .inv .below
+    let l = c .before .before .before .before .before .before in
+    zeroing-number _ _ _ _ _ _ (l .loop .inv) (λ i. l .before .before .shared-slice-known .given i .fits) (l .before .shared-slice-known2 .given (l .loop .at + 1) .fits) (c .before .before .bit .ensures) (c .if1 .taken) (l .before .before .before .pre .0 .0) (c .before .before .before .before .place-after .ensures)
 
 add-n : tie.Need-add-n Inv-loop μ-loop
 add-n c = record { fits = omega (arith, c .before .before .before .before .before .before .loop .inv .below) }
@@ -39,7 +39,7 @@ add-n c = record { fits = omega (arith, c .before .before .before .before .befor
 returns-2 : tie.Need-returns-2 Inv-loop μ-loop
 returns-2 c =
     let l = c .before .before .before .before .before .before .before in
-    zeroing-end _ _ _ _ _ _ (l .loop .inv) (λ i. l .before .before .shared-slice-known .given i .fits) (l .before .shared-slice-known2 .given (l .loop .at + 1) .fits) (c .before .before .before .before .bit .ensures) (c .before .before .if1 .left) (c .if2 .taken)
+    zeroing-end _ _ _ _ _ _ (l .loop .inv) (λ i. l .before .before .shared-slice-known .given i .fits) (l .before .shared-slice-known2 .given (l .loop .at + 1) .fits) (c .before .before .before .bit .ensures) (c .before .if1 .left) (c .if2 .taken)
 
 fill-requires : tie.Need-fill-requires Inv-loop μ-loop
 fill-requires c κs = tt
@@ -52,8 +52,8 @@ loop-again c =
     let l = c .before .before .before .before .before .before .before .before in
     let p = l .before .before .before .pre in
     let kind = l .before .before .before .args .kind in
-    let e = place-after kind (l .loop .n) (l .loop .inv .below) (p .0 .0) (c .before .before .place-after .ensures) in
-    zeroing-next _ _ _ _ _ _ (l .loop .inv) (λ i. l .before .before .shared-slice-known .given i .fits) (l .before .shared-slice-known2 .given (l .loop .at + 1) .fits) (c .before .before .before .before .before .bit .ensures) (c .before .before .before .if1 .left) (omega (arith, l .loop .inv .below, c .before .if2 .left)) e (omega (arith, e, place-below kind (l .loop .n + 1) 0 (p .1 .0) (lit< tt), p .0 .1)) (c .fill .ensures)
+    let e = place-after kind (l .loop .n) (l .loop .inv .below) (p .0 .0) (c .before .before .before .before .before .before .place-after .ensures) in
+    zeroing-next _ _ _ _ _ _ (l .loop .inv) (λ i. l .before .before .shared-slice-known .given i .fits) (l .before .shared-slice-known2 .given (l .loop .at + 1) .fits) (c .before .before .before .before .bit .ensures) (c .before .before .if1 .left) (omega (arith, l .loop .inv .below, c .before .if2 .left)) e (omega (arith, e, place-below kind (l .loop .n + 1) 0 (p .1 .0) (lit< tt), p .0 .1)) (c .fill .ensures)
 
 returns-3 : tie.Need-returns-3 Inv-loop μ-loop
 returns-3 c = absurd (omega (arith, c .before .loop .inv .below, c .loop-test .left))
@@ -65,11 +65,11 @@ pass-zeros-spec =
     Inv-loop
     μ-loop
     loop-holds
+    place-after-requires
     add-bit
     shared-slice-read-bit
     bit-requires
     returns
-    place-after-requires
     add-n
     returns-2
     fill-requires

@@ -87,15 +87,12 @@ returns-2 c =
 numbered : (c : tie.Else2 Inv-loop μ-loop) → c .before .before .before .pass-zeros .result .n < 16
 numbered c = omega (arith, c .before .before .before .pass-zeros .ensures .high, c .if2 .left)
 
-place-after-requires : tie.Need-place-after-requires Inv-loop μ-loop
-place-after-requires c κs = numbered (c .before)
-
 read-number-requires : tie.Need-read-number-requires Inv-loop μ-loop
-read-number-requires c κs = c .before .before .before .before .before .pass-zeros .ensures .inside (numbered (c .before .before))
+read-number-requires c κs = c .before .before .before .pass-zeros .ensures .inside (numbered c)
 
 -- where the probabilities of the position after it stand
-then : (c : tie.After-read-number Inv-loop μ-loop) → c .before .place-after .result + c .read-number .result .near ≡ probabilityPlace (c .before .before .before .before .before .before .before .before .before .before .before .before .before .before .before .before .before .before .before .before .args .kind) (c .before .before .before .before .before .before .pass-zeros .result .n + 1) (c .read-number .ensures .ctx)
-then c = place-near _ _ _ (c .read-number .ensures .place) (place-after _ _ (numbered (c .before .before .before)) (c .before .before .before .before .before .before .before .before .before .before .before .before .before .before .before .before .before .places-after .ensures) (c .before .place-after .ensures))
+then : (c : tie.After-read-number Inv-loop μ-loop) → c .before .before .before .before .pass-zeros .result .ahead + c .read-number .result .near ≡ probabilityPlace (c .before .before .before .before .before .before .before .before .before .before .before .before .before .before .before .before .before .before .args .kind) (c .before .before .before .before .pass-zeros .result .n + 1) (c .read-number .ensures .ctx)
+then c = place-near _ _ _ (c .read-number .ensures .place) (place-after _ _ (numbered (c .before)) refl (c .before .before .before .before .pass-zeros .ensures .ahead (numbered (c .before))))
 
 quantizer-requires : tie.Need-quantizer-requires Inv-loop μ-loop
 quantizer-requires c κs = tt
@@ -105,17 +102,17 @@ signed-requires c κs = c .before .before .read-number .ensures .small
 
 entry-requires : tie.Need-entry-requires Inv-loop μ-loop
 unfolding zigzag
-entry-requires c κs = (numbered (c .before .before .before .before .before .before .before .before), zigzag-below)
+entry-requires c κs = (numbered (c .before .before .before .before .before .before), zigzag-below)
 
 -- the place of a number lies in the list
-inside : (c : tie.After-entry Inv-loop μ-loop) → (let l = c .before .before .before .before .before .before .before .before .before .before .before .before .before .before .before .before .before .before .before .before .before in (let p = l .before .before .before .before .before .args .spots in p .at + p .step * c .entry .result) < length (l .loop .out))
+inside : (c : tie.After-entry Inv-loop μ-loop) → (let l = c .before .before .before .before .before .before .before .before .before .before .before .before .before .before .before .before .before .before .before in (let p = l .before .before .before .before .before .args .spots in p .at + p .step * c .entry .result) < length (l .loop .out))
 inside c =
-    let l = c .before .before .before .before .before .before .before .before .before .before .before .before .before .before .before .before .before .before .before .before .before in
+    let l = c .before .before .before .before .before .before .before .before .before .before .before .before .before .before .before .before .before .before .before in
     omega (arith, step-last (l .before .before .before .before .before .args .spots .step) (c .entry .ensures .1), l .before .before .before .before .before .pre .1 .1, blocking-long _ _ _ _ _ _ _ _ _ _ _ (l .loop .inv))
 
-long : (c : tie.After-entry Inv-loop μ-loop) → length (c .before .before .before .before .before .before .before .before .before .before .before .before .before .before .before .before .before .before .before .before .before .loop .out) < 2 ^ 62
+long : (c : tie.After-entry Inv-loop μ-loop) → length (c .before .before .before .before .before .before .before .before .before .before .before .before .before .before .before .before .before .before .before .loop .out) < 2 ^ 62
 long c =
-    let l = c .before .before .before .before .before .before .before .before .before .before .before .before .before .before .before .before .before .before .before .before .before in
+    let l = c .before .before .before .before .before .before .before .before .before .before .before .before .before .before .before .before .before .before .before in
     omega (arith, l .before .before .before .before .before .good .1 .1 .1 .1 .1 .1 .1 .1 .0, blocking-long _ _ _ _ _ _ _ _ _ _ _ (l .loop .inv))
 
 mul-value : tie.Need-mul-value Inv-loop μ-loop
@@ -131,29 +128,29 @@ slice-set-from-value : tie.Need-slice-set-from-value Inv-loop μ-loop
 slice-set-from-value c = inside (c .before .before)
 
 add-reads : tie.Need-add-reads Inv-loop μ-loop
-add-reads c = let i = c .before .before .before .before .before .before .before .before .before .before .before .before .before .before .before .before .before .before .before .before .before .before .before .before .loop .inv in record { fits = omega (arith, i .most, i .high, c .before .before .before .before .before .before .before .before .before .read-number .ensures .least) }
+add-reads c = let i = c .before .before .before .before .before .before .before .before .before .before .before .before .before .before .before .before .before .before .before .before .before .before .loop .inv in record { fits = omega (arith, i .most, i .high, c .before .before .before .before .before .before .before .before .before .read-number .ensures .least) }
 
 add-here : tie.Need-add-here Inv-loop μ-loop
-add-here c = record { fits = omega (arith, then (c .before .before .before .before .before .before .before .before .before .before), place-below (c .before .before .before .before .before .before .before .before .before .before .before .before .before .before .before .before .before .before .before .before .before .before .before .before .before .before .before .before .before .before .args .kind) (c .before .before .before .before .before .before .before .before .before .before .before .before .before .before .before .before .pass-zeros .result .n + 1) (c .before .before .before .before .before .before .before .before .before .before .read-number .ensures .ctx) (c .before .before .before .before .before .before .before .before .before .before .before .before .before .before .before .before .before .before .before .before .before .before .before .before .before .before .before .before .before .before .pre .0 .1 .0) (c .before .before .before .before .before .before .before .before .before .before .read-number .ensures .few)) }
+add-here c = record { fits = omega (arith, then (c .before .before .before .before .before .before .before .before .before .before), place-below (c .before .before .before .before .before .before .before .before .before .before .before .before .before .before .before .before .before .before .before .before .before .before .before .before .before .before .before .before .args .kind) (c .before .before .before .before .before .before .before .before .before .before .before .before .before .before .pass-zeros .result .n + 1) (c .before .before .before .before .before .before .before .before .before .before .read-number .ensures .ctx) (c .before .before .before .before .before .before .before .before .before .before .before .before .before .before .before .before .before .before .before .before .before .before .before .before .before .before .before .before .pre .0 .1 .0) (c .before .before .before .before .before .before .before .before .before .before .read-number .ensures .few)) }
 
 add-n : tie.Need-add-n Inv-loop μ-loop
-add-n c = record { fits = omega (arith, numbered (c .before .before .before .before .before .before .before .before .before .before .before .before .before .before .before)) }
+add-n c = record { fits = omega (arith, numbered (c .before .before .before .before .before .before .before .before .before .before .before .before .before)) }
 
 loop-less : tie.Need-loop-less Inv-loop μ-loop
-loop-less c = omega (arith, numbered (c .before .before .before .before .before .before .before .before .before .before .before .before .before .before .before), c .before .before .before .before .before .before .before .before .before .before .before .before .before .before .before .before .before .before .pass-zeros .ensures .low)
+loop-less c = omega (arith, numbered (c .before .before .before .before .before .before .before .before .before .before .before .before .before), c .before .before .before .before .before .before .before .before .before .before .before .before .before .before .before .before .pass-zeros .ensures .low)
 
 loop-again : tie.Need-loop-again Inv-loop μ-loop
 unfolding zigzag
 loop-again c =
-    let l = c .before .before .before .before .before .before .before .before .before .before .before .before .before .before .before .before .before .before .before .before .before .before .before .before .before .before .before in
+    let l = c .before .before .before .before .before .before .before .before .before .before .before .before .before .before .before .before .before .before .before .before .before .before .before .before .before in
     let d = c .before .before .before .before .before .before .before .before .before .signed .ensures in
-    blocking-number _ _ _ _ _ _ _ _ _ _ _ (l .before .before .before .before .before .pre .1 .0) (l .before .before .before .before .before .pre .1 .1) (l .loop .inv) (λ i. l .before .before .before .before .shared-slice-known .given i .fits) (l .before .before .before .shared-slice-known2 .given (l .loop .here) .fits) (c .before .before .before .before .before .before .before .before .before .before .before .before .before .before .before .before .before .before .before .before .before .before .before .before .before .before .loop-test .taken) (c .before .before .before .before .before .before .before .before .before .before .before .before .before .before .before .before .before .before .before .before .before .before .before .before .before .fill .ensures) (c .before .before .before .before .before .before .before .before .before .before .before .before .before .before .before .before .before .before .before .before .before .before .before .bit .ensures) (c .before .before .before .before .before .before .before .before .before .before .before .before .before .before .before .before .before .before .pass-zeros .ensures) (not-false _ (c .before .before .before .before .before .before .before .before .before .before .before .before .before .before .before .before .before .before .before .before .if1 .left)) (numbered (c .before .before .before .before .before .before .before .before .before .before .before .before .before .before .before)) (c .before .before .before .before .before .before .before .before .before .before .before .before .read-number .ensures) (then (c .before .before .before .before .before .before .before .before .before .before .before .before)) (c .before .before .before .before .before .before .before .before .before .before .quantizer .ensures) (d .0) (d .1 .0) (d .1 .1) (c .before .before .before .before .before .before .entry .ensures .0)
+    blocking-number _ _ _ _ _ _ _ _ _ _ _ (l .before .before .before .before .before .pre .1 .0) (l .before .before .before .before .before .pre .1 .1) (l .loop .inv) (λ i. l .before .before .before .before .shared-slice-known .given i .fits) (l .before .before .before .shared-slice-known2 .given (l .loop .here) .fits) (c .before .before .before .before .before .before .before .before .before .before .before .before .before .before .before .before .before .before .before .before .before .before .before .before .loop-test .taken) (c .before .before .before .before .before .before .before .before .before .before .before .before .before .before .before .before .before .before .before .before .before .before .before .fill .ensures) (c .before .before .before .before .before .before .before .before .before .before .before .before .before .before .before .before .before .before .before .before .before .bit .ensures) (c .before .before .before .before .before .before .before .before .before .before .before .before .before .before .before .before .pass-zeros .ensures) (not-false _ (c .before .before .before .before .before .before .before .before .before .before .before .before .before .before .before .before .before .before .if1 .left)) (numbered (c .before .before .before .before .before .before .before .before .before .before .before .before .before)) (c .before .before .before .before .before .before .before .before .before .before .before .before .read-number .ensures) (then (c .before .before .before .before .before .before .before .before .before .before .before .before)) (c .before .before .before .before .before .before .before .before .before .before .quantizer .ensures) (d .0) (d .1 .0) (d .1 .1) (c .before .before .before .before .before .before .entry .ensures .0)
 
-sub-t49 : tie.Need-sub-t49 Inv-loop μ-loop
-sub-t49 c = c .before .loop .inv .low
+sub-t48 : tie.Need-sub-t48 Inv-loop μ-loop
+sub-t48 c = c .before .loop .inv .low
 
-add-t51 : tie.Need-add-t51 Inv-loop μ-loop
-add-t51 c = let i = c .before .loop .inv in record { fits = omega (arith, i .most, i .high) }
+add-t50 : tie.Need-add-t50 Inv-loop μ-loop
+add-t50 c = let i = c .before .loop .inv in record { fits = omega (arith, i .most, i .high) }
 
 same-length-3 : tie.Need-same-length-3 Inv-loop μ-loop
 same-length-3 c = blocking-long _ _ _ _ _ _ _ _ _ _ _ (c .before .loop .inv)
@@ -187,7 +184,6 @@ read-block-spec =
     add-t40
     same-length-2
     returns-2
-    place-after-requires
     read-number-requires
     quantizer-requires
     signed-requires
@@ -201,7 +197,7 @@ read-block-spec =
     add-n
     loop-less
     loop-again
-    sub-t49
-    add-t51
+    sub-t48
+    add-t50
     same-length-3
     returns-3)
