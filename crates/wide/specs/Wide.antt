@@ -4,6 +4,7 @@ use mathlib.Core.List.{List}
 use mathlib.Core.Bool.{Bool, true, false}
 use lib.ListN.{length, getD}
 use lib.Dec.{ltb, leb}
+use lib.Bits.{bitXor}
 use lib.Count.{leadingZeros}
 use Rattle.numbers.specs.Flags.{bitOf}
 use Rattle.reader.specs.declared.boolean.Reader.{Reader}
@@ -30,9 +31,9 @@ moreOf s w = record { at = (w .at + 4) % 2 ^ 64; value = (w .value + fourOf s (w
 unfoldable pub fillOf : List ℕ → Wide → Wide
 fillOf s w = elim (leb 32 (w .count)) [ true ↦ w | false ↦ moreOf s w ]
 
--- ---- one symbol. The split less one; a one is where the top eight bits are above it
+-- ---- one symbol. The split less one, of a product of 32 bits; a one is where the top eight bits are above it
 abbrev pub lowOf : Wide → ℕ → ℕ
-lowOf w prob = w .top % 256 * prob / 256
+lowOf w prob = w .top * prob % 2 ^ 32 / 256
 
 -- the bit
 abbrev pub onOf : Wide → ℕ → Bool
@@ -48,14 +49,18 @@ abbrev pub takenOff : ℕ → Bool → ℕ
 takenOff x true = (x + 1) * 2 ^ 56
 takenOff x false = 0
 
--- the doublings at once: as many as the range has leading zeros of eight bits
+-- the doublings that bring a range of 1..255 to 128 or more: its leading zeros of 32 bits, 24 to 31, without the bits of 24
+unfoldable pub doublingsOf : ℕ → ℕ
+doublingsOf range = bitXor (leadingZeros 32 range) 24
+
+-- all of them at once
 abbrev pub liftedOf : Wide → ℕ → ℕ → Wide
 liftedOf w value range =
     record {
       at = w .at;
-      value = value * 2 ^ leadingZeros 8 range % 2 ^ 64;
-      top = less32 (range * 2 ^ leadingZeros 8 range) 1;
-      count = less32 (w .count) (leadingZeros 8 range);
+      value = value * 2 ^ doublingsOf range % 2 ^ 64;
+      top = less32 (range * 2 ^ (doublingsOf range % 32) % 2 ^ 32) 1;
+      count = less32 (w .count) (doublingsOf range);
     }
 
 -- the symbol and the reader after it
@@ -63,7 +68,7 @@ unfoldable pub wideBitOf : Wide → ℕ → Bit
 wideBitOf w prob =
     record {
       on = onOf w prob;
-      next = liftedOf w (w .value - takenOff (lowOf w prob) (onOf w prob)) (rangeOf (w .top % 256) (lowOf w prob) (onOf w prob));
+      next = liftedOf w (w .value - takenOff (lowOf w prob) (onOf w prob)) (rangeOf (w .top) (lowOf w prob) (onOf w prob));
     }
 
 -- ---- one symbol at probability 128 where the range is below 255: a half of it, doubled once, less one
@@ -74,9 +79,13 @@ oddOf top on = less32 top (bitOf on) / 2 * 2 + 1
 abbrev pub doubledOf : Wide → (value top : ℕ) → Wide
 doubledOf w value top = record { at = w .at; value = value * 2 ^ 1 % 2 ^ 64; top = top; count = less32 (w .count) 1 }
 
+-- the bit: whether the value is in the upper half
+abbrev pub upperOf : Wide → Bool
+upperOf w = ltb (w .top / 2) (w .value / 2 ^ 56)
+
 -- the symbol and the reader after it
 unfoldable pub halfOf : Wide → Bit
-halfOf w = record { on = onOf w 128; next = doubledOf w (w .value - takenOff (lowOf w 128) (onOf w 128)) (oddOf (w .top % 256) (onOf w 128)) }
+halfOf w = record { on = upperOf w; next = doubledOf w (w .value - takenOff (w .top / 2) (upperOf w)) (oddOf (w .top) (upperOf w)) }
 
 -- ---- from a reader of sixteen bits and back
 unfoldable pub widenOf : Reader → Wide

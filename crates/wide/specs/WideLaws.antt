@@ -1,7 +1,7 @@
 -- The wide reader stands for a reader of sixteen bits over padded bytes: `Sim`, and that each call keeps it.
 use Prim.Native.Nat.{ℕ, zero, suc, _+_, _-_, _*_, _/_, _%_, _≤_, _<_, _^_}
 use native.Mathlib.Omega.{arith}
-use native.Mathlib.Nat.{mul-one, mod-eq-of-lt, mod-lt, mod-add-div', add-mul-mod-self-right, le-of-mul-le-mul-right, sub-add-cancel, mod-le, div-one, mul-le-mul-right, mul-lt-mul-of-pos-right}
+use native.Mathlib.Nat.{mul-one, mod-eq-of-lt, mod-lt, mod-add-div', add-mul-mod-self-right, le-of-mul-le-mul-right, sub-add-cancel, mod-le, div-one, mul-le-mul, mul-le-mul-right, mul-lt-mul-of-pos-right}
 use mathlib.Core.Path.{_≡_, refl, sym, _∙_, ap, subst}
 use mathlib.Core.Bool.{Bool, true, false}
 use mathlib.Core.Logic.{⊎-elim}
@@ -9,7 +9,8 @@ use mathlib.Core.List.{List}
 use lib.ListN.{length, getD}
 use lib.Dec.{ltb, lit<}
 use lib.Pow.{pow-add, pow-pos, shr-shr, shl-shr, high, field, split}
-use lib.Count.{leadingZeros, leading-top, leading-unique}
+use lib.Bits.{bitXor, xor-block, xor-lt, xor-self, xor-zero-r}
+use lib.Count.{leadingZeros, leading-le, leading-top, leading-unique}
 use borrow.Author.Tests.{le-leb, lt-leb, le-ltb, lt-ltb, leb-true, ltb-true}
 use Rattle.numbers.specs.Powers.{twice, halved, doubled, mod-scale, cases8}
 use Rattle.numbers.specs.Tests.{lt-or, eq-or}
@@ -21,7 +22,7 @@ use Rattle.reader.specs.BooleanLaws.{Bytes, Valid, grow-stop, grow-shift, grow-
 use Rattle.wide.specs.Padded.{paddedBit, paddedNext}
 use mir.Val.{boolByte}
 use Rattle.numbers.specs.Flags.{bitOf}
-use Rattle.wide.specs.Wide.{fourOf, moreOf, fillOf, lowOf, onOf, rangeOf, takenOff, liftedOf, wideBitOf, oddOf, doubledOf, halfOf, widenOf, eightInside, backOf, shiftsOf, narrowOf, less32, less64}
+use Rattle.wide.specs.Wide.{fourOf, moreOf, fillOf, lowOf, onOf, rangeOf, takenOff, liftedOf, wideBitOf, doublingsOf, oddOf, doubledOf, upperOf, halfOf, widenOf, eightInside, backOf, shiftsOf, narrowOf, less32, less64}
 
 -- ---- a number and the n bytes from `at` on behind it
 unfoldable pub ahead : List ℕ → ℕ → ℕ → ℕ → ℕ
@@ -279,8 +280,24 @@ by-top a z j e lo hi =
       most = subst (λ (x : ℕ). a * 2 ^ z < x) (sym (pow-add 2 (suc j) z) ∙ ap (λ (x : ℕ). 2 ^ x) q) (mul-lt-mul-of-pos-right hi (pow-pos z));
     }
 
-pub lifts : (a : ℕ) → 1 ≤ a → a < 256 → Lifts a (leadingZeros 8 a)
-lifts a l h = let t = leading-top 8 a l (omega arith) in by-top a (leadingZeros 8 a) (t .0) (t .1) (t .2) (t .3)
+-- so many are what the code takes them for
+doublings-are : (a z m : ℕ) → z < 8 → z + m ≡ 8 → a < 2 ^ m → 2 ^ m ≤ 2 * a + 1 → z ≡ doublingsOf a
+unfolding doublingsOf
+doublings-are a z m f e lo hi =
+    let k : 3 * 2 ^ 3 + z ≡ leadingZeros 32 a = leading-unique 32 a (3 * 2 ^ 3 + z) m (omega arith) lo hi in
+    let e : bitXor 3 3 * 2 ^ 3 + bitXor z 0 ≡ z = omega (arith, xor-self 3, xor-zero-r z) in
+    sym (xor-block 3 3 3 z 0 f (lit< tt) ∙ e) ∙ ap (λ (n : ℕ). bitXor n 24) k
+
+pub lifts : (a : ℕ) → 1 ≤ a → a < 256 → Lifts a (doublingsOf a)
+lifts a l h =
+    let t = leading-top 8 a l (omega arith) in
+    let e = by-top a (leadingZeros 8 a) (t .0) (t .1) (t .2) (t .3) in
+    subst (Lifts a) (doublings-are a (leadingZeros 8 a) (suc (t .0)) (e .few) (t .1) (t .3) (omega (arith, t .2, pow-add 2 1 (t .0)))) e
+
+-- for every range they are a shift of 64 bits
+pub doublings-below : (a : ℕ) → doublingsOf a < 64
+unfolding doublingsOf
+doublings-below a = xor-lt 6 (leadingZeros 32 a) 24 (omega (arith, leading-le 32 a)) (lit< tt)
 
 pub record Next (s : List ℕ) (w q : Wide) (r : Reader) : Type 0 where
   pub sim : Sim s q r
@@ -289,8 +306,10 @@ pub record Next (s : List ℕ) (w q : Wide) (r : Reader) : Type 0 where
 
 lift-sim : (s : List ℕ) (w : Wide) (v range : ℕ) (q : Reader) → Bytes s → 2 ≤ q .at → 8 ≤ w .count → w .count ≤ 64 → q .range ≡ range → 1 ≤ range → range < 256 → Half s w v q → Next s w (liftedOf w v range) (grow 7 s q)
 lift-sim s w v range q b a l c e lo hi h =
-    let k : ℕ = leadingZeros 8 range in
+    let k : ℕ = doublingsOf range in
     let z = lifts range lo hi in
+    let j : k % 32 ≡ k = omega (arith, z .few) in
+    let t : less32 (range * 2 ^ (k % 32) % 2 ^ 32) 1 + 1 ≡ range * 2 ^ k = rw j (omega (arith, z .least, z .most)) in
     let g = grow-place k 7 s q (omega (arith, z .few)) (rw e (z .least)) (rw e (z .most)) (h .tied .few) in
     let p : grow 7 s q .range ≡ range * 2 ^ k = g .range ∙ ap (λ (i : ℕ). i * 2 ^ k) e in
     let n : less32 (w .count) k ≡ w .count - k = omega (arith, z .few) in
@@ -301,7 +320,7 @@ lift-sim s w v range q b a l c e lo hi h =
         value = ap (λ (i : ℕ). i * 2 ^ k % 2 ^ 64) (h .value) ∙ mod-scale (h .x * 2 ^ (64 - w .count)) (2 ^ k) (2 ^ 64) ∙ ap (λ (i : ℕ). i % 2 ^ 64) (doubled (h .x) (64 - w .count) k (64 - less32 (w .count) k) (omega (arith, n, z .few)));
         place = omega (arith, n, z .few, g .place, h .place);
         room = omega (arith, n);
-        range = omega (arith, p, z .least, z .most);
+        range = t ∙ sym p;
         least = omega (arith, p, z .least);
         most = omega (arith, p, z .most);
         placed = omega (arith, g .place, h .tied .few, a, grow-tied s (w .at) (h .x) b 7 q (h .tied) .few);
@@ -316,12 +335,12 @@ pub record Read (s : List ℕ) (w : Wide) (r : Reader) (p : ℕ) (q : Bit) : Typ
   pub next : Next s w (q .next) (paddedNext s r p)
 
 module _ (s : List ℕ) (w : Wide) (r : Reader) (p : ℕ) (b : Bytes s) (h : p < 256) (l : 8 ≤ w .count) (m : Sim s w r) where
-  top-is : w .top % 256 ≡ r .range - 1
-  top-is = omega (arith, m .range, m .most)
+  top-is : w .top ≡ r .range - 1
+  top-is = omega (arith, m .range)
 
   low-is : lowOf w p + 1 ≡ splitOf (r .range) p
   unfolding splitOf
-  low-is = rw top-is (omega arith)
+  low-is = rw top-is (omega (arith, mul-le-mul {n₁ = r .range - 1} {m₁ = p} {n₂ = 255} {m₂ = 255} (omega (arith, m .most)) (omega arith)))
 
   at-bit : (c : Bool) → c ≡ onOf w p → c ≡ paddedBit r p → Read s w r p (wideBitOf w p)
   unfolding wideBitOf paddedNext paddedBit
@@ -333,7 +352,7 @@ module _ (s : List ℕ) (w : Wide) (r : Reader) (p : ℕ) (b : Bytes s) (h : p <
       let v : Half s w (w .value - (lowOf w p + 1) * 2 ^ 56) (chosenOf r d true) = rw low-is (half-one s w r d m l g1 (omega (arith, g2, low-is))) in
       record {
         on = sym e ∙ f;
-        next = rw (sym e, sym f) (lift-sim s w (w .value - (lowOf w p + 1) * 2 ^ 56) (w .top % 256 - lowOf w p) (chosenOf r d true) b (m .placed) l (m .room) (omega (arith, low-is, top-is, i .1, i .2)) (omega (arith, low-is, top-is, i .1, i .2)) (omega (arith, m .most, top-is)) v);
+        next = rw (sym e, sym f) (lift-sim s w (w .value - (lowOf w p + 1) * 2 ^ 56) (w .top - lowOf w p) (chosenOf r d true) b (m .placed) l (m .room) (omega (arith, low-is, top-is, i .1, i .2)) (omega (arith, low-is, top-is, i .1, i .2)) (omega (arith, m .most, top-is)) v);
       }
   at-bit false e f =
       let i = split-is (r .range) p (omega (arith, m .least)) h in
@@ -424,16 +443,8 @@ module _ (s : List ℕ) (w : Wide) where
   unfolding fillOf
   fill-more l {f} ea ef ev = rw (lt-leb 32 (w .count) l, fillOf, ea, ev, ← ef) (λ i. record { at = (w .at + 4) % 2 ^ 64; value = add-mod (w .value) (f * 2 ^ (32 - w .count)) i; top = w .top; count = w .count + 32 })
 
-pub lifted-none : (w : Wide) (v range : ℕ) → 128 ≤ range → range < 256 → v < 2 ^ 64 → w .count < 2 ^ 32 → record { at = w .at; value = v; top = range - 1; count = w .count } ≡ liftedOf w v range
-lifted-none w v range l h f g =
-    let k : 0 ≡ leadingZeros 8 range = leading-unique 8 range 0 8 (omega arith) h (omega arith) in
-    let ev : v ≡ v * 2 ^ 0 % 2 ^ 64 = omega arith in
-    let et : range - 1 ≡ less32 (range * 2 ^ 0) 1 = omega arith in
-    let ec : w .count ≡ less32 (w .count) 0 = omega arith in
-    rw (sym k) (λ i. record { at = w .at; value = ev i; top = et i; count = ec i })
-
 -- one symbol, from its parts
-pub bit-is : (w : Wide) (p : ℕ) (b : Bool) {x h v g : ℕ} {q : Wide} → x ≡ lowOf w p → h ≡ w .value / 2 ^ 56 → b ≡ ltb x h → v ≡ w .value - takenOff x b → g ≡ rangeOf (w .top % 256) x b → q ≡ liftedOf w v g → record { on = b; next = q } ≡ wideBitOf w p
+pub bit-is : (w : Wide) (p : ℕ) (b : Bool) {x h v g : ℕ} {q : Wide} → x ≡ lowOf w p → h ≡ w .value / 2 ^ 56 → b ≡ ltb x h → v ≡ w .value - takenOff x b → g ≡ rangeOf (w .top) x b → q ≡ liftedOf w v g → record { on = b; next = q } ≡ wideBitOf w p
 unfolding wideBitOf
 bit-is w p b ex eh eb ev eg eq = rw (eq, ev, eg, eb, ex, eh)
 
@@ -441,9 +452,9 @@ pub taken-fits : (x v : ℕ) (b : Bool) → b ≡ ltb x (v / 2 ^ 56) → takenOf
 taken-fits x v true e = let l : x < v / 2 ^ 56 = ltb-true _ _ (sym e) in omega arith
 taken-fits x v false e = omega arith
 
-pub range-fits : (top x : ℕ) (b : Bool) → top < 256 → x < 255 → rangeOf top x b < 256
-range-fits top x true h l = omega arith
-range-fits top x false h l = omega arith
+-- a split that is taken off is below 255
+pub taken-small : (x v : ℕ) (b : Bool) → b ≡ ltb x (v / 2 ^ 56) → v < 2 ^ 64 → b ≡ true → x < 255
+taken-small x v b e h f = let l : x < v / 2 ^ 56 = ltb-true _ _ (sym e ∙ f) in omega arith
 
 -- a bool as the code's number
 pub byte-bit : (b : Bool) → boolByte b ≡ bitOf b
@@ -451,7 +462,7 @@ byte-bit true = refl
 byte-bit false = refl
 
 -- one symbol at probability 128, from its parts
-pub half-from : (w : Wide) (b : Bool) {x h v t : ℕ} {q : Wide} → x ≡ lowOf w 128 → h ≡ w .value / 2 ^ 56 → b ≡ ltb x h → v ≡ w .value - takenOff x b → t ≡ oddOf (w .top % 256) b → q ≡ doubledOf w v t → record { on = b; next = q } ≡ halfOf w
+pub half-from : (w : Wide) (b : Bool) {x h v t : ℕ} {q : Wide} → x ≡ w .top / 2 → h ≡ w .value / 2 ^ 56 → b ≡ ltb x h → v ≡ w .value - takenOff x b → t ≡ oddOf (w .top) b → q ≡ doubledOf w v t → record { on = b; next = q } ≡ halfOf w
 unfolding halfOf
 half-from w b ex eh eb ev et eq = rw (eq, ev, et, eb, ex, eh)
 
@@ -470,16 +481,21 @@ half-range : (t : ℕ) (b : Bool) → 127 ≤ t → t < 254 → (rangeOf t (t / 
 half-range t true l h = (omega arith, omega arith)
 half-range t false l h = (omega arith, omega arith)
 
-half-bit : (w : Wide) (b : Bool) {t x : ℕ} → t ≡ w .top → x ≡ w .top / 2 → 127 ≤ w .top → w .top < 254 → _≡_ {A = Bit} (record { on = b; next = doubledOf w (w .value - takenOff x b) (oddOf t b) }) (record { on = b; next = liftedOf w (w .value - takenOff x b) (rangeOf t x b) })
-half-bit w b {t} {x} e f l h =
-    let v : ℕ = w .value - takenOff x b in
-    let g : ℕ = rangeOf t x b in
-    let r : (g < 128) × (128 ≤ 2 * g + 1) = rw (f, e) (half-range (w .top) b l h) in
-    let k : 1 ≡ leadingZeros 8 g = leading-unique 8 g 1 7 (omega arith) (r .0) (r .1) in
-    let o : oddOf t b ≡ less32 (g * 2 ^ 1) 1 = rw (f, e) (odd-is (w .top) b (omega arith) h) in
-    (λ i. record { on = b; next = record { at = w .at; value = v * 2 ^ k i % 2 ^ 64; top = (o ∙ ap (λ (j : ℕ). less32 (g * 2 ^ j) 1) k) i; count = less32 (w .count) (k i) } })
+half-bit : (w : Wide) (b : Bool) → 127 ≤ w .top → w .top < 254 → doubledOf w (w .value - takenOff (w .top / 2) b) (oddOf (w .top) b) ≡ liftedOf w (w .value - takenOff (w .top / 2) b) (rangeOf (w .top) (w .top / 2) b)
+half-bit w b l h =
+    let v : ℕ = w .value - takenOff (w .top / 2) b in
+    let g : ℕ = rangeOf (w .top) (w .top / 2) b in
+    let r = half-range (w .top) b l h in
+    let k : 1 ≡ doublingsOf g = doublings-are g 1 7 (lit< tt) (omega arith) (r .0) (r .1) in
+    let m : g * 2 ^ 1 ≡ g * 2 ^ (1 % 32) % 2 ^ 32 = omega (arith, r .0) in
+    let o : oddOf (w .top) b ≡ less32 (g * 2 ^ (1 % 32) % 2 ^ 32) 1 = odd-is (w .top) b (omega arith) h ∙ ap (λ (n : ℕ). less32 n 1) m in
+    (λ i. record { at = w .at; value = v * 2 ^ k i % 2 ^ 64; top = (o ∙ ap (λ (j : ℕ). less32 (g * 2 ^ (j % 32) % 2 ^ 32) 1) k) i; count = less32 (w .count) (k i) })
+
+-- a symbol by its split less one
+abbrev atSplit : Wide → ℕ → Bit
+atSplit w x = let b : Bool = ltb x (w .value / 2 ^ 56) in record { on = b; next = liftedOf w (w .value - takenOff x b) (rangeOf (w .top) x b) }
 
 -- THE LAW of it: a range of 128 to 254 has a half of seven bits
 pub half-is : (w : Wide) → 127 ≤ w .top → w .top < 254 → halfOf w ≡ wideBitOf w 128
 unfolding halfOf wideBitOf
-half-is w l h = half-bit w (onOf w 128) (omega arith) (omega arith) l h
+half-is w l h = let e : w .top / 2 ≡ lowOf w 128 = omega arith in (λ i. record { on = upperOf w; next = half-bit w (upperOf w) l h i }) ∙ ap (atSplit w) e

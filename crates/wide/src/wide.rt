@@ -8,8 +8,7 @@ ghost use mathlib.Core.Path.{_≡_};
 ghost use mathlib.Core.Bool.{Bool, true, false};
 ghost use Prim.Native.Nat.{_<_, _≤_, _+_, _-_, _*_, _/_, _%_, _^_};
 ghost use lib.ListN.{length, getD};
-ghost use lib.Count.{leadingZeros};
-ghost use Rattle.wide.specs.Wide.{fourOf, fillOf, lowOf, rangeOf, takenOff, liftedOf, wideBitOf, oddOf, doubledOf, halfOf};
+ghost use Rattle.wide.specs.Wide.{fourOf, fillOf, rangeOf, takenOff, doublingsOf, liftedOf, wideBitOf, oddOf, doubledOf, halfOf};
 ghost use Rattle.wide.specs.Wide.{widenOf, eightInside, backOf, narrowOf};
 
 // `at` is the next byte's place; `value` the loaded bits from the top on, less what was subtracted; `top` the range less one; `count` how
@@ -71,12 +70,11 @@ fn four(s: &[u8], at: usize) -> u64
     byte(s, at) * 16777216 + byte(s, at + 1) * 65536 + byte(s, at + 2) * 256 + byte(s, at + 3)
 }
 
-// The split less one.
+// The split less one. A product that keeps 32 bits serves every number; a mask, as a range has eight, would be one step more a symbol.
 fn low(top: u32, prob: u8) -> u32
-    requires { ⌜ top < 256 ⌝ }
-    ensures { λ r. ⌜ (r ≡ top * prob / 256) × (r ≤ top) × (r < 255) ⌝ }
+    ensures { λ r. ⌜ (r ≡ top * prob % 2 ^ 32 / 256) × (r ≤ top) × (r < 16777216) ⌝ }
 {
-    (top * (prob as u32)) >> 8
+    (((top as u64 * prob as u64) % 4294967296) as u32) >> 8
 }
 
 // The eight bits that decide a symbol.
@@ -88,7 +86,7 @@ fn high(value: u64) -> u32
 
 // What a bit takes off the value.
 fn taken(x: u32, on: bool) -> u64
-    requires { ⌜ x < 255 ⌝ }
+    requires { ⌜ (on ≡ true → x < 255) ⌝ }
     ensures { λ r. ⌜ r ≡ takenOff x on ⌝ }
 {
     if on {
@@ -99,7 +97,7 @@ fn taken(x: u32, on: bool) -> u64
 
 // The part of the range that it chooses.
 fn part_of(top: u32, x: u32, on: bool) -> u32
-    requires { ⌜ (x ≤ top) × (x < 255) ⌝ }
+    requires { ⌜ (x ≤ top) × (x < 16777216) ⌝ }
     ensures { λ r. ⌜ r ≡ rangeOf top x on ⌝ }
 {
     if on {
@@ -108,23 +106,29 @@ fn part_of(top: u32, x: u32, on: bool) -> u32
     x + 1
 }
 
-// The doublings at once, by the range's leading zeros of eight bits.
-fn scaled(w: Wide, value: u64, range: u32) -> Wide
-    requires { ⌜ range < 256 ⌝ }
+// The doublings that a range of eight bits needs: its leading zeros of 32 bits, 24 to 31, without the bits of 24. So it is one step behind
+// their count, on machines that count zeros and on those that look for the highest one.
+fn doublings(range: u32) -> u32
+    ensures { λ r. ⌜ (r ≡ doublingsOf range) × (r < 64) ⌝ }
+{
+    u32::leading_zeros(range) ^ 24
+}
+
+// All of them at once, without a test whether there are any: no predictor could tell.
+fn lifted(w: Wide, value: u64, range: u32) -> Wide
     ensures { λ q. ⌜ q ≡ liftedOf w value range ⌝ }
 {
-    let k = u8::leading_zeros(range as u8);
+    let k = doublings(range);
     Wide {
         at: w.at,
         value: value << k,
-        top: wrapping_sub_u32(range << k, 1),
+        top: wrapping_sub_u32(range << (k % 32), 1),
         count: wrapping_sub_u32(w.count, k),
     }
 }
 
 // A half of the range, doubled, less one.
 fn odd(top: u32, on: bool) -> u32
-    requires { ⌜ top < 256 ⌝ }
     ensures { λ r. ⌜ r ≡ oddOf top on ⌝ }
 {
     wrapping_sub_u32(top, on as u32) / 2 * 2 + 1
@@ -140,22 +144,6 @@ fn doubled(w: Wide, value: u64, top: u32) -> Wide
         top: top,
         count: wrapping_sub_u32(w.count, 1),
     }
-}
-
-// The same; where the range is 128 or more, nothing: that is every other symbol.
-fn lifted(w: Wide, value: u64, range: u32) -> Wide
-    requires { ⌜ range < 256 ⌝ }
-    ensures { λ q. ⌜ q ≡ liftedOf w value range ⌝ }
-{
-    if 128 <= range {
-        return Wide {
-            at: w.at,
-            value: value,
-            top: range - 1,
-            count: w.count,
-        };
-    }
-    scaled(w, value, range)
 }
 
 impl Wide {
@@ -180,7 +168,7 @@ impl Wide {
     pub fn bit(self, prob: u8) -> Bit
         ensures { λ q. ⌜ q ≡ wideBitOf self prob ⌝ }
     {
-        let top = self.top % 256;
+        let top = self.top;
         let x = low(top, prob);
         if x < high(self.value) {
             return Bit {
@@ -198,12 +186,12 @@ impl Wide {
     pub fn even(self, prob: u8) -> Bit
         ensures { λ q. ⌜ q ≡ wideBitOf self prob ⌝ }
     {
-        let top = self.top % 256;
+        let top = self.top;
         let x = low(top, prob);
         let on = x < high(self.value);
         Bit {
             on: on,
-            next: scaled(self, self.value - taken(x, on), part_of(top, x, on)),
+            next: lifted(self, self.value - taken(x, on), part_of(top, x, on)),
         }
     }
 
@@ -211,8 +199,8 @@ impl Wide {
     pub fn half(self) -> Bit
         ensures { λ q. ⌜ q ≡ halfOf self ⌝ }
     {
-        let top = self.top % 256;
-        let x = low(top, 128);
+        let top = self.top;
+        let x = top / 2;
         let on = x < high(self.value);
         let value = self.value - taken(x, on);
         Bit {

@@ -7,7 +7,7 @@ add-result : tie.Need-add-result
 add-result c = search needs
 
 returns : tie.Need-returns
-returns c = rw (c .if1 .taken) (omega arith)
+returns c = rw (c .if1 .taken) (omega (arith, c .before .pre (c .if1 .taken)))
 
 returns-2 : tie.Need-returns-2
 returns-2 c = rw (c .if1 .left)

@@ -29,7 +29,7 @@ lifted-requires c κs = search needs
 returns : tie.Need-returns
 returns c = let d = c .before .before .before .before .before in
     let x = d .before .low in
-    let a = d .before .before .before .args in
+    let a = d .before .before .args in
     bit-is (a .self) (a .prob) true (x .ensures .0) (d .high .ensures .0) (sym (lt-ltb _ _ (c .before .before .before .before .if1 .taken)))
     (ap (λ (n : ℕ). a .self .value - n) (c .before .before .before .taken .ensures)) (c .before .part-of .ensures) (c .lifted .ensures)
 
@@ -42,7 +42,7 @@ lifted-requires-2 c κs = search needs
 returns-2 : tie.Need-returns-2
 returns-2 c = let d = c .before .before .before in
     let x = d .before .low in
-    let a = d .before .before .before .args in
+    let a = d .before .before .args in
     bit-is (a .self) (a .prob) false (x .ensures .0) (d .high .ensures .0) (sym (le-ltb _ _ (c .before .before .if1 .left)))
     (omega arith) (c .before .part-of2 .ensures) (c .lifted2 .ensures)
 

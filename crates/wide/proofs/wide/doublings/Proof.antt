@@ -1,0 +1,12 @@
+use mathlib.Core.Path.{refl}
+use Rattle.wide.specs.Wide.{doublingsOf}
+use Rattle.wide.specs.WideLaws.{doublings-below}
+use Rattle.wide.proofs.wide.doublings.Statement.{statement}
+use Rattle.wide.proofs.wide.doublings.Tie as tie
+
+returns : tie.Need-returns
+unfolding doublingsOf
+returns c = (refl, doublings-below (c .args .range))
+
+pub doublings-spec : {M : Type 1} → statement M
+doublings-spec = tie.close (tie.spec returns)
