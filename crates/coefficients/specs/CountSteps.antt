@@ -41,7 +41,7 @@ use Rattle.coefficients.specs.Block.{categories, bases, category, magnit
 unfoldable pub bitsOf : ℕ → ℕ
 bitsOf t = elim (ltb t 6) [ true ↦ 0 | false ↦ length (getD categories (t - 6) []) ]
 
-magnitude-costs : (t : ℕ) → Costs (λ (v : ℕ). bitsOf t) 0 (magnitude t)
+pub magnitude-costs : (t : ℕ) → Costs (λ (v : ℕ). bitsOf t) 0 (magnitude t)
 unfolding magnitude bitsOf
 magnitude-costs t = ⊎-elim (few t) (many t) (lt-or t 6)
   where

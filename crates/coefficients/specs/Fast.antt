@@ -1,7 +1,7 @@
 -- A block over a wide reader: what its calls promise. Its sixteen numbers stand in a longer list, from a place on, each a step after the last.
 use Prim.Native.Nat.{ℕ, zero, suc, _+_, _*_}
 use mathlib.Core.Bool.{Bool, true, false, _&&_}
-use mathlib.Core.List.{List, [], _∷_}
+use mathlib.Core.List.{List}
 use mathlib.Core.Path.{_≡_}
 use lib.Dec.{leb, ltb}
 use lib.IntN.{ℤ, pos}
@@ -35,15 +35,6 @@ spaced l at step f (suc n) = set (spaced l at step f n) (at + step * n) (f n)
 -- sixteen others put there
 abbrev pub strewn : List ℤ → (at step : ℕ) → (c : List ℤ) → List ℤ
 strewn l at step c = spaced l at step (λ j. getD c j (pos 0)) 16
-
--- ---- the symbols of M-103
--- of a token: as many as its leaf is deep in coeff_tree
-unfoldable pub depths : List ℕ
-depths = 1 ∷ 2 ∷ 3 ∷ 5 ∷ 6 ∷ 6 ∷ 6 ∷ 6 ∷ 7 ∷ 7 ∷ 7 ∷ 7 ∷ []
-
--- of a token's number: its extra bits
-unfoldable pub extras : List ℕ
-extras = 0 ∷ 0 ∷ 0 ∷ 0 ∷ 0 ∷ 0 ∷ 1 ∷ 2 ∷ 3 ∷ 4 ∷ 5 ∷ 11 ∷ []
 
 -- ---- the call: at most 1216 bytes are read, and the list changes in its sixteen places alone
 pub record BlockCoded (s : List ℕ) (w : Wide) (g : List ℤ → Reading Coefficients) (at step : ℕ) (old new : List ℤ) (q : WideBlock) : Type 0 where

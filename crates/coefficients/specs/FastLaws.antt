@@ -1,4 +1,4 @@
--- The laws of a block over a wide reader: its numbers in a longer list, what its symbols cost, and the turns of its loop.
+-- The laws of a block over a wide reader: its numbers in a longer list, how many symbols it reads, and the turns of its loop.
 use Prim.Native.Nat.{ℕ, zero, suc, _+_, _-_, _*_, _/_, _%_, _≤_, _<_, _^_}
 use native.Mathlib.Decide.{ℕ-discrete}
 use native.Mathlib.Nat.{add-zero, mul-suc, mul-le-mul-left}
@@ -25,6 +25,8 @@ use Rattle.numbers.specs.Tests.{lt-or, eq-or, never, both-left, both-right, bot
 use Rattle.numbers.specs.Wrap.{wrapZ}
 use Rattle.numbers.specs.WrapLaws.{wrap-is}
 use Rattle.reader.specs.BooleanLaws.{Bytes}
+use Rattle.reader.specs.Counts.{tokenDepths}
+use Rattle.reader.specs.CountsLaws.{costs-walk, depthsOf}
 use Rattle.reader.specs.Extra.{extra}
 use Rattle.reader.specs.Reading.{Reading, done, ask, symbol, _>>=_}
 use Rattle.reader.specs.Token.{tokenTree, token, elevenAt}
@@ -34,17 +36,17 @@ use Rattle.reader.specs.Trees.{branchAt, follow, walk}
 use Rattle.reader.specs.declared.trees.Branch.{Branch}
 use Rattle.reader.specs.declared.trees.Branch.the-variants as B
 use Rattle.reader.specs.declared.boolean.Reader.{Reader}
-use Rattle.wide.specs.Counted.{counted, Costs, paid}
-use Rattle.wide.specs.CountedLaws.{costs-then, costs-extra, costs-walk, depthsOf}
+use Rattle.wide.specs.Counted.{counted}
 use Rattle.wide.specs.Padded.{runPadded}
 use Rattle.wide.specs.Wide as wide
 use Rattle.wide.specs.WideLaws.{Sim}
 use Rattle.wide.specs.WideRuns.{WideReads, Going, going-start, going-fill, going-bit, going-as, going-weaken, going-cost, going-told, going-fresh, call-fresh, fill-fresh, going-half, reads-then, walk-asks}
 use Rattle.wide.specs.declared.wide.Bit.{Bit}
 use Rattle.wide.specs.declared.wide.Wide.{Wide}
-use Rattle.coefficients.specs.Fast.{sixteenAt, stored, spotsOf, spaced, strewn, depths, extras, BlockCoded, CodedWhere, roomOf}
+use Rattle.coefficients.specs.Fast.{sixteenAt, stored, spotsOf, spaced, strewn, BlockCoded, CodedWhere, roomOf}
 use Rattle.coefficients.specs.BlockLaws.{SixteenBits, magnitude-within}
 use Rattle.coefficients.specs.BlockSteps.{place-below, zigzag-below, context-more, arguments-fact}
+use Rattle.coefficients.specs.CountSteps.{bitsOf, magnitude-costs}
 use Rattle.coefficients.specs.Block.{categories, category, magnitude, signOf, signedValue, bands, zigzag, probabilityPlace, probabilitiesAt, quantizerAt, contextAfter, Coefficients, blockFrom, block, blockArguments}
 use Rattle.coefficients.specs.declared.fast.Number.{Number}
 use Rattle.coefficients.specs.declared.fast.WideBlock.{WideBlock}
@@ -285,14 +287,14 @@ place-near kind n ctx e f = omega arith
 unfoldable pub tokenSymbols : List ℕ
 tokenSymbols = 0 ∷ 0 ∷ 3 ∷ 5 ∷ 6 ∷ 6 ∷ 7 ∷ 8 ∷ 10 ∷ 11 ∷ 12 ∷ 18 ∷ []
 
-symbols-sum : allBelow 10 (λ i. eqb (getD tokenSymbols (i + 2) 0) (getD depths (i + 2) 0 + getD extras (i + 2) 0)) ≡ true
-unfolding tokenSymbols depths extras
+symbols-sum : allBelow 10 (λ i. eqb (getD tokenSymbols (i + 2) 0) (getD tokenDepths (i + 2) 0 + bitsOf (i + 2))) ≡ true
+unfolding tokenSymbols bitsOf categories
 symbols-sum = refl
 
-pub symbols-is : (t : ℕ) → 2 ≤ t → t < 12 → getD tokenSymbols t 0 ≡ getD depths t 0 + getD extras t 0
+pub symbols-is : (t : ℕ) → 2 ≤ t → t < 12 → getD tokenSymbols t 0 ≡ getD tokenDepths t 0 + bitsOf t
 symbols-is t l h =
     let e : t ≡ t - 2 + 2 = omega arith in
-    rw e (eqb-true _ _ (all-below (λ i. eqb (getD tokenSymbols (i + 2) 0) (getD depths (i + 2) 0 + getD extras (i + 2) 0)) 10 symbols-sum (t - 2) (omega arith)))
+    rw e (eqb-true _ _ (all-below (λ i. eqb (getD tokenSymbols (i + 2) 0) (getD tokenDepths (i + 2) 0 + bitsOf (i + 2))) 10 symbols-sum (t - 2) (omega arith)))
 
 symbols-few : allBelow 12 (λ t. leb (getD tokenSymbols t 0) 18) ≡ true
 unfolding tokenSymbols
@@ -371,26 +373,6 @@ module _ (s : List ℕ) (w : Wide) (g : List ℤ → Reading Coefficients) (at s
   -- THE LAW for callers
   pub coded-read : {b : Bool} → b ≡ true → CodedWhere b s w g at step old new q → BlockCoded s w g at step old new q
   coded-read e h = rw e at h
-
--- ---- what symbols cost
-extras-none : allBelow 6 (λ t. eqb (getD extras t 0) 0) ≡ true
-unfolding extras
-extras-none = refl
-
-extras-some : allBelow 6 (λ c. eqb (getD extras (c + 6) 0) (length (getD categories c []))) ≡ true
-unfolding extras categories
-extras-some = refl
-
-magnitude-costs : (t : ℕ) → t < 12 → Costs (λ (v : ℕ). getD extras t 0) 0 (magnitude t)
-unfolding magnitude
-magnitude-costs t h =
-    ⊎-elim
-    (λ (k : t < 6). rw (lt-ltb t 6 k, magnitude) (paid {n = 0} {a = t - 1} (eqb-true _ _ (all-below (λ t. eqb (getD extras t 0) 0) 6 extras-none t k))))
-    (λ (k : 6 ≤ t).
-    let e : t ≡ t - 6 + 6 = omega arith in
-    let f : getD extras t 0 ≡ length (getD categories (t - 6) []) = ap (λ (i : ℕ). getD extras i 0) e ∙ eqb-true _ _ (all-below (λ c. eqb (getD extras (c + 6) 0) (length (getD categories c []))) 6 extras-some (t - 6) (omega arith)) in
-    rw (le-ltb t 6 k, magnitude) (costs-then (costs-extra (getD categories (t - 6) [])) (λ v. paid f)))
-    (lt-or t 6)
 
 -- ---- the first of eleven probabilities
 first-of : (table : List ℕ) (at : ℕ) → getD (elevenAt table at) 0 0 ≡ getD table at 0
@@ -558,15 +540,13 @@ module _ (s table : List ℕ) (kind n p : ℕ) (w : Wide) where
         }
 
 -- ---- a number from node 2 on, two symbols in: its value, and the context after it
-depths-deep : allBelow 10 (λ i. leb 3 (getD depths (i + 2) 0)) ≡ true
-unfolding depths
+depths-deep : allBelow 10 (λ i. leb 3 (getD tokenDepths (i + 2) 0)) ≡ true
 depths-deep = refl
 
-depth-deep : (t : ℕ) → 2 ≤ t → t < 12 → 3 ≤ getD depths t 0
-depth-deep t l h = let e : t ≡ t - 2 + 2 = omega arith in rw e (leb-true _ _ (all-below (λ i. leb 3 (getD depths (i + 2) 0)) 10 depths-deep (t - 2) (omega arith)))
+depth-deep : (t : ℕ) → 2 ≤ t → t < 12 → 3 ≤ getD tokenDepths t 0
+depth-deep t l h = let e : t ≡ t - 2 + 2 = omega arith in rw e (leb-true _ _ (all-below (λ i. leb 3 (getD tokenDepths (i + 2) 0)) 10 depths-deep (t - 2) (omega arith)))
 
-above-walked : depthsOf 4 (λ t. getD depths t 0 - 3) tokenTree 0 3 ≡ true
-unfolding depths
+above-walked : depthsOf 4 0 (λ t. getD tokenDepths t 0 - 3) tokenTree 3 ≡ true
 above-walked = refl
 
 pub record Counting (s ps : List ℕ) (w : Wide) (q : Number) : Type 0 where
@@ -610,10 +590,10 @@ module _ (s table : List ℕ) (p : ℕ) {w : Wide} {q : Bit} (y : Bytes s) (z : 
             let ps = elevenAt table p in
             let c3 = suc (suc (suc c)) in
             let a1 = step-node (elevenAt table p) 2 10 (suc (suc (suc (suc m)))) (suc (suc c)) f y (z (p + 2)) (eleven-at table p 2 (lit< tt)) a o b refl in
-            let a2 = going-cost (n + 68) 4 c3 (walk (suc (suc (suc (suc m)))) ps tokenTree 3) f (costs-walk 4 (suc (suc (suc (suc m)))) (λ t. getD depths t 0 - 3) ps tokenTree 0 3 (omega arith) above-walked) a1 (g m) (lit≤ tt) (omega arith) in
-            let c4 = c3 + (getD depths t 0 - 3) in
-            let a3 = going-cost (n + 4) 64 c4 (magnitude t) (h (contextAfter t)) (magnitude-costs t e) (going-as (ap (counted c4) (i t (omega arith))) a2) j (lit≤ tt) (omega arith) in
-            let s1 : c4 + getD extras t 0 ≡ c + r = omega (arith, u, symbols-is t (omega arith) e, depth-deep t (omega arith) e) in
+            let a2 = going-cost (n + 68) 4 c3 (walk (suc (suc (suc (suc m)))) ps tokenTree 3) f (costs-walk 4 (suc (suc (suc (suc m)))) 0 (λ t. getD tokenDepths t 0 - 3) ps tokenTree 3 (omega arith) above-walked) a1 (g m) (lit≤ tt) (omega arith) in
+            let c4 = c3 + (getD tokenDepths t 0 - 3) in
+            let a3 = going-cost (n + 4) 64 c4 (magnitude t) (h (contextAfter t)) (magnitude-costs t) (going-as (ap (counted c4) (i t (omega arith))) a2) j (lit≤ tt) (omega arith) in
+            let s1 : c4 + bitsOf t ≡ c + r = omega (arith, u, symbols-is t (omega arith) e, depth-deep t (omega arith) e) in
             let s2 : contextAfter t ≡ 2 = sym (context-more t (λ h. omega arith)) in
             let f1 = going-fresh 10 y (z (p + 2)) a o in
             let f2 = call-fresh a1 f1 (walk-below 4 (suc (suc (suc (suc m)))) 12 ps tokenTree 3 (omega arith) (eleven-bytes table p z) refl) (g m) (lit≤ tt) (omega arith) in

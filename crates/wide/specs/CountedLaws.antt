@@ -1,27 +1,19 @@
--- The laws of grammars that count: their runs, their parts, and what the symbols of a tree or of extra bits cost.
-use Prim.Native.Nat.{ℕ, zero, suc, _+_, _≤_}
+-- The laws of grammars that count: their runs and their parts, one that counts or one whose value says what it read.
+use Prim.Native.Nat.{ℕ, suc, _+_}
 use native.Mathlib.Nat.{add-suc, add-zero}
 use native.Mathlib.Omega.{arith}
-use mathlib.Core.Bool.{Bool, true, false, _&&_}
-use mathlib.Core.List.{List, [], _∷_}
+use mathlib.Core.Bool.{Bool}
+use mathlib.Core.List.{List}
 use mathlib.Core.Path.{_≡_, refl, sym, _∙_, ap}
-use lib.Dec.{eqb}
-use lib.IntN.{ℤ}
-use lib.ListN.{length}
-use borrow.Author.Tests.{eqb-true}
-use Rattle.numbers.specs.Tests.{never, both-left, both-right}
 use Rattle.reader.specs.Boolean.{Given, given, missing, symbolOf}
-use Rattle.reader.specs.Extra.{extraFrom, extra}
+use Rattle.reader.specs.Counts.{Costs}
+use Rattle.reader.specs.Counts as counts
 use Rattle.reader.specs.Reading.{Reading, done, ask, _>>=_, run, Within, ends, asks}
 use Rattle.reader.specs.ReadingLaws.{never-both, run-done, run-missing, run-got}
 use Rattle.reader.specs.Trace.{count}
 use Rattle.reader.specs.TraceLaws.{count-done, count-got}
-use Rattle.reader.specs.Trees.{branchAt, step, follow, walk}
-use Rattle.reader.specs.TreesLaws.{passes}
 use Rattle.reader.specs.declared.boolean.Reader.{Reader}
-use Rattle.reader.specs.declared.trees.Branch.{Branch}
-use Rattle.reader.specs.declared.trees.Branch.the-variants as B
-use Rattle.wide.specs.Counted.{counted, Costs, paid, costs}
+use Rattle.wide.specs.Counted.{counted}
 
 -- ---- THE LAW: a run that counts gives what the run gives, and how many symbols it reads
 pub record Ran {A : Type 0} (g : Reading A) (s : List ℕ) (r : Reader) (a : A) (c : ℕ) (q : Reader) : Type 0 where
@@ -69,45 +61,11 @@ unfolding counted
 within-counted c (ends h) = ends h
 within-counted c (asks h f) = asks h (λ b. within-counted (suc c) (f b))
 
-costs-on : {A B : Type 0} {cost : A → ℕ} {n : ℕ} {m : Reading A} (f : A → Reading B) (c : ℕ) → Costs cost n m → counted (c + n) (m >>= f) ≡ (m >>= (λ a. counted (c + cost a) (f a)))
+-- a first part whose value says how many symbols it read
+costs-on : {A B : Type 0} {reads : A → ℕ} {n : ℕ} {m : Reading A} (f : A → Reading B) (c : ℕ) → Costs reads n m → counted (c + n) (m >>= f) ≡ (m >>= (λ a. counted (c + reads a) (f a)))
 unfolding counted
-costs-on f c (paid {a} e) = ap (λ (j : ℕ). counted (c + j) (f a)) (sym e)
-costs-on f c (costs {n} {p} {k} h) = λ i. ask p (λ b. (ap (λ (j : ℕ). counted j (k b >>= f)) (sym (add-suc c n)) ∙ costs-on f c (h b)) i)
+costs-on f c (counts.ends {a} e) = ap (λ (j : ℕ). counted (c + j) (f a)) (sym e)
+costs-on f c (counts.asks {n} {p} {k} h) = λ i. ask p (λ b. (ap (λ (j : ℕ). counted j (k b >>= f)) (sym (add-suc c n)) ∙ costs-on f c (h b)) i)
 
-pub counted-costs : {A B : Type 0} {cost : A → ℕ} {m : Reading A} (f : A → Reading B) (c : ℕ) → Costs cost 0 m → counted c (m >>= f) ≡ (m >>= (λ a. counted (c + cost a) (f a)))
+pub counted-costs : {A B : Type 0} {reads : A → ℕ} {m : Reading A} (f : A → Reading B) (c : ℕ) → Costs reads 0 m → counted c (m >>= f) ≡ (m >>= (λ a. counted (c + reads a) (f a)))
 counted-costs {m} f c h = ap (λ (j : ℕ). counted j (m >>= f)) (sym (add-zero c)) ∙ costs-on f c h
-
--- ---- what the parts of a frame cost
-pub costs-then : {A B : Type 0} {cost : A → ℕ} {full : B → ℕ} {n : ℕ} {m : Reading A} {f : A → Reading B} → Costs cost n m → ((a : A) → Costs full (cost a) (f a)) → Costs full n (m >>= f)
-costs-then {full} {f} (paid {a} e) g = rw e at (g a)
-costs-then (costs h) g = costs (λ b. costs-then (h b) g)
-
--- as many as there are extra bits
-costs-from : (ps : List ℕ) (v n : ℕ) (cost : ℕ) → n + length ps ≡ cost → Costs (λ (x : ℕ). cost) n (extraFrom v ps)
-unfolding extraFrom
-costs-from [] v n cost e = paid {n = n} (omega arith)
-costs-from (p ∷ ps) v n cost e = costs (λ b. costs-from ps _ (suc n) cost (omega arith))
-
-pub costs-extra : (ps : List ℕ) → Costs (λ (x : ℕ). length ps) 0 (extra ps)
-costs-extra ps = costs-from ps 0 0 (length ps) (omega arith)
-
--- as many as a leaf is deep: a test that computes, for a tree that is known, d symbols in at node i
-abbrev pub depthsOf : ℕ → (ℕ → ℕ) → List ℤ → ℕ → ℕ → Bool
-depthsOf zero cost t d i = false
-depthsOf (suc n) cost t d i =
-    passes (λ v. eqb (cost v) (suc d)) (depthsOf n cost t (suc d)) (branchAt t i true)
-    && passes (λ v. eqb (cost v) (suc d)) (depthsOf n cost t (suc d)) (branchAt t i false)
-
-pub costs-walk : (m n : ℕ) (cost : ℕ → ℕ) (ps : List ℕ) (t : List ℤ) (d i : ℕ) → m ≤ n → depthsOf m cost t d i ≡ true → Costs cost d (walk n ps t i)
-unfolding walk step
-costs-walk zero n cost ps t d i l e = absurd (never e refl)
-costs-walk (suc m) zero cost ps t d i l e = absurd (omega arith)
-costs-walk (suc m) (suc n) cost ps t d i l e = costs (λ b. go (λ j. costs-walk m n cost ps t (suc d) j (omega arith)) (branchAt t i b) (pass b))
-  where
-    pass : (b : Bool) → passes (λ v. eqb (cost v) (suc d)) (depthsOf m cost t (suc d)) (branchAt t i b) ≡ true
-    pass true = both-left _ _ e
-    pass false = both-right (passes (λ v. eqb (cost v) (suc d)) (depthsOf m cost t (suc d)) (branchAt t i true)) _ e
-
-    go : ((j : ℕ) → depthsOf m cost t (suc d) j ≡ true → Costs cost (suc d) (walk n ps t j)) → (x : Branch) → passes (λ v. eqb (cost v) (suc d)) (depthsOf m cost t (suc d)) x ≡ true → Costs cost (suc d) (follow (walk n ps t) x)
-    go ih (B.Leaf v) f = paid (eqb-true _ _ f)
-    go ih (B.Node j) f = ih j f

@@ -19,10 +19,11 @@ use borrow.Author.Tests.{le-leb, lt-leb}
 use Rattle.numbers.specs.Tests.{lt-or}
 use Rattle.numbers.specs.Flags.{bit-small}
 use Rattle.numbers.specs.Flags as flags
+use Rattle.reader.specs.Counts.{Costs}
 use Rattle.reader.specs.Extra.{extraFrom, extra}
 use Rattle.reader.specs.ExtraLaws.{extra-asks, extra-ends}
 use Rattle.reader.specs.Trees.{branchAt, step, follow, walk}
-use Rattle.wide.specs.Counted.{counted, Costs}
+use Rattle.wide.specs.Counted.{counted}
 use Rattle.wide.specs.CountedLaws.{Ran, counted-run, counted-then, counted-next, counted-costs}
 use Rattle.wide.specs.Padded.{paddedBit, paddedNext, runPadded}
 use Rattle.wide.specs.PaddedLaws.{padded-then, padded-inside, fresh-next, fresh-run}
