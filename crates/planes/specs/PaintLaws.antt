@@ -18,7 +18,7 @@ pub use Rattle.numbers.specs.Lists.{Bytes}
 use Rattle.numbers.specs.ClampLaws.{upTo-le}
 use Rattle.numbers.specs.In.{Each}
 use Rattle.numbers.specs.Know.{inside}
-use Rattle.numbers.specs.Lists.{build, built, getD-build, getD-build-past, _∷≡_}
+use Rattle.numbers.specs.Lists.{build, getD-build, getD-build-past, _∷≡_}
 use Rattle.numbers.specs.Parts.{le-true}
 use Rattle.numbers.specs.Runs.{placed, placed-none, placed-next, length-placed, placed-in, placed-off, placed-keeps, placed-same, copied, Off, off-less}
 use Rattle.numbers.specs.Tables.{allBelow, all-below}
@@ -135,16 +135,13 @@ rows-same p w x y n f g (suc m) h =
 
 -- ---- the coefficients of a sub-block, one by one, and its residual
 module _ (c : List ℤ) (i : ℕ) (h : 16 * i + 16 ≤ length c) where
-  length-block : length (blockCoefficients c i) ≡ 16
+  pub length-block : length (blockCoefficients c i) ≡ 16
   unfolding blockCoefficients
   length-block = simp (length-take, length-drop) (omega arith)
 
   pub block-at : (k : ℕ) (d : ℤ) → k < 16 → getD (blockCoefficients c i) k d ≡ getD c (16 * i + k) d
   unfolding blockCoefficients
   block-at k d l = rw (getD-take, getD-drop)
-
-  pub block-built : blockCoefficients c i ≡ build 16 (λ k. getD c (16 * i + k) (pos 0))
-  block-built = built (blockCoefficients c i) 16 (λ k. getD c (16 * i + k) (pos 0)) (pos 0) length-block (λ k l. block-at k (pos 0) l)
 
 -- ---- a sub-block painted is four rows of four
 module _ (p : List ℕ) (w x y : ℕ) (b : List ℕ) where

@@ -27,15 +27,15 @@ use Rattle.numbers.specs.Parts.{up, nlt-le, of-le, add-parts, lt-parts}
 use Rattle.numbers.specs.Runs.{placed, placed-none, placed-next, placed-same, length-placed, copied}
 use Rattle.numbers.specs.Tests.{lt-or, eq-or, never, not-so, both-left, both-right, both-true, cond-at}
 use Rattle.transform.specs.Transform.{samplesOf}
-use Rattle.transform.specs.Lanes.{byBlocks, blockNumbers, knownLength, laneResidual, residualsOf}
-use Rattle.transform.specs.LanesLaws.{laneRow, length-by-blocks, blocks-at, known-blocks, whole-blocks, residuals-at, residuals-in}
+use Rattle.transform.specs.Lanes.{byBlocks, knownLength, laneResidual, residualsOf}
+use Rattle.transform.specs.LanesLaws.{laneRow, length-by-blocks, blocks-at, block-is, known-blocks, whole-blocks, residuals-at, residuals-in}
 use Rattle.transform.specs.TransformBounds.{numeral-in}
 use Rattle.transform.specs.TransformLaws.{below-four, below-all, below-next, in-range, shortcut}
 use Rattle.planes.specs.declared.predict.Edge.{Edge}
 use Rattle.planes.specs.Predict.{Size, dcOf, largeAt, largeOf}
 use Rattle.planes.specs.PredictLaws.{tmOne, small-long}
 use Rattle.planes.specs.Paint.{sampleAt, edgeOf, rowsPainted, painted, blockResidual, summedOf, blockPainted, cellColumn, cellRow, blocksPainted, largeRule, smallAt, squarePainted, squareBlocks, coefficientsFine}
-use Rattle.planes.specs.PaintLaws.{Bytes, block-at, block-built, rowsPlaced, rows-none, rows-next, length-rows, rows-off, rows-in, rows-same, painted-rows, length-painted, painted-off, painted-in, length-blocks, blocks-yet, blocks-off, blocks-in, square-large}
+use Rattle.planes.specs.PaintLaws.{Bytes, length-block, block-at, rowsPlaced, rows-none, rows-next, length-rows, rows-off, rows-in, rows-same, painted-rows, length-painted, painted-off, painted-in, length-blocks, blocks-yet, blocks-off, blocks-in, square-large}
 use Rattle.planes.specs.Places.{Square, run-inside, BlockSides, sides-few, cell, within-or, covered, by-size, quarter, size-sides, size-blocks}
 
 -- ---- a number taken into 0..255, from below and then from above
@@ -606,11 +606,12 @@ module _ {n : ℕ} (from : ℕ) (c : List ℤ) (s : Size n) where
     pub square-ready : (coded : List Bool) {v : List ℤ} → Coded c (length c / 16) coded (length c / 16) → Each (negsuc 150000) (pos 150001) v
         → ((i k : ℕ) → i < length c / 16 → k < 16 → getD coded i false ≡ true → getD v (16 * k + i) (pos 0) ≡ laneResidual (length c / 16) c i k)
         → Ready c from (squareBlocks n from c) coded v (n / 4 * (n / 4))
-    unfolding blockResidual blockNumbers
+    unfolding blockResidual
     square-ready coded d e r =
         let N = length c / 16 in
         let S = squareBlocks n from c in
         let m = square-room in
+        let b : (i : ℕ) → i < n / 4 * (n / 4) → 16 * i + 16 ≤ length S = λ i h. omega (arith, length-square-blocks, size-blocks s) in
         record {
           few = omega arith;
           room = omega arith;
@@ -622,7 +623,7 @@ module _ {n : ℕ} (from : ℕ) (c : List ℤ) (s : Size n) where
           lane = λ i k h g q.
               r (from + i) k (omega arith) g q
               ∙ ap (λ (x : List ℤ). signedTo 32767 (getD (samplesOf false x) k (pos 0)))
-              (sym (block-built S i (omega (arith, length-square-blocks, size-blocks s)) ∙ build-same 16 _ _ (λ k l. square-block i k h l)));
+              (sym (block-is (byBlocks N c) (from + i) (length-block S i (b i h)) (λ k l. block-at S i (b i h) k (pos 0) l ∙ square-block i k h l)));
         }
 
     -- the residuals of all, or none where no block is coded

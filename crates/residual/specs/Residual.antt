@@ -10,6 +10,7 @@ use lib.ListN.{length, getD, set, replicate}
 use Rattle.header.specs.Entries.{probabilityCount}
 use Rattle.numbers.specs.Flags.{bitOf}
 use Rattle.numbers.specs.In.{Each}
+use Rattle.numbers.specs.Runs.{placed}
 use Rattle.numbers.specs.Tables.{allBelow}
 use Rattle.reader.specs.Boolean.{Given, given, missing, validOf, noReader}
 use Rattle.header.specs.Header.{headerOf}
@@ -147,6 +148,10 @@ residualOf table f small true top left = done (initial (cleared small top) (clea
 residualOf table f small false top left = do
   m ← dcStage table f small (initial top left)
   blocksFrom table f small 24 0 m
+
+-- ---- blocks that stand one after the other, laid by lanes into memory: the first m numbers of the n blocks from a place on
+abbrev pub laidFrom : (l c : List ℤ) (n from m : ℕ) → List ℤ
+laidFrom l c n from m = placed l from (λ p. getD c (from + (16 * (p % n) + p / n)) (pos 0)) m
 
 -- ---- the calls: the answer, and the 384 numbers that were lent, which are written only where the macroblock has ended
 pub record ResidualCalled : Type 0 where

@@ -7,19 +7,16 @@ use mathlib.Core.Logic.{inl}
 use mathlib.Core.Path.{_≡_, sym, _∙_, ap}
 use lib.IntN.{ℤ, pos}
 use lib.ListN.{length, getD}
-use Rattle.numbers.specs.Runs.{placed, length-placed, placed-in, placed-off}
+use Rattle.numbers.specs.Runs.{length-placed, placed-in, placed-off}
 use Rattle.transform.specs.Lanes.{macroblockLanes}
 use Rattle.transform.specs.LanesLaws.{squares-are}
+use Rattle.residual.specs.Residual.{laidFrom}
 
 -- where a number of n blocks by lanes comes from is among them
 pub lane-from : (n p : ℕ) → 0 < n → p < 16 * n → (p % n < n) × (p / n < 16)
 lane-from n p z h = (mod-lt p z, div-lt-iff-lt-mul z .1 h)
 
--- ---- laid block by block into memory: the first m numbers of the n blocks from a place on
-abbrev pub laidFrom : (l c : List ℤ) (n from m : ℕ) → List ℤ
-laidFrom l c n from m = placed l from (λ p. getD c (from + (16 * (p % n) + p / n)) (pos 0)) m
-
--- luma, then chroma
+-- luma is laid, then chroma
 pub laid-squares : (l c : List ℤ) {x y : List ℤ} → length l ≡ 384 → x ≡ laidFrom l c 16 0 256 → y ≡ laidFrom x c 8 256 128 → y ≡ macroblockLanes c
 laid-squares l c {x} e h k =
     let f : ℕ → ℤ = (λ p. getD c (0 + (16 * (p % 16) + p / 16)) (pos 0)) in

@@ -5,9 +5,8 @@ ghost use Prim.Native.Nat.{_+_, _*_, _<_, _≤_};
 ghost use lib.IntN.{pos, negsuc};
 ghost use lib.ListN.{length, replicate};
 ghost use Rattle.numbers.specs.In.{Each};
-ghost use Rattle.residual.specs.Residual.{sixteenAt, stored, spread};
+ghost use Rattle.residual.specs.Residual.{sixteenAt, stored, spread, laidFrom};
 ghost use Rattle.transform.specs.Lanes.{macroblockLanes};
-ghost use Rattle.residual.specs.SquaresLaws.{laidFrom};
 
 // The sixteen from a place on.
 pub(crate) fn sixteen(flat: &[i32], at: usize) -> [i32; 16]

@@ -140,6 +140,11 @@ pub block-lane : (n : ℕ) (c : List ℤ) (i : ℕ) → i < n → blockNumbers (
 unfolding blockNumbers laneOf
 block-lane n c i h = build-same 16 _ _ (λ k g. blocks-at n c i k h g)
 
+-- a list that has the numbers of block i of blocks one after the other
+pub block-is : (c : List ℤ) (i : ℕ) {l : List ℤ} → length l ≡ 16 → ((k : ℕ) → k < 16 → at l k ≡ at c (16 * i + k)) → l ≡ blockNumbers c i
+unfolding blockNumbers
+block-is c i {l} e h = built l 16 _ (pos 0) e h
+
 -- how long the coefficients of 8 or of 16 blocks are
 abbrev pub Blocks : ℕ → Type 0
 Blocks n = (n ≡ 128) ⊎ (n ≡ 256)

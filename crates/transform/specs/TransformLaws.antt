@@ -3,7 +3,7 @@ use mathlib.Core.Path.{_≡_, refl, sym}
 use mathlib.Core.Bool.{Bool, true, false, _&&_}
 use mathlib.Core.List.{List, [], _∷_}
 use mathlib.Core.Logic.{inl, inr}
-use Prim.Native.Nat.{ℕ, zero, suc, _+_, _*_, _/_, _%_, _<_}
+use Prim.Native.Nat.{ℕ, zero, suc, _+_, _*_, _/_, _%_, _<_, _≤_}
 use native.Mathlib.Decide.{ℕ-discrete}
 use native.Mathlib.Omega.{arith}
 use lib.Dec.{T, ltb, lit<}
@@ -11,7 +11,7 @@ use lib.IntN.{ℤ, pos, negsuc, _+ℤ_, _-ℤ_, _*ℤ_, +ℤ-idr}
 use lib.ListN.{length, replicate}
 use lib.Signed.{leZ, shrZ}
 use Rattle.numbers.specs.In.{In, Each, Each2}
-use Rattle.numbers.specs.Parts.{of-le, le-true, true-le, add-parts, sub-parts-ℤ, up-times, dn-times, shr-parts}
+use Rattle.numbers.specs.Parts.{up, dn, of-le, le-true, true-le, add-parts, sub-parts-ℤ, up-times, dn-times, shr-parts}
 use Rattle.numbers.specs.Floor.{floor-is}
 use Rattle.numbers.specs.Bounds.{each-[], each-∷, each2-[], each2-∷}
 use Rattle.numbers.specs.Lists.{build, build-listed, length-build, getD-build, getD-build-past, getD-constant, _∷≡_}
@@ -22,56 +22,32 @@ use Rattle.transform.specs.declared.Transformed.{Transformed}
 use Rattle.transform.specs.Transform.{Grid, at, cell, four, gridRow, gridOf, transposeOf, scaledOf, passOf, rowsOf, verticalPass, biasOf, horizontalPass, resultOf, resultsOf, samplesOf, fits16, blockFits, transformOf}
 use Rattle.transform.specs.TransformBounds.{numeral-in, vertical-in, horizontal-in, result-in, small-vertical-in, small-horizontal-in, small-result-in}
 
--- ---- the scaled products
-pub by-fours : (x : ℤ) → shrZ (pos 8867 *ℤ x) 16384 ≡ scaledOf (pos 35468) x
+-- ---- the scaled products: 65536 q is at most k x, and less than 65536 below it
+scaled-by : (k : ℕ) (x : ℤ) {q : ℤ} → (65536 * up q + k * dn x ≤ k * up x + 65536 * dn q) × (k * up x + 65536 * dn q < 65536 * up q + k * dn x + 65536) → q ≡ scaledOf (pos k) x
 unfolding scaledOf
-by-fours x =
-    let q = shrZ (pos 8867 *ℤ x) 16384 in
-    let a = shr-parts 16384 (pos 8867 *ℤ x) (lit< tt) in
-    let m = add-parts (pos 65536 *ℤ q) (pos 65535) in
-    let u1 = up-times 8867 x in
-    let d1 = dn-times 8867 x in
-    let u2 = up-times 35468 x in
-    let d2 = dn-times 35468 x in
-    let u = up-times 65536 q in
-    let d = dn-times 65536 q in
-    sym (floor-is 65536 {z = pos 35468 *ℤ x} {q = q} (lit< tt) (record { low = of-le (omega arith); high = of-le (omega arith) }))
+scaled-by k x {q} h =
+    let u = up-times k x in
+    let d = dn-times k x in
+    let v = up-times 65536 q in
+    let e = dn-times 65536 q in
+    sym (floor-is 65536 {z = pos k *ℤ x} {q = q} (lit< tt) (record { low = of-le (omega arith); high = of-le (omega (arith, add-parts (pos 65536 *ℤ q) (pos 65535))) }))
 
-pub by-halves : (x : ℤ) → shrZ (pos 10045 *ℤ x +ℤ shrZ x 2) 32768 ≡ scaledOf (pos 20091) x
-unfolding scaledOf
-by-halves x =
-    let h = shrZ x 2 in
-    let t = pos 10045 *ℤ x in
-    let q = shrZ (t +ℤ h) 32768 in
-    let a = shr-parts 2 x (lit< tt) in
-    let b = shr-parts 32768 (t +ℤ h) (lit< tt) in
-    let s = add-parts t h in
-    let m = add-parts (pos 65536 *ℤ q) (pos 65535) in
-    let u1 = up-times 10045 x in
-    let d1 = dn-times 10045 x in
-    let u2 = up-times 20091 x in
-    let d2 = dn-times 20091 x in
-    let u = up-times 65536 q in
-    let d = dn-times 65536 q in
-    sym (floor-is 65536 {z = pos 20091 *ℤ x} {q = q} (lit< tt) (record { low = of-le (omega arith); high = of-le (omega arith) }))
+-- in the three forms of the code
+module _ (x : ℤ) where
+  pub by-fours : shrZ (pos 8867 *ℤ x) 16384 ≡ scaledOf (pos 35468) x
+  by-fours = scaled-by 35468 x (omega (arith, shr-parts 16384 (pos 8867 *ℤ x) (lit< tt), up-times 8867 x, dn-times 8867 x))
 
-pub by-rest : (x : ℤ) → x +ℤ shrZ (pos 0 -ℤ pos 30068 *ℤ x) 65536 ≡ scaledOf (pos 35468) x
-unfolding scaledOf
-by-rest x =
-    let t = pos 0 -ℤ pos 30068 *ℤ x in
-    let h = shrZ t 65536 in
-    let q = x +ℤ h in
-    let a = shr-parts 65536 t (lit< tt) in
-    let b = sub-parts-ℤ (pos 0) (pos 30068 *ℤ x) in
-    let s = add-parts x h in
-    let m = add-parts (pos 65536 *ℤ q) (pos 65535) in
-    let u1 = up-times 30068 x in
-    let d1 = dn-times 30068 x in
-    let u2 = up-times 35468 x in
-    let d2 = dn-times 35468 x in
-    let u = up-times 65536 q in
-    let d = dn-times 65536 q in
-    sym (floor-is 65536 {z = pos 35468 *ℤ x} {q = q} (lit< tt) (record { low = of-le (omega arith); high = of-le (omega arith) }))
+  pub by-halves : shrZ (pos 10045 *ℤ x +ℤ shrZ x 2) 32768 ≡ scaledOf (pos 20091) x
+  by-halves =
+      let y = pos 10045 *ℤ x in
+      let h = shrZ x 2 in
+      scaled-by 20091 x (omega (arith, shr-parts 2 x (lit< tt), shr-parts 32768 (y +ℤ h) (lit< tt), add-parts y h, up-times 10045 x, dn-times 10045 x))
+
+  pub by-rest : x +ℤ shrZ (pos 0 -ℤ pos 30068 *ℤ x) 65536 ≡ scaledOf (pos 35468) x
+  by-rest =
+      let y = pos 30068 *ℤ x in
+      let z = pos 0 -ℤ y in
+      scaled-by 35468 x (omega (arith, shr-parts 65536 z (lit< tt), sub-parts-ℤ (pos 0) y, add-parts x (shrZ z 65536), up-times 30068 x, dn-times 30068 x))
 
 -- ---- the grid
 pub below-four : (P : ℕ → Type 0) → P 0 → P 1 → P 2 → P 3 → (k : ℕ) → k < 4 → P k

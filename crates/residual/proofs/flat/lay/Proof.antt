@@ -6,7 +6,8 @@ use mir.Syntax.{w16, w32}
 use Rattle.numbers.specs.Hand.{there}
 use Rattle.numbers.specs.Know.{fit, rounded}
 use Rattle.numbers.specs.Runs.{placed-none}
-use Rattle.residual.specs.SquaresLaws.{laidFrom, lane-from}
+use Rattle.residual.specs.Residual.{laidFrom}
+use Rattle.residual.specs.SquaresLaws.{lane-from}
 use Rattle.residual.specs.ResidualSteps.{stored-next}
 use Rattle.residual.proofs.flat.lay.Statement.{statement}
 use Rattle.residual.proofs.flat.lay.Tie as tie
