@@ -54,8 +54,8 @@ fn joined(a: u64, b: u64, c: u64, d: u64) -> u64
 fn four(s: &[u8], at: usize) -> u64
     ensures { λ r. ⌜ (r ≡ fourOf (now (s .entry)) at) × (r < 4294967296) ⌝ }
 {
-    if 4 <= s.len() {
-        if at <= s.len() - 4 {
+    if at < s.len() {
+        if 4 <= s.len() - at {
             return joined(
                 widest(s[at]),
                 widest(s[at + 1]),
