@@ -114,7 +114,7 @@ fn doublings(range: u32) -> u32
     u32::leading_zeros(range) ^ 24
 }
 
-// All of them at once, without a test whether there are any: no predictor could tell.
+// All of them at once, without a test whether there are any: that branch would be missed at every tenth symbol.
 fn lifted(w: Wide, value: u64, range: u32) -> Wide
     ensures { λ q. ⌜ q ≡ liftedOf w value range ⌝ }
 {
