@@ -1,4 +1,5 @@
--- The boolean decoder with a window of 64 bits: what its calls give, for every input. Arithmetic wraps as the code's does.
+-- The boolean decoder of RFC 6386, section 7.3, with a window of 64 bits: what its calls give, for every input. Arithmetic wraps as the code's
+-- does. `top` is the RFC's range less one; the RFC's value is the top of `value`, its bit_count stands in `count`.
 use Prim.Native.Nat.{ℕ, _+_, _-_, _*_, _/_, _%_, _^_}
 use mathlib.Core.List.{List}
 use mathlib.Core.Bool.{Bool, true, false}
@@ -31,7 +32,8 @@ moreOf s w = record { at = (w .at + 4) % 2 ^ 64; value = (w .value + fourOf s (w
 unfoldable pub fillOf : List ℕ → Wide → Wide
 fillOf s w = elim (leb 32 (w .count)) [ true ↦ w | false ↦ moreOf s w ]
 
--- ---- one symbol. The split less one, of a product of 32 bits; a one is where the top eight bits are above it
+-- ---- one symbol (read_bool). split = 1 + (((range - 1) * probability) >> 8), less one, of a product of 32 bits; a one is where the top eight
+-- bits are above it: value >= SPLIT
 abbrev pub lowOf : Wide → ℕ → ℕ
 lowOf w prob = w .top * prob % 2 ^ 32 / 256
 
@@ -39,17 +41,17 @@ lowOf w prob = w .top * prob % 2 ^ 32 / 256
 abbrev pub onOf : Wide → ℕ → Bool
 onOf w prob = ltb (lowOf w prob) (w .value / 2 ^ 56)
 
--- what the bit leaves of the range, and takes off the value
+-- what the bit leaves of the range: range -= split, or range = split
 abbrev pub rangeOf : ℕ → ℕ → Bool → ℕ
 rangeOf top x true = top - x
 rangeOf top x false = x + 1
 
--- the part of the value below the split, for a one
+-- what a one takes off the value: value -= SPLIT
 abbrev pub takenOff : ℕ → Bool → ℕ
 takenOff x true = (x + 1) * 2 ^ 56
 takenOff x false = 0
 
--- the doublings that bring a range of 1..255 to 128 or more: its leading zeros of 32 bits, 24 to 31, without the bits of 24
+-- while (range < 128), both are doubled: how often, for a range of 1..255, is its leading zeros of 32 bits, 24 to 31, without the bits of 24
 unfoldable pub doublingsOf : ℕ → ℕ
 doublingsOf range = bitXor (leadingZeros 32 range) 24
 
@@ -71,7 +73,7 @@ wideBitOf w prob =
       next = liftedOf w (w .value - takenOff (lowOf w prob) (onOf w prob)) (rangeOf (w .top) (lowOf w prob) (onOf w prob));
     }
 
--- ---- one symbol at probability 128 where the range is below 255: a half of it, doubled once, less one
+-- ---- one symbol at probability 128 (the sign of a number, section 13.2) where the range is below 255: a half of it, doubled once, less one
 abbrev pub oddOf : ℕ → Bool → ℕ
 oddOf top on = less32 top (bitOf on) / 2 * 2 + 1
 
