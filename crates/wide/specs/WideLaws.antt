@@ -339,8 +339,9 @@ module _ (s : List ℕ) (w : Wide) (r : Reader) (p : ℕ) (b : Bytes s) (h : p <
   top-is = omega (arith, m .range)
 
   low-is : lowOf w p + 1 ≡ splitOf (r .range) p
-  unfolding splitOf
-  low-is = rw top-is (omega (arith, mul-le-mul {n₁ = r .range - 1} {m₁ = p} {n₂ = 255} {m₂ = 255} (omega (arith, m .most)) (omega arith)))
+  low-is =
+      let i = split-is (r .range) p (omega (arith, m .least)) h in
+      rw top-is (omega (arith, i .0, mul-le-mul {n₁ = r .range - 1} {m₁ = p} {n₂ = 255} {m₂ = 255} (omega (arith, m .most)) (omega arith)))
 
   at-bit : (c : Bool) → c ≡ onOf w p → c ≡ paddedBit r p → Read s w r p (wideBitOf w p)
   unfolding wideBitOf paddedNext paddedBit
