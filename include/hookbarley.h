@@ -61,8 +61,8 @@ enum hookbarley_number {
  *                  macroblock
  * modes            lent: 20 bytes a macroblock (segment, skip, small, 16 luma modes, chroma mode). Modes: 0 DC, 1 TM, 2 V, 3 H, all
  *                  sixteen alike; where small is 1 each is 0 DC, 1 TM, 2 VE, 3 HE, 4 RD, 5 VR, 6 LD, 7 VL, 8 HD or 9 HU
- * strengths        lent: 4 bytes a macroblock for the loop filter (limit 0..189, inner 0..63, threshold 0..2, inside 1 where the inner
- *                  edges are filtered)
+ * strengths        lent: 6 bytes a macroblock: for the loop filter limit 0..189, inner 0..63, threshold 0..2, inside 1 where the inner
+ *                  edges are filtered; then its segment, and 1 where its modes are small, as the mode memory has them
  * finished         the macroblocks finished
  * first_reads, token_reads   what it cost: the symbols read from the first partition and from token partitions, those of a macroblock that
  *                  ran out too, up to the symbol that is missing. At most HOOKBARLEY_FIRST_MOST and HOOKBARLEY_TOKEN_MOST a macroblock,
@@ -93,8 +93,8 @@ enum { HOOKBARLEY_FIRST_MOST = 119, HOOKBARLEY_TOKEN_MOST = 7296 };
  * that stopped (6, 7) no sample of an unfinished macroblock moves: grey stays grey.
  *
  * y, u, v          lent: as hookbarley_decode left them
- * strengths        4 bytes a macroblock: limit (0: nothing is filtered; the macroblock's own edges use limit + 4), inner, threshold,
- *                  inside (inner edges are filtered where it is 1). Only read
+ * strengths        6 bytes a macroblock: limit (0: nothing is filtered; the macroblock's own edges use limit + 4), inner, threshold,
+ *                  inside (inner edges are filtered where it is 1), and two more that are not looked at. Only read
  * width, height    in samples, multiples of 16
  * simple           not 0: the simple filter, which touches luma only. The frame header's filter_type says which
  *
@@ -216,7 +216,7 @@ static inline size_t hookbarley_blocks(const struct hookbarley_tile *t) { return
 
 /* The bytes that a tile is lent in all: Y, U, V, columns, modes, strengths, one after the other. */
 static inline size_t hookbarley_room(const struct hookbarley_tile *t) {
-    return t->width * t->height / 2 * 3 + 13 * (t->width / 16) + (20 + 4) * hookbarley_blocks(t);
+    return t->width * t->height / 2 * 3 + 13 * (t->width / 16) + (20 + 6) * hookbarley_blocks(t);
 }
 
 /* Cuts that many bytes into the six. */
@@ -242,14 +242,14 @@ static inline uint32_t hookbarley_picture(const uint8_t *frame, size_t length, c
     return hookbarley_decode(frame, length, t->first_start, t->first_length, t->token_starts, 8, t->token_lengths, 8,
                              t->at, (uint32_t)t->range, (uint32_t)t->shifts, (uint32_t)t->window, t->count, header, HOOKBARLEY_ENTRIES,
                              t->width, t->height, m->y, t->width * t->height, m->u, chroma, m->v, chroma,
-                             m->columns, 13 * (t->width / 16), m->modes, 20 * blocks, m->strengths, 4 * blocks,
+                             m->columns, 13 * (t->width / 16), m->modes, 20 * blocks, m->strengths, 6 * blocks,
                              finished, first_reads, token_reads);
 }
 
 /* hookbarley_deblock of what was decoded. */
 static inline uint32_t hookbarley_deblock_picture(const struct hookbarley_tile *t, const struct hookbarley_memory *m) {
     size_t chroma = t->width / 2 * (t->height / 2);
-    return hookbarley_deblock(m->y, t->width * t->height, m->u, chroma, m->v, chroma, m->strengths, 4 * hookbarley_blocks(t),
+    return hookbarley_deblock(m->y, t->width * t->height, m->u, chroma, m->v, chroma, m->strengths, 6 * hookbarley_blocks(t),
                               t->width, t->height, (uint32_t)t->simple);
 }
 

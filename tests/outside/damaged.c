@@ -149,7 +149,7 @@ static void lengths_of(size_t w, size_t h, size_t *lent) {
     lent[U] = lent[V] = (w / 2) * (h / 2);
     lent[COLUMNS] = 13 * (w / 16);
     lent[MODES] = 20 * (w / 16) * (h / 16);
-    lent[STRENGTHS] = 4 * (w / 16) * (h / 16);
+    lent[STRENGTHS] = 6 * (w / 16) * (h / 16);
 }
 
 static uint32_t refusal(const struct call *c) {
@@ -194,7 +194,7 @@ static void same(const struct call *c, const struct result *a, const struct resu
     plane_same("u", a->mem[U], b->mem[U], c->w / 2, c->h / 2, 8, k);
     plane_same("v", a->mem[V], b->mem[V], c->w / 2, c->h / 2, 8, k);
     if (memcmp(a->mem[MODES], b->mem[MODES], 20 * k)) fail("modes of finished macroblocks differ");
-    if (memcmp(a->mem[STRENGTHS], b->mem[STRENGTHS], 4 * k)) fail("strengths of finished macroblocks differ");
+    if (memcmp(a->mem[STRENGTHS], b->mem[STRENGTHS], 6 * k)) fail("strengths of finished macroblocks differ");
 }
 
 /* What holds of one answer. */
@@ -215,7 +215,11 @@ static void sound(const struct call *c, const struct result *r, uint32_t want, i
     plane_rest("u", r->mem[U], c->w / 2, c->h / 2, 8, k);
     plane_rest("v", r->mem[V], c->w / 2, c->h / 2, 8, k);
     if (!all(r->mem[MODES] + 20 * k, 20 * (blocks - k), 0)) fail("modes of unfinished macroblocks are not 0");
-    if (!all(r->mem[STRENGTHS] + 4 * k, 4 * (blocks - k), 0)) fail("strengths of unfinished macroblocks are not 0");
+    if (!all(r->mem[STRENGTHS] + 6 * k, 6 * (blocks - k), 0)) fail("strengths of unfinished macroblocks are not 0");
+    for (size_t i = 0; i < blocks; i++) {
+        const uint8_t *t = r->mem[STRENGTHS] + 6 * i, *m = r->mem[MODES] + 20 * i;
+        if (t[4] != m[0] || t[5] != m[2]) fail("strengths of macroblock %zu have another segment or kind than its modes", i);
+    }
 }
 
 static size_t answers[10], calls;
@@ -279,7 +283,7 @@ static void position(uint8_t *p, ptrdiff_t d, int simple, int outer, int limit, 
 
 static void plain_plane(uint8_t *p, size_t w, size_t h, size_t side, int simple, const uint8_t *t) {
     for (size_t row = 0; row < h / side; row++)
-        for (size_t column = 0; column < w / side; column++, t += 4)
+        for (size_t column = 0; column < w / side; column++, t += 6)
             for (int way = 0; t[0] && way < 2; way++)
                 for (size_t e = 0; e < side; e += 4) {
                     if (e ? t[3] != 1 : !(way ? row : column)) continue;
@@ -733,15 +737,16 @@ static void deblocks(size_t times, struct result *r) {
         snprintf(where, sizeof where, "deblock %zu", t);
         size_t w = 16 * (1 + below(5)), h = 16 * (1 + below(5)), lent[LENT], spread = 1 + below(below(3) ? 20 : 256);
         lengths_of(w, h, lent);
-        size_t blocks = lent[STRENGTHS] / 4, tops[] = {below(4) ? 190 : 60, below(2) ? 64 : 256, below(2) ? 3 : 256, below(4) ? 2 : 256};
-        for (size_t i = 0; i < lent[STRENGTHS]; i++) strengths[i] = (uint8_t)below(tops[i % 4]);
+        size_t blocks = lent[STRENGTHS] / 6;
+        size_t tops[] = {below(4) ? 190 : 60, below(2) ? 64 : 256, below(2) ? 3 : 256, below(4) ? 2 : 256, 256, 256};
+        for (size_t i = 0; i < lent[STRENGTHS]; i++) strengths[i] = (uint8_t)below(tops[i % 6]);
         for (int b = Y; b <= V; b++) {
             uint8_t base = (uint8_t)draw();
             for (size_t i = 0; i < lent[b]; i++) r->mem[b][i] = (uint8_t)(base + below(spread));
         }
         size_t why = below(3) ? 0 : below(8), strengths_len = lent[STRENGTHS];
         uint32_t want = why & 1 ? 1 : why & 2 ? 4 : why & 4 ? 11 : 0;
-        if (why & 4) strengths[4 * below(blocks)] = (uint8_t)(190 + below(66));
+        if (why & 4) strengths[6 * below(blocks)] = (uint8_t)(190 + below(66));
         if (why & 2) {
             size_t *length = (size_t *[]){&lent[Y], &lent[U], &lent[V], &strengths_len}[below(4)];
             *length = below(3) ? *length - 1 : below(2) ? 0 : *length + 1;

@@ -173,12 +173,12 @@ static struct edge drawn(void) {
 static void through_deblock(void) {
     struct edge e = drawn();
     struct told t;
-    uint8_t y[512], u[128], v[128], want[512], strengths[8] = {0};
+    uint8_t y[512], u[128], v[128], want[512], strengths[12] = {0};
     e.simple = (uint8_t)below(2);
     e.outer = 1;
     uint8_t limit = (uint8_t)(1 + below(189));
     e.limit = limit + 4;
-    strengths[4] = limit, strengths[5] = e.inner, strengths[6] = e.threshold;
+    strengths[6] = limit, strengths[7] = e.inner, strengths[8] = e.threshold;
     memset(u, 128, sizeof u);
     memset(v, 128, sizeof v);
     for (int i = 0; i < 512; i++) want[i] = y[i] = (uint8_t)draw();
@@ -190,7 +190,7 @@ static void through_deblock(void) {
         check(&e, &t);
         memcpy(want + 32 * row + 12, t.after, 8);
     }
-    if (hookbarley_deblock(y, 512, u, 128, v, 128, strengths, 8, 32, 16, e.simple)) fail("deblocking refuses");
+    if (hookbarley_deblock(y, 512, u, 128, v, 128, strengths, 12, 32, 16, e.simple)) fail("deblocking refuses");
     if (memcmp(y, want, 512)) fail("deblocking leaves other samples than those told");
 }
 

@@ -13,7 +13,7 @@ static volatile uint8_t sink;
 uint32_t __wrap_hookbarley_decode(PARAMETERS) {
     uint8_t before = y_len ? y[0] : 0;
     uint32_t n = __real_hookbarley_decode(bytes, bytes_len, first_start, first_length, starts, starts_len, lengths, lengths_len, at, range, shifts, window, count, header, header_len, width, height, y, y_len, u, u_len, v, v_len, columns, columns_len, modes, modes_len, strengths, strengths_len, finished, first_reads, token_reads);
-    size_t blocks = strengths_len / 4;
+    size_t blocks = strengths_len / 6;
     (void)before; (void)blocks;
 #if FAULT == 1 /* reads the byte behind the input */
     sink = bytes[bytes_len];
@@ -34,7 +34,7 @@ uint32_t __wrap_hookbarley_decode(PARAMETERS) {
 #elif FAULT == 9 /* count is checked before size */
     if (n == 1 && (count < 1 || count > 8)) n = 2;
 #elif FAULT == 10 /* a finished strength is lost when the picture stops */
-    if ((n == 6 || n == 7) && *finished > 0) strengths[4 * *finished - 1] ^= 1;
+    if ((n == 6 || n == 7) && *finished > 0) strengths[6 * *finished - 3] ^= 1;
 #elif FAULT == 11 /* column memory is empty after a stop */
     if (n == 6 || n == 7) for (size_t i = 0; i < columns_len; i++) columns[i] = 0;
 #elif FAULT == 12 /* row 0 depends on the last partition */
@@ -51,6 +51,12 @@ uint32_t __wrap_hookbarley_decode(PARAMETERS) {
     if (n == 7) *token_reads += HOOKBARLEY_TOKEN_MOST;
 #elif FAULT == 21 /* the symbols of a macroblock that ran out are not all counted */
     if (n == 7 && *token_reads) --*token_reads;
+#elif FAULT == 23 /* segment and small are exchanged in a strength record */
+    for (size_t i = 0; (n == 0 || n == 6 || n == 7) && i < *finished; i++) {
+        uint8_t segment = strengths[6 * i + 4];
+        strengths[6 * i + 4] = strengths[6 * i + 5];
+        strengths[6 * i + 5] = segment;
+    }
 #elif FAULT == 22 /* the symbol that is missing is counted */
     if (n == 6) ++*first_reads;
 #endif
@@ -71,7 +77,7 @@ uint32_t __wrap_hookbarley_deblock(PLANES) {
 #elif FAULT == 15 /* writes into the strengths */
     if (n == 0) ((uint8_t *)strengths)[3] = 1;
 #elif FAULT == 16 /* a sample of an unfinished macroblock moves */
-    if (n == 0 && strengths_len > 4 && strengths[strengths_len - 4] == 0) y[y_len - 1] ^= 1;
+    if (n == 0 && strengths_len > 6 && strengths[strengths_len - 6] == 0) y[y_len - 1] ^= 1;
 #endif
     return n;
 }

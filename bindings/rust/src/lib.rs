@@ -159,7 +159,7 @@ impl Memory {
             v: vec![fill; (width / 2) * (height / 2)],
             columns: vec![fill; 13 * (width / 16)],
             modes: vec![fill; 20 * blocks],
-            strengths: vec![fill; 4 * blocks],
+            strengths: vec![fill; 6 * blocks],
         }
     }
 }

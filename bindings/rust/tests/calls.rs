@@ -186,9 +186,13 @@ fn real_tile_cut_everywhere() {
             assert_eq!(mem.u[..64 * k], whole.u[..64 * k]);
             assert_eq!(mem.v[..64 * k], whole.v[..64 * k]);
             assert_eq!(mem.modes[..20 * k], whole.modes[..20 * k]);
-            assert_eq!(mem.strengths[..4 * k], whole.strengths[..4 * k]);
+            assert_eq!(mem.strengths[..6 * k], whole.strengths[..6 * k]);
             assert!(mem.y[256 * k..].iter().chain(&mem.u[64 * k..]).chain(&mem.v[64 * k..]).all(|&x| x == 128));
-            assert!(mem.modes[20 * k..].iter().chain(&mem.strengths[4 * k..]).all(|&x| x == 0));
+            // A strength record ends with its mode record's segment and small.
+            for (t, m) in mem.strengths.chunks(6).zip(mem.modes.chunks(20)) {
+                assert_eq!([t[4], t[5]], [m[0], m[2]]);
+            }
+            assert!(mem.modes[20 * k..].iter().chain(&mem.strengths[6 * k..]).all(|&x| x == 0));
         }
     }
 }
@@ -226,7 +230,7 @@ fn deblocks_an_edge() {
     for (i, x) in mem.y.iter_mut().enumerate() {
         *x = if i % 32 < 16 { 100 } else { 110 };
     }
-    mem.strengths = vec![21, 0, 0, 0, 21, 0, 0, 0];
+    mem.strengths = vec![21, 0, 0, 0, 3, 1, 21, 0, 0, 0, 255, 255];
     let before = mem.clone();
     assert_eq!(deblock(&mut mem, 32, 16, false), Deblocked::Done);
     for row in mem.y.chunks(32) {
@@ -237,7 +241,7 @@ fn deblocks_an_edge() {
     assert_eq!(&simple.y[12..20], &[100, 100, 100, 102, 107, 110, 110, 110]);
     // limit 0: nothing
     let mut still = before.clone();
-    still.strengths = vec![0; 8];
+    still.strengths = vec![0; 12];
     assert_eq!(deblock(&mut still, 32, 16, false), Deblocked::Done);
     assert_eq!((&still.y, &still.u, &still.v), (&before.y, &before.u, &before.v));
 }
@@ -246,7 +250,7 @@ fn deblocks_an_edge() {
 fn deblocking_refuses_and_changes_nothing() {
     let good = Memory::new(32, 16, 100);
     let mut limit = good.clone();
-    limit.strengths[4] = 190;
+    limit.strengths[6] = 190;
     let mut short = limit.clone();
     short.v.pop();
     for (number, mem, width) in [(11, &limit, 32), (4, &short, 32), (1, &short, 33), (4, &good, 16)] {

@@ -1,25 +1,30 @@
 -- What deblocking leaves alone. A position looks at eight samples and moves at most six, so an edge moves three samples on either side
--- of it; what stands in macroblock rows from P on decides nothing above them but three sample rows; and no macroblock moves a sample of
--- a later one.
+-- of it; what stands in macroblock rows from P on decides nothing above them but three sample rows; no macroblock moves a sample of
+-- a later one; and of the strength records nothing but the strengths counts.
 use Prim.Native.Nat.{ℕ, zero, suc, _+_, _-_, _*_, _/_, _%_, _≤_, _<_}
 use mathlib.Core.Path.{_≡_, refl, sym, _∙_, ap}
-use mathlib.Core.Bool.{Bool, true, false, not}
+use mathlib.Core.Bool.{Bool, true, false, cond, not}
 use mathlib.Core.List.{List}
 use mathlib.Core.Logic.{_⊎_, inl, inr}
 use native.Mathlib.Nat.{add-mul, one-mul, mul-comm, mul-le-mul-right, add-suc, add-zero, le-div-iff-mul-le, div-lt-iff-lt-mul, div-add-mod'}
 use native.Mathlib.Omega.{arith}
-use lib.Dec.{eqb}
+use lib.Dec.{eqb, leb}
 use lib.ListN.{length, getD, set, length-set}
 use lib.Seq.{getD-set-same, getD-set-other, set-out}
 use Rattle.numbers.specs.Tests.{lt-or, eq-or}
 use Rattle.numbers.specs.Lists.{build-same}
+use Rattle.numbers.specs.Tables.{allBelow}
 use Rattle.filter.specs.declared.strengths.Strength.{Strength}
-use Rattle.lent.specs.Records.{strengthAt}
+use Rattle.tile.specs.Checks.{sidesOf}
+use Rattle.lent.specs.Records.{strengthWidth, strengthAt}
+use Rattle.macroblock.specs.Macroblock.{Planes}
 use Rattle.planes.specs.Predict.{Size}
 use Rattle.planes.specs.Places.{size-some, next-row}
 use Rattle.deblock.specs.declared.edges.Edge.{Edge}
-use Rattle.deblock.specs.Deblock.{Change, turns, when, acrossOf, laidBack, keptOf, positionOf, sweepOf, verticalEdges, horizontalEdges, squareOf, macroblockEdges, rasterOf}
+use Rattle.deblock.specs.declared.Deblocked.the-variants.{Done}
+use Rattle.deblock.specs.Deblock.{Change, turns, when, acrossOf, laidBack, keptOf, positionOf, sweepOf, verticalEdges, horizontalEdges, squareOf, macroblockEdges, rasterOf, planesDeblocked, deblockLengths, limitsOf, deblockRefusal, deblockOf}
 use Rattle.deblock.specs.DeblockLaws.{Closed, turns-closed, when-closed, verticals-closed, horizontals-closed, square-closed, laid-other, block-no}
+use Rattle.deblock.specs.ChecksLaws as checks
 use Rattle.deblock.specs.Located.{size-eight, inner-few, past-first, column-in, row-in}
 
 -- ---- two planes that agree in the places S
@@ -269,3 +274,32 @@ pub when-same : (b : Bool) (f : Change) (p : List ℕ) (i : ℕ) → getD (f p) 
 unfolding when
 when-same true f p i h = h
 when-same false f p i h = refl
+
+-- ---- THE LAW OF RECORDS (M-106): of a strength record nothing but the strengths is looked at
+module _ (m : Planes) (s t : List ℕ) (w h : ℕ) (simple : Bool) (e : length s ≡ length t) (f : (k : ℕ) → strengthAt s k ≡ strengthAt t k) where
+  refusal-same : (y u v : ℕ) → deblockRefusal w h y u v s ≡ deblockRefusal w h y u v t
+  unfolding deblockRefusal limitsOf
+  refusal-same y u v = λ i. cond (sidesOf w h) (cond (deblockLengths w h y u v (e i)) (cond (allBelow (e i / strengthWidth) (λ k. leb (f k i .limit) 189)) 0 11) 4) 1
+
+  planes-same : planesDeblocked simple s (w / 16) (h / 16) m ≡ planesDeblocked simple t (w / 16) (h / 16) m
+  unfolding planesDeblocked
+  planes-same =
+      let all : ℕ = w / 16 * (h / 16) in
+      λ i. record {
+        y = raster-same simple s t 16 (w / 16) all (m .y) (λ k l. f k) i;
+        u = when (not simple) (λ p. raster-same simple s t 8 (w / 16) all p (λ k l. f k) i) (m .u);
+        v = when (not simple) (λ p. raster-same simple s t 8 (w / 16) all p (λ k l. f k) i) (m .v);
+      }
+
+  pub deblock-same : deblockOf m s w h simple ≡ deblockOf m t w h simple
+  deblock-same = go (deblockRefusal w h (length (m .y)) (length (m .u)) (length (m .v)) s) refl
+    where
+      there : deblockRefusal w h (length (m .y)) (length (m .u)) (length (m .v)) t ≡ deblockRefusal w h (length (m .y)) (length (m .u)) (length (m .v)) s
+      there = sym (refusal-same (length (m .y)) (length (m .u)) (length (m .v)))
+
+      go : (k : ℕ) → deblockRefusal w h (length (m .y)) (length (m .u)) (length (m .v)) s ≡ k → deblockOf m s w h simple ≡ deblockOf m t w h simple
+      go zero g =
+          sym (checks.done m s w h simple (sym g) refl)
+          ∙ ap (λ (p : Planes). record { answer = Done; planes = p }) planes-same
+          ∙ checks.done m t w h simple (sym (there ∙ g)) refl
+      go (suc k) g = checks.deblock-refused m s w h simple k g ∙ sym (checks.deblock-refused m t w h simple k (there ∙ g))

@@ -18,7 +18,8 @@ pub enum Deblocked {
     Refused(u32),
 }
 
-// Deblocks the planes in place. `strengths` has 4 bytes a macroblock: limit, inner, threshold, inside. The simple kind touches luma only.
+// Deblocks the planes in place. `strengths` has 6 bytes a macroblock: limit, inner, threshold, inside; the last two are not
+// looked at. The simple kind touches luma only.
 pub fn deblock(
     y: &mut [u8],
     u: &mut [u8],

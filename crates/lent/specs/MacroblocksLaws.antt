@@ -2,12 +2,12 @@
 use Prim.Native.Nat.{ℕ, suc, _+_, _<_}
 use mathlib.Core.Path.{_≡_, refl, sym, _∙_, ap}
 use mathlib.Core.List.{List, [], _∷_, _++_}
-use mathlib.Core.Bool.{Bool, true, false}
+use mathlib.Core.Bool.{Bool, true, false, _&&_}
 use lib.ListN.{length, getD, length-append, List·getD-append}
 use lib.Seq.{getD-append-add, getD-append-seam}
-use lib.Dec.{lit<}
+use lib.Dec.{ltb, lit<}
 use borrow.Author.Tests.{lt-ltb}
-use Rattle.numbers.specs.Tests.{both-true}
+use Rattle.numbers.specs.Tests.{both-true, both-left}
 use Rattle.numbers.specs.Flags.{bitOf}
 use Rattle.numbers.specs.Runs.{copied}
 use Rattle.filter.specs.declared.strengths.Strength.{Strength}
@@ -17,7 +17,8 @@ use Rattle.modes.specs.ModesLaws.{InRange}
 use Rattle.modes.specs.Answers.{kindsOf}
 use Rattle.lent.specs.declared.macroblocks.StrengthRecord.{StrengthRecord}
 use Rattle.numbers.specs.declared.Checked.the-variants as K
-use Rattle.lent.specs.Records.{recordsIn, modeWidth, modeRecord, isOn, kindsIn, modesIn, kindsAt, modesAt, modeSet, kindsFine, modeFound, strengthWidth, strengthRecord, strengthIn, strengthAt, strengthSet, strengthFound}
+use Rattle.filter.specs.Strengths.{strengthFine}
+use Rattle.lent.specs.Records.{recordsIn, Taken, modeWidth, modeRecord, isOn, kindsIn, modesIn, kindsAt, modesAt, modeSet, kindsFine, modeFound, strengthWidth, strengthRecord, strengthIn, strengthAt, strengthSet, strengthFound}
 use Rattle.lent.specs.RecordsLaws.{copied-middle, bytes-are, record-back, record-other, record-set-length, read-good}
 
 -- ---- modes
@@ -70,21 +71,22 @@ pub kinds-fine : (m : Macroblock) → InRange m → kindsFine (kindsOf m) ≡ tr
 kinds-fine m i = both-true (lt-ltb (m .segment) 4 (i .segment)) (lt-ltb (m .chroma) 4 (i .chroma))
 
 -- ---- strengths
-module _ (mem : List ℕ) (i : ℕ) (t : Strength) where
-  pub strength-set-length : length (strengthSet mem i t) ≡ length mem
-  strength-set-length = record-set-length strengthWidth mem i (strengthRecord t)
+module _ (mem : List ℕ) (i : ℕ) (t : Strength) (k : Kinds) where
+  pub strength-set-length : length (strengthSet mem i t k) ≡ length mem
+  strength-set-length = record-set-length strengthWidth mem i (strengthRecord t k)
 
   -- what was written is read back
-  pub strength-back : i < recordsIn strengthWidth mem → strengthAt (strengthSet mem i t) i ≡ t
-  strength-back h = ap strengthIn (record-back strengthWidth mem i (strengthRecord t) (lit< tt) h refl)
+  pub strength-back : i < recordsIn strengthWidth mem → strengthAt (strengthSet mem i t k) i ≡ t
+  strength-back h = ap strengthIn (record-back strengthWidth mem i (strengthRecord t k) (lit< tt) h refl)
 
   -- the other records stay
-  pub strength-other : (o : ℕ) → (o ≡ i → ⊥) → strengthAt (strengthSet mem i t) o ≡ strengthAt mem o
-  strength-other o n = ap strengthIn (record-other strengthWidth mem i (strengthRecord t) o n)
+  pub strength-other : (o : ℕ) → (o ≡ i → ⊥) → strengthAt (strengthSet mem i t k) o ≡ strengthAt mem o
+  strength-other o n = ap strengthIn (record-other strengthWidth mem i (strengthRecord t k) o n)
 
-pub strength-read : (mem : List ℕ) (i : ℕ) → i < recordsIn strengthWidth mem → strengthFound mem i ≡ record { answer = K.Done; strength = strengthAt mem i }
-strength-read mem i h = λ o. let r = read-good strengthWidth mem i h o in record { answer = r .answer; strength = strengthIn (r .bytes) }
+-- strengths in range can be written
+pub strength-fine : (t : Strength) (m : Macroblock) → strengthFine t ≡ true → kindsFine (kindsOf m) ≡ true → strengthFine t && ltb (m .segment) 4 ≡ true
+strength-fine t m e f = both-true e (both-left (ltb (m .segment) 4) (ltb (m .chroma) 4) f)
 
--- as a caller finds them
+-- the strengths as a caller finds them, whatever stands behind them in the record
 pub strength-is : (mem : List ℕ) (i : ℕ) {r : StrengthRecord} → r ≡ strengthFound mem i → i < recordsIn strengthWidth mem → r .strength ≡ strengthAt mem i
-strength-is mem i e h = ap (λ (r : StrengthRecord). r .strength) (e ∙ strength-read mem i h)
+strength-is mem i e h = ap (λ (r : StrengthRecord). r .strength) e ∙ ap (λ (r : Taken). strengthIn (r .bytes)) (read-good strengthWidth mem i h)

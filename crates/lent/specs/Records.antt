@@ -140,30 +140,40 @@ modeWritten mem i k modes = recordWritten modeWidth mem i (kindsFine k && eachBe
 abbrev pub modeFound : List ℕ → ℕ → ModeRecord
 modeFound mem i = record { answer = recordFound modeWidth mem i .answer; kinds = kindsIn (recordFound modeWidth mem i .bytes); modes = modesIn (recordFound modeWidth mem i .bytes) }
 
--- ---- the strengths of a macroblock, four bytes: limit, inner, threshold, inside
+-- ---- the strengths of a macroblock, six bytes: limit, inner, threshold, inside; then (M-106) its segment, and 1 if its modes are small
 abbrev pub strengthWidth : ℕ
-strengthWidth = 4
+strengthWidth = 6
 
--- the four bytes of a macroblock's strengths
-abbrev pub strengthRecord : Strength → List ℕ
-strengthRecord t = t .limit ∷ t .inner ∷ t .threshold ∷ t .inside ∷ []
+-- the six bytes of a macroblock's strengths and kinds
+abbrev pub strengthRecord : Strength → Kinds → List ℕ
+strengthRecord t k = t .limit ∷ t .inner ∷ t .threshold ∷ t .inside ∷ k .segment ∷ bitOf (k .small) ∷ []
 
--- the strengths that four bytes hold
+-- the strengths that six bytes hold: the first four
 abbrev pub strengthIn : List ℕ → Strength
 strengthIn b = record { limit = getD b 0 0; inner = getD b 1 0; threshold = getD b 2 0; inside = getD b 3 0 }
+
+-- the segment that they hold
+abbrev pub segmentIn : List ℕ → ℕ
+segmentIn b = getD b 4 0
+
+-- whether modes are small, by them
+abbrev pub smallIn : List ℕ → Bool
+smallIn b = isOn (getD b 5 0)
 
 -- those of macroblock i
 abbrev pub strengthAt : List ℕ → ℕ → Strength
 strengthAt mem i = strengthIn (recordAt strengthWidth mem i)
 
 -- the memory with the strengths of macroblock i written
-abbrev pub strengthSet : List ℕ → ℕ → Strength → List ℕ
-strengthSet mem i t = recordSet strengthWidth mem i (strengthRecord t)
+abbrev pub strengthSet : List ℕ → ℕ → Strength → Kinds → List ℕ
+strengthSet mem i t k = recordSet strengthWidth mem i (strengthRecord t k)
 
 -- `write_strength`
-abbrev pub strengthWritten : List ℕ → ℕ → Strength → Written
-strengthWritten mem i t = recordWritten strengthWidth mem i (strengthFine t) (strengthRecord t)
+abbrev pub strengthWritten : List ℕ → ℕ → Strength → Kinds → Written
+strengthWritten mem i t k = recordWritten strengthWidth mem i (strengthFine t && ltb (k .segment) 4) (strengthRecord t k)
 
 -- `read_strength`
 abbrev pub strengthFound : List ℕ → ℕ → StrengthRecord
-strengthFound mem i = record { answer = recordFound strengthWidth mem i .answer; strength = strengthIn (recordFound strengthWidth mem i .bytes) }
+strengthFound mem i =
+    let b = recordFound strengthWidth mem i .bytes in
+    record { answer = recordFound strengthWidth mem i .answer; strength = strengthIn b; segment = segmentIn b; small = smallIn b }

@@ -1,5 +1,5 @@
 // The records of a macroblock. In mode memory: segment, skip, small, sixteen luma modes, chroma. In strength memory: limit, inner,
-// threshold, inside. Only this file knows.
+// threshold, inside, then segment and small once more (M-106). Only this file knows.
 use crate::records::read;
 use crate::records::store;
 use crate::records::write;
@@ -14,7 +14,7 @@ ghost use Rattle.lent.specs.Records.{Written, modeRecord, kindsFine, mod
 
 pub const MODE_WIDTH: usize = 20;
 
-pub const STRENGTH_WIDTH: usize = 4;
+pub const STRENGTH_WIDTH: usize = 6;
 
 // A macroblock's modes as they were found; zeros where they are refused.
 pub struct ModeRecord {
@@ -23,10 +23,12 @@ pub struct ModeRecord {
     pub modes: [u8; 16],
 }
 
-// A macroblock's strengths as they were found; zeros where they are refused.
+// A macroblock's strengths as they were found, its segment and whether its modes are small; zeros where they are refused.
 pub struct StrengthRecord {
     pub answer: Checked,
     pub strength: Strength,
+    pub segment: u8,
+    pub small: bool,
 }
 
 fn bit(b: bool) -> u8
@@ -98,15 +100,23 @@ pub fn read_mode_record(mem: &[u8], i: usize) -> ModeRecord
     }
 }
 
-// Writes the strengths of macroblock i.
-pub fn write_strength(mem: &mut [u8], i: usize, t: Strength) -> Checked
-    ensures { λ q. ⌜ _≡_ {A = Written} (record { answer = q; mem = now (mem .exit) }) (strengthWritten (now (mem .entry)) i t) ⌝ }
+// Writes the strengths of macroblock i, and of its kinds the segment and whether its modes are small.
+pub fn write_strength(mem: &mut [u8], i: usize, t: Strength, kinds: Kinds) -> Checked
+    ensures { λ q. ⌜ _≡_ {A = Written} (record { answer = q; mem = now (mem .exit) })
+        (strengthWritten (now (mem .entry)) i t kinds) ⌝ }
 {
-    let bytes = [t.limit, t.inner, t.threshold, t.inside];
-    write(mem, i, strength_fine(t), &bytes)
+    let bytes = [
+        t.limit,
+        t.inner,
+        t.threshold,
+        t.inside,
+        kinds.segment,
+        bit(kinds.small),
+    ];
+    write(mem, i, strength_fine(t) & (kinds.segment < 4), &bytes)
 }
 
-// Reads the strengths of macroblock i, in range or not.
+// Reads the strengths of macroblock i, in range or not; small is true where its byte is not 0.
 pub fn read_strength(mem: &[u8], i: usize) -> StrengthRecord
     ensures { λ q. ⌜ q ≡ strengthFound (now (mem .entry)) i ⌝ }
 {
@@ -120,5 +130,7 @@ pub fn read_strength(mem: &[u8], i: usize) -> StrengthRecord
             threshold: b[2],
             inside: b[3],
         },
+        segment: b[4],
+        small: b[5] != 0,
     }
 }

@@ -13,6 +13,8 @@ use Rattle.reader.specs.BooleanLaws.{Bytes}
 use Rattle.lent.specs.Records.{Columns, recordsIn, strengthWidth, strengthIn, strengthAt, strengthSet}
 use Rattle.lent.specs.RecordsLaws.{record-zeros}
 use Rattle.lent.specs.MacroblocksLaws.{strength-back, strength-other}
+use Rattle.modes.specs.declared.answers.Kinds.{Kinds}
+use Rattle.modes.specs.Answers.{kindsOf}
 use Rattle.filter.specs.Strengths.{strengthFine}
 use Rattle.filter.specs.declared.strengths.Strength.{Strength}
 use Rattle.macroblock.specs.Macroblock.{Finished, Step, finished, no-modes, no-tokens}
@@ -32,12 +34,12 @@ pub record Final (m : Memory) : Type 0 where
   pub contexts : Columns (m .columns)
   pub limits : Limits (m .strengths)
 
-limits-set : (mem : List ℕ) (k : ℕ) (t : Strength) → k < recordsIn strengthWidth mem → strengthFine t ≡ true → Limits mem → Limits (strengthSet mem k t)
-limits-set mem k t h e l i = ⊎-elim
+limits-set : (mem : List ℕ) (k : ℕ) (t : Strength) (c : Kinds) → k < recordsIn strengthWidth mem → strengthFine t ≡ true → Limits mem → Limits (strengthSet mem k t c)
+limits-set mem k t kinds h e l i = ⊎-elim
     (λ (c : i ≡ k).
-    subst (λ (z : Strength). z .limit ≤ 189) (sym (ap (λ (j : ℕ). strengthAt (strengthSet mem k t) j) c ∙ strength-back mem k t h))
+    subst (λ (z : Strength). z .limit ≤ 189) (sym (ap (λ (j : ℕ). strengthAt (strengthSet mem k t kinds) j) c ∙ strength-back mem k t kinds h))
     (leb-true (t .limit) 189 (first (leb (t .limit) 189) (leb (t .inner) 63) (leb (t .threshold) 2) (leb (t .inside) 1) e)))
-    (λ c. subst (λ (z : Strength). z .limit ≤ 189) (sym (strength-other mem k t i c)) (l i))
+    (λ c. subst (λ (z : Strength). z .limit ≤ 189) (sym (strength-other mem k t kinds i c)) (l i))
     (eq-or i k)
   where
     first : (a b c d : Bool) → a && b && c && d ≡ true → a ≡ true
@@ -59,7 +61,7 @@ module _ (P : Picture) (s : Shared P) (a : Bytes (P .first)) (b : (q : ℕ) → 
       go rest (finished x) e =
           let z = ends-at P S k s l below a (b (partitionOf P k) (partition-below P k below (s .least))) x e in
           rw (run-finished n P k S x e)
-          (rest x (live-next P S k s l below x z) (limits-set (S .mem .strengths) k (x .strength) (room-at P S k s l below .strengths) (z .strength) m) (omega arith))
+          (rest x (live-next P S k s l below x z) (limits-set (S .mem .strengths) k (x .strength) (kindsOf (x .modes)) (room-at P S k s l below .strengths) (z .strength) m) (omega arith))
       go rest no-modes e = rw (run-no-modes n P k S e) (record { contexts = l .contexts; limits = m })
       go rest no-tokens e = rw (run-no-tokens n P k S e) (record { contexts = l .contexts; limits = m })
 

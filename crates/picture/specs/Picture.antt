@@ -108,7 +108,8 @@ stepAt P k S =
     let q = partitionOf P k in
     stepOf (P .first) (P .token q) (readersAt S q) (P .frame) (P .table) (aroundAt S (columnOf P k)) (placeOf P k) (planesIn (S .mem))
 
--- what a finished macroblock writes: its samples, its column's record, its mode record, its strengths
+-- what a finished macroblock writes: its samples, its column's record, its mode record, its strengths with the segment and the kind that the
+-- mode record has (M-106)
 abbrev pub written : (k column : ℕ) → Memory → Finished → Memory
 written k column m x = record {
   y = x .planes .y;
@@ -116,7 +117,7 @@ written k column m x = record {
   v = x .planes .v;
   columns = columnSet (m .columns) column (x .top);
   modes = modeSet (m .modes) k (kindsOf (x .modes)) (x .modes .modes);
-  strengths = strengthSet (m .strengths) k (x .strength);
+  strengths = strengthSet (m .strengths) k (x .strength) (kindsOf (x .modes));
 }
 
 -- the state that a finished macroblock leaves to the next

@@ -183,7 +183,7 @@ module _ (P : Picture) (S : State) (k : ℕ) (s : Shared P) (l : Live P S) (h : 
     v = z .v ∙ l .v;
     columns = column-set-length (S .mem .columns) (columnOf P k) (x .top) ∙ l .columns;
     modes = mode-set-length (S .mem .modes) k (kindsOf (x .modes)) (x .modes .modes) ∙ l .modes;
-    strengths = strength-set-length (S .mem .strengths) k (x .strength) ∙ l .strengths;
+    strengths = strength-set-length (S .mem .strengths) k (x .strength) (kindsOf (x .modes)) ∙ l .strengths;
   }
     where
       valid : (q : ℕ) → q < P .count → Valid (P .token q) (getD (set (S .readers) (partitionOf P k) (x .readers .token)) q noReader)

@@ -4,7 +4,7 @@ use mathlib.Core.Path.{_≡_, refl, sym, _∙_, ap, ap₂}
 use mathlib.Core.Bool.{true, false, _&&_}
 use mathlib.Core.List.{List}
 use native.Mathlib.Omega.{arith}
-use lib.Dec.{eqb}
+use lib.Dec.{eqb, ltb}
 use lib.ListN.{length}
 use borrow.Author.Tests.{eq-eqb, ne-eqb}
 use Rattle.numbers.specs.Tests.{both-true}
@@ -19,7 +19,7 @@ use Rattle.numbers.specs.declared.Checked.{Checked}
 use Rattle.lent.specs.Records.{Written, recordsIn, columnWidth, modeWidth, strengthWidth, columnAt, columnFound, columnRecord, columnSet, columnWritten, kindsFine, modeRecord, modeSet, modeWritten, strengthRecord, strengthSet, strengthWritten}
 use Rattle.lent.specs.RecordsLaws.{write-good}
 use Rattle.lent.specs.ColumnsLaws.{column-read}
-use Rattle.lent.specs.MacroblocksLaws.{kinds-fine}
+use Rattle.lent.specs.MacroblocksLaws.{kinds-fine, strength-fine}
 use Rattle.macroblock.specs.declared.whole.Finish.{Finish}
 use Rattle.macroblock.specs.declared.whole.Finish.the-variants as F
 use Rattle.macroblock.specs.declared.whole.Outcome.{Outcome}
@@ -121,7 +121,7 @@ module _ (left : Context) (k column : ℕ) (m : Memory) {w : Outcome} {p : Plane
   module _ {a : Readers} {n₁ n₂ n₃ : Checked} {columns modes strengths first tokens : List ℕ} (g : w .answer ≡ F.Done a) (r : Room column k (m .columns) (m .modes) (m .strengths))
       (c : record { answer = n₁; mem = columns } ≡ columnWritten (m .columns) column (w .top))
       (d : record { answer = n₂; mem = modes } ≡ modeWritten (m .modes) k (w .kinds) (w .modes))
-      (f : record { answer = n₃; mem = strengths } ≡ strengthWritten (m .strengths) k (w .strength)) where
+      (f : record { answer = n₃; mem = strengths } ≡ strengthWritten (m .strengths) k (w .strength) (w .kinds)) where
     done : (x : Finished) → Ends first tokens (planesIn m) x → record { answer = w; planes = p } ≡ toMacroblockCalled (planesIn m) (finished x) → afterOf a w p columns modes strengths ≡ turned left k column m (finished x)
     done x z e =
         let ew : w ≡ shown x = ap (λ (q : MacroblockCalled). q .answer) e in
@@ -130,8 +130,8 @@ module _ (left : Context) (k column : ℕ) (m : Memory) {w : Outcome} {p : Plane
         ap (λ (q : Written). q .mem) (c ∙ ap (λ (q : Outcome). columnWritten (m .columns) column (q .top)) ew ∙ write-good columnWidth (m .columns) column (contextFine (x .top)) (columnRecord (x .top)) (r .columns) (z .top)) in
         let ed : modes ≡ modeSet (m .modes) k (kindsOf (x .modes)) (x .modes .modes) =
         ap (λ (q : Written). q .mem) (d ∙ ap (λ (q : Outcome). modeWritten (m .modes) k (q .kinds) (q .modes)) ew ∙ write-good modeWidth (m .modes) k (kindsFine (kindsOf (x .modes)) && eachBelow 10 (x .modes .modes)) (modeRecord (kindsOf (x .modes)) (x .modes .modes)) (r .modes) (both-true (z .kinds) (z .modes))) in
-        let ef : strengths ≡ strengthSet (m .strengths) k (x .strength) =
-        ap (λ (q : Written). q .mem) (f ∙ ap (λ (q : Outcome). strengthWritten (m .strengths) k (q .strength)) ew ∙ write-good strengthWidth (m .strengths) k (strengthFine (x .strength)) (strengthRecord (x .strength)) (r .strengths) (z .strength)) in
+        let ef : strengths ≡ strengthSet (m .strengths) k (x .strength) (kindsOf (x .modes)) =
+        ap (λ (q : Written). q .mem) (f ∙ ap (λ (q : Outcome). strengthWritten (m .strengths) k (q .strength) (q .kinds)) ew ∙ write-good strengthWidth (m .strengths) k (strengthFine (x .strength) && ltb (x .modes .segment) 4) (strengthRecord (x .strength) (kindsOf (x .modes))) (r .strengths) (strength-fine (x .strength) (x .modes) (z .strength) (z .kinds))) in
         λ i. record { answer = ea i; left = ew i .left; mem = record { y = e i .planes .y; u = e i .planes .u; v = e i .planes .v; columns = ec i; modes = ed i; strengths = ef i } }
 
     pub turn-done : (s : Step) → record { answer = w; planes = p } ≡ toMacroblockCalled (planesIn m) s → ((x : Finished) → s ≡ finished x → Ends first tokens (planesIn m) x) → afterOf a w p columns modes strengths ≡ turned left k column m s

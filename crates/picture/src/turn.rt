@@ -110,7 +110,7 @@ pub(crate) fn turn(
     let right = m.left;
     write_column(&mut columns[..], place.column, below);
     write_mode_record(&mut modes[..], task.k, kinds, &all);
-    write_strength(&mut strengths[..], task.k, strength);
+    write_strength(&mut strengths[..], task.k, strength, kinds);
     Ending {
         answer: Finish::Done(after),
         left: right,

@@ -435,8 +435,8 @@ pub lent-read-mode-record : (mem : List ℕ) (i : ℕ) → One (λ o. o ≡ mode
 lent-read-mode-record mem i = determined (modeFound mem i)
 
 -- lent::macroblocks::write_strength
-pub lent-write-strength : (mem : List ℕ) (i : ℕ) (t : Strength) → One (λ o. o ≡ strengthWritten mem i t)
-lent-write-strength mem i t = determined (strengthWritten mem i t)
+pub lent-write-strength : (mem : List ℕ) (i : ℕ) (t : Strength) (kinds : Kinds) → One (λ o. o ≡ strengthWritten mem i t kinds)
+lent-write-strength mem i t kinds = determined (strengthWritten mem i t kinds)
 
 -- lent::macroblocks::read_strength
 pub lent-read-strength : (mem : List ℕ) (i : ℕ) → One (λ o. o ≡ strengthFound mem i)

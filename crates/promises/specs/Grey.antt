@@ -27,7 +27,7 @@ pub record Made (t : Call) (m : Memory) (k : ℕ) : Type 0 where
   pub samples : (a : Plane) (c r : ℕ) → InPlane t a c r → blockAt (t .tile .width / 16) a c r ≡ k
       → sampleOf (t .tile .width / 16) a c r (pictureOf t m .mem) ≡ sampleOf (t .tile .width / 16) a c r (nextOf (picturedOf t) k found made .mem)
   pub kinds : (i : ℕ) → i < modeWidth → modeByte (k * modeWidth + i) (pictureOf t m .mem) ≡ getD (modeRecord (kindsOf (made .modes)) (made .modes .modes)) i 0
-  pub strength : (i : ℕ) → i < strengthWidth → strengthByte (k * strengthWidth + i) (pictureOf t m .mem) ≡ getD (strengthRecord (made .strength)) i 0
+  pub strength : (i : ℕ) → i < strengthWidth → strengthByte (k * strengthWidth + i) (pictureOf t m .mem) ≡ getD (strengthRecord (made .strength) (kindsOf (made .modes))) i 0
 
 -- macroblocks that the call finished
 abbrev pub done : Call → Memory → ℕ

@@ -94,7 +94,7 @@ module _ (t : Call) (m : Memory) (e : Fine t m) (z : Sound (picturedOf t) (begun
         kinds = λ i o. stays (modeByte (k * modeWidth + i)) h (l .reached) (l .step) (λ j g v. keeps-mode z j v (k * modeWidth + i) (inl (omega arith)))
             ∙ record-set-in modeWidth (l .found .mem .modes) k (modeRecord (kindsOf (l .made .modes)) (l .made .modes .modes)) (lit< tt) (room .modes) i o;
         strength = λ i o. stays (strengthByte (k * strengthWidth + i)) h (l .reached) (l .step) (λ j g v. keeps-strength z j v (k * strengthWidth + i) (inl (omega arith)))
-            ∙ record-set-in strengthWidth (l .found .mem .strengths) k (strengthRecord (l .made .strength)) (lit< tt) (room .strengths) i o;
+            ∙ record-set-in strengthWidth (l .found .mem .strengths) k (strengthRecord (l .made .strength) (kindsOf (l .made .modes))) (lit< tt) (room .strengths) i o;
       }
 
   -- what none that is finished touches

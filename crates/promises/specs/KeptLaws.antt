@@ -73,7 +73,7 @@ module _ {P : Picture} {S₀ : State} (z : Sound P S₀) (k : ℕ) (h : k < P .w
   keeps-mode i o = λ S x l e. record-set-off modeWidth (S .mem .modes) k (modeRecord (kindsOf (x .modes)) (x .modes .modes)) i o
 
   pub keeps-strength : (i : ℕ) → Off (k * strengthWidth) strengthWidth i → Keeps P (strengthByte i) k
-  keeps-strength i o = λ S x l e. record-set-off strengthWidth (S .mem .strengths) k (strengthRecord (x .strength)) i o
+  keeps-strength i o = λ S x l e. record-set-off strengthWidth (S .mem .strengths) k (strengthRecord (x .strength) (kindsOf (x .modes))) i o
 
 -- ---- all of a run
 module _ {P : Picture} {S₀ : State} (z : Sound P S₀) where

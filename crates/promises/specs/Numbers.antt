@@ -42,7 +42,7 @@ use Rattle.transform.specs.Lanes.{macroblockLanes}
 use Rattle.residual.specs.Residual as Residual
 use Rattle.residual.specs.Residual.{Model, Values, residualOf, residualNumberOf, residualValuesOf}
 use Rattle.planes.specs.Paint.{squareBlocks, squarePainted, paintFine, paintOf}
-use Rattle.lent.specs.Records.{recordsIn, columnWidth, columnAt, columnSet, columnWritten, columnFound, modeWidth, kindsAt, modesAt, modeSet, kindsFine, modeWritten, modeFound, strengthWidth, strengthAt, strengthSet, strengthWritten, strengthFound}
+use Rattle.lent.specs.Records.{recordAt, recordsIn, columnWidth, columnAt, columnSet, columnWritten, columnFound, modeWidth, kindsAt, modesAt, modeSet, kindsFine, modeWritten, modeFound, strengthWidth, segmentIn, smallIn, strengthAt, strengthSet, strengthWritten, strengthFound}
 use Rattle.macroblock.specs.declared.arguments.Place.{Place}
 use Rattle.macroblock.specs.declared.arguments.Readers.{Readers}
 use Rattle.macroblock.specs.declared.arguments.Around.{Around}
@@ -218,9 +218,11 @@ pub record Numbers : Type 0 where
   pub modes-read : (mem : List ℕ) (i : ℕ)
       → Checked {X = Kinds × List ℕ} 9 (ltb i (recordsIn modeWidth mem)) (checkedNumberOf (modeFound mem i .answer)) (modeFound mem i .kinds, modeFound mem i .modes) (noKinds, replicate 16 0) (kindsAt mem i, modesAt mem i)
   -- lent::macroblocks::write_strength, read_strength
-  pub write-strength : (mem : List ℕ) (i : ℕ) (t : Strength)
-      → Checked 9 (ltb i (recordsIn strengthWidth mem) && strengthFine t) (checkedNumberOf (strengthWritten mem i t .answer)) (strengthWritten mem i t .mem) mem (strengthSet mem i t)
-  pub read-strength : (mem : List ℕ) (i : ℕ) → Checked 9 (ltb i (recordsIn strengthWidth mem)) (checkedNumberOf (strengthFound mem i .answer)) (strengthFound mem i .strength) noStrength (strengthAt mem i)
+  pub write-strength : (mem : List ℕ) (i : ℕ) (t : Strength) (k : Kinds)
+      → Checked 9 (ltb i (recordsIn strengthWidth mem) && (strengthFine t && ltb (k .segment) 4)) (checkedNumberOf (strengthWritten mem i t k .answer)) (strengthWritten mem i t k .mem) mem (strengthSet mem i t k)
+  pub read-strength : (mem : List ℕ) (i : ℕ)
+      → Checked {X = Strength × ℕ × Bool} 9 (ltb i (recordsIn strengthWidth mem)) (checkedNumberOf (strengthFound mem i .answer)) (strengthFound mem i .strength, strengthFound mem i .segment, strengthFound mem i .small)
+      (noStrength, 0, false) (strengthAt mem i, segmentIn (recordAt strengthWidth mem i), smallIn (recordAt strengthWidth mem i))
   -- macroblock::whole::decode
   pub macroblock : (first tokens : List ℕ) (readers : Readers) (f : Frame) (table : List ℕ) (around : Around) (place : Place) (p : Planes)
       → Steps (readyOf first tokens readers f (length table) around && placeFine (length (p .y)) (length (p .u)) (length (p .v)) place)

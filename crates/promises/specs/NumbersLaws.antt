@@ -35,7 +35,7 @@ use Rattle.residual.specs.Residual as Residual
 use Rattle.residual.specs.Residual.{Model, residualOf, residualNumberOf, residualValuesOf}
 use Rattle.planes.specs.Paint.{PaintedPlane, paintOf}
 use Rattle.lent.specs.Records as Records
-use Rattle.lent.specs.Records.{contextIn, kindsIn, modesIn, strengthIn, recordWritten, recordFound}
+use Rattle.lent.specs.Records.{contextIn, kindsIn, modesIn, strengthIn, segmentIn, smallIn, recordWritten, recordFound}
 use Rattle.macroblock.specs.declared.whole.Finish.the-variants as F
 use Rattle.macroblock.specs.Macroblock as Macroblock
 use Rattle.macroblock.specs.Macroblock.{Planes, Finished, MacroblockCalled, toMacroblockCalled, afterModes, afterTokens, noOutcome, endOf, finishNumberOf}
@@ -226,8 +226,8 @@ numbers-bind = record {
   read-column = λ mem x. checked _ (λ (t : Records.Taken). checkedNumberOf (t .answer)) (λ (t : Records.Taken). contextIn (t .bytes)) refl refl refl refl;
   write-modes = λ mem i k modes. checked _ (λ (w : Records.Written). checkedNumberOf (w .answer)) (λ (w : Records.Written). w .mem) refl refl refl refl;
   modes-read = λ mem i. checked _ (λ (t : Records.Taken). checkedNumberOf (t .answer)) (λ (t : Records.Taken). (kindsIn (t .bytes), modesIn (t .bytes))) refl refl refl refl;
-  write-strength = λ mem i t. checked _ (λ (w : Records.Written). checkedNumberOf (w .answer)) (λ (w : Records.Written). w .mem) refl refl refl refl;
-  read-strength = λ mem i. checked _ (λ (t : Records.Taken). checkedNumberOf (t .answer)) (λ (t : Records.Taken). strengthIn (t .bytes)) refl refl refl refl;
+  write-strength = λ mem i t k. checked _ (λ (w : Records.Written). checkedNumberOf (w .answer)) (λ (w : Records.Written). w .mem) refl refl refl refl;
+  read-strength = λ mem i. checked _ (λ (t : Records.Taken). checkedNumberOf (t .answer)) (λ (t : Records.Taken). (strengthIn (t .bytes), segmentIn (t .bytes), smallIn (t .bytes))) refl refl refl refl;
   macroblock = λ first tokens readers f table around place p. steps (endOf f place p) _ refl;
   case-malformed = λ s e. (rw (e, ranOf), rw (e, ranOf));
   case-told = λ s e. (rw (e, ranOf), rw (e, ranOf));

@@ -27,7 +27,7 @@ planeSide red = 8
 abbrev pub sampleOf : (wide : ℕ) → Plane → (c r : ℕ) → Memory → ℕ
 sampleOf wide a c r m = sampleAt (planeOf a m) (wide * planeSide a) c r
 
--- byte i of the mode records, twenty a macroblock; and of the strength records, four a macroblock
+-- byte i of the mode records, twenty a macroblock; and of the strength records, six a macroblock
 abbrev pub modeByte : ℕ → Memory → ℕ
 modeByte i m = getD (m .modes) i 0
 

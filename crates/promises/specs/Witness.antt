@@ -73,7 +73,7 @@ witnessTile x = callOf (witnessBytes x)
 
 -- memory of the right lengths that holds x everywhere
 abbrev pub heldOf : ℕ → Memory
-heldOf x = memoryOf (replicate 512 x) (replicate 128 x) (replicate 128 x) (replicate 13 x) (replicate 40 x) (replicate 8 x)
+heldOf x = memoryOf (replicate 512 x) (replicate 128 x) (replicate 128 x) (replicate 13 x) (replicate 40 x) (replicate 12 x)
 
 -- what all of them share
 front : (x i : ℕ) → i < 64 → getD (witnessBytes x) i 0 ≡ 0
@@ -112,7 +112,7 @@ fine x y = good-arguments (witnessTile x) (heldOf y) sides counted bounded sized
         v = length-replicate 128 y;
         columns = length-replicate 13 y;
         modes = length-replicate 40 y;
-        strengths = length-replicate 8 y;
+        strengths = length-replicate 12 y;
       };
       header = length-replicate 1096 (pos 0);
     }

@@ -51,10 +51,10 @@ fn modes() -> [u8; 20480]
     [0; 20480]
 }
 
-fn strengths() -> [u8; 4096]
-    ensures { λ r. ⌜ 4096 ≡ length r ⌝ }
+fn strengths() -> [u8; 6144]
+    ensures { λ r. ⌜ 6144 ≡ length r ⌝ }
 {
-    [0; 4096]
+    [0; 6144]
 }
 
 fn answer(d: Decoded) {

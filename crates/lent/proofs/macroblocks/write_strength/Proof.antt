@@ -1,6 +1,10 @@
 use borrow.Author.Needs.{needs}
-use mathlib.Core.Path.{refl}
-use Rattle.lent.specs.Records.{strengthWidth, strengthRecord}
+use mathlib.Core.Path.{refl, ap}
+use mathlib.Core.Bool.{Bool, _&&_}
+use mathlib.Core.List.{[], _∷_}
+use Prim.Native.Nat.{ℕ}
+use lib.Dec.{ltb}
+use Rattle.lent.specs.Records.{strengthWidth}
 use Rattle.lent.specs.RecordsLaws.{written-as}
 use Rattle.lent.proofs.macroblocks.write_strength.Statement.{statement}
 use Rattle.lent.proofs.macroblocks.write_strength.Tie as tie
@@ -8,9 +12,15 @@ use Rattle.lent.proofs.macroblocks.write_strength.Tie as tie
 returns : tie.Need-returns
 returns c =
     let d = c .before .before in
-    let e = d .before .before in
-    let a = e .before .before .before .args in
-    written-as strengthWidth (a .mem .now) (a .i) {b = strengthRecord (a .t)} refl (e .strength-fine .ensures) refl (d .write .ensures)
+    let e = d .before .before .before in
+    let g = e .before .before in
+    let a = g .before .before .args in
+    let t = a .t in
+    let k = a .kinds in
+    written-as strengthWidth (a .mem .now) (a .i) refl
+    (ap (λ (f : Bool). f && ltb (k .segment) 4) (e .strength-fine .ensures))
+    (ap (λ (n : ℕ). t .limit ∷ t .inner ∷ t .threshold ∷ t .inside ∷ k .segment ∷ n ∷ []) (g .bit .ensures))
+    (d .write .ensures)
 
 pub write-strength-spec : {M : Type 1} → statement M
-write-strength-spec = tie.close (tie.spec (λ c κs. search needs) (λ c. search needs) (λ c κs. search needs) (λ c. search needs) returns)
+write-strength-spec = tie.close (tie.spec (λ c κs. search needs) (λ c κs. search needs) (λ c. search needs) (λ c κs. search needs) (λ c. search needs) returns)
