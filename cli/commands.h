@@ -3,12 +3,14 @@
 #define CLI_COMMANDS_H
 
 #include "picture.h"
+#include "tint.h"
 #include "write.h"
 
 struct options {
     enum filter filter;
-    enum form to; /* FORM_NONE where not given */
-    char **names; /* the arguments that are not options */
+    enum form to;   /* FORM_NONE where not given */
+    enum tint tint; /* TINT_NONE where not given */
+    char **names;   /* the arguments that are not options */
     int count;
 };
 

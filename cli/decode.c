@@ -6,12 +6,17 @@
 #include <string.h>
 #include <sys/stat.h>
 
-static void print_picture(const char *out, const struct picture *p) {
+static int write_one(FILE *to, const struct options *o, enum form form, const struct picture *p) {
+    return o->tint == TINT_NONE ? write_picture(to, form, p) : tint_write(to, o->tint, p);
+}
+
+static void print_picture(const char *out, enum tint tint, const struct picture *p) {
     printf("%s: %zu x %zu, %s, %s\n", out, p->tile.true_width, p->tile.true_height, outcome_of(p->number), p->filtered);
+    if (tint != TINT_NONE) tint_print(tint, p);
 }
 
 /* Decodes every frame of a file into `out`, which is made when the first picture is there. */
-static int decode_file(const char *path, const char *out, enum form form, enum filter filter, struct tally *tally, int quiet) {
+static int decode_file(const struct options *o, const char *path, const char *out, enum form form, struct tally *tally, int quiet) {
     struct file file;
     struct frame frame;
     struct picture picture;
@@ -21,12 +26,12 @@ static int decode_file(const char *path, const char *out, enum form form, enum f
     tally->files++;
     if (!file_open(path, &file)) return STATUS_USAGE;
     while (good && file_next(&file, &frame, &number)) {
-        picture_decode(&picture, frame, filter);
+        picture_decode(&picture, frame, o->filter);
         status = worse(status, take_answer(tally, path, &file, picture.number, &picture));
         if (has_picture(picture.number)) {
             if (!to) to = fopen(out, "wb");
-            good = to && write_picture(to, form, &picture);
-            if (good && !quiet) print_picture(out, &picture);
+            good = to && write_one(to, o, form, &picture);
+            if (good && !quiet) print_picture(out, o->tint, &picture);
         }
         picture_free(&picture);
     }
@@ -64,16 +69,15 @@ static int decode_each(const struct options *o, char **outs, int count, enum for
     int status = STATUS_WHOLE;
     for (int i = 0; i < count; i++) {
         progress(i, count, o->names[i]);
-        status = worse(status, decode_file(o->names[i], outs[i], form, o->filter, &tally, 1));
+        status = worse(status, decode_file(o, o->names[i], outs[i], form, &tally, 1));
     }
     progress(count, count, "");
     print_tally(&tally);
     return status;
 }
 
-static int decode_to_folder(const struct options *o, const char *folder) {
+static int decode_to_folder(const struct options *o, const char *folder, enum form form) {
     int count = o->count - 1;
-    enum form form = o->to == FORM_NONE ? FORM_PPM : o->to;
     if (mkdir(folder, 0777) && !is_folder(folder)) return cannot_write(folder);
     char **outs = memory((size_t)count * sizeof *outs);
     for (int i = 0; i < count; i++) outs[i] = name_in(folder, o->names[i], ending_of(form));
@@ -87,9 +91,11 @@ static int decode_to_folder(const struct options *o, const char *folder) {
 int decode(const struct options *o) {
     if (o->count < 2) return usage("decode takes an IN and an OUT", "");
     const char *out = o->names[o->count - 1], *dot = strrchr(out, '.');
-    if (o->count > 2 || is_folder(out)) return decode_to_folder(o, out);
-    enum form form = o->to != FORM_NONE ? o->to : form_of(dot ? dot + 1 : "");
+    int folder = o->count > 2 || is_folder(out);
+    enum form form = o->to != FORM_NONE ? o->to : folder ? FORM_PPM : form_of(dot ? dot + 1 : "");
+    if (o->tint != TINT_NONE && form != FORM_PPM) return usage("--tint makes a .ppm and no other form", "");
     if (form == FORM_NONE) return usage("OUT is a folder or ends in .yuv, .pgm or .ppm: ", out);
+    if (folder) return decode_to_folder(o, out, form);
     struct tally tally = {0, 0, {0}};
-    return decode_file(o->names[0], out, form, o->filter, &tally, 0);
+    return decode_file(o, o->names[0], out, form, &tally, 0);
 }

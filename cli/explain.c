@@ -1,5 +1,6 @@
 /* The loop filter replayed and told: explain.h. */
 #include "explain.h"
+#include "colour.h"
 #include "hookbarley.h"
 #include <stdlib.h>
 #include <string.h>
@@ -212,7 +213,7 @@ int explain_pixel(FILE *out, const struct explain_tile *t, size_t x, size_t y) {
 /* ---- in colours */
 
 /* By hookbarley_rule; 0 is a sample that did not move. */
-static const struct { uint8_t rgb[3]; const char *words; } colours[] = {
+static const struct colour colours[] = {
     {{190, 190, 190}, "did not move"}, {{0, 0, 0}, ""}, {{0, 0, 0}, ""}, {{235, 185, 45}, "simple filter"},
     {{215, 70, 70}, "high variance"},  {{50, 120, 215}, "macroblock edge"}, {{60, 165, 90}, "inner edge"}};
 
@@ -247,9 +248,11 @@ int explain_ppm(FILE *out, const struct explain_tile *t) {
     int answer = colours_of(t, &c);
     if (answer) return freed(&c, out, answer);
     fprintf(out, "P6\n%zu %zu\n255\n", c.w, c.h);
-    for (size_t i = 0; i < c.w * c.h; i++)
-        for (int k = 0; k < 3; k++) /* a third of the colour stays where the tile is black, so that it can be told there too */
-            fputc(c.rules[i] ? colours[c.rules[i]].rgb[k] * (128 + c.luma[i]) / 383 : c.luma[i], out);
+    for (size_t i = 0; i < c.w * c.h; i++) {
+        uint8_t rgb[3];
+        colour_over(rgb, c.rules[i] ? &colours[c.rules[i]] : NULL, c.luma[i]);
+        fwrite(rgb, 1, sizeof rgb, out);
+    }
     return freed(&c, out, 0);
 }
 

@@ -23,6 +23,7 @@ static const char help[] =
     "  --unfiltered         the samples before the loop filter\n"
     "  --simple, --normal   this kind of loop filter, whatever the frame says; none where its level is 0\n"
     "  --to FORM            yuv, pgm or ppm, whatever OUT ends in\n"
+    "  --tint KIND          luma with each macroblock coloured by KIND, as .ppm: " TINT_KINDS "\n"
     "\n"
     "The pictures of an IVF file follow one another in OUT. A picture that is cut is written all the same: what was\n"
     "finished, and grey for the rest. Where nothing can be decoded OUT is not made.\n"
@@ -42,6 +43,13 @@ static const struct command commands[] = {
     {"explain", explain},
 };
 
+/* The kind that follows --tint, NULL where nothing does. Returns 0 or STATUS_USAGE. */
+static int take_tint(struct options *o, const char *kind) {
+    if (!kind) return usage("--tint takes " TINT_KINDS, "");
+    o->tint = tint_of(kind);
+    return o->tint == TINT_NONE ? usage("--tint takes " TINT_KINDS ", not ", kind) : 0;
+}
+
 /* Takes the options out of the words; the others move to the front and are counted. Returns 0 or STATUS_USAGE. */
 static int parse(struct options *o, char **words, int count) {
     int plain = 0;
@@ -52,6 +60,10 @@ static int parse(struct options *o, char **words, int count) {
         else if (!strcmp(words[i], "--simple")) o->filter = FILTER_SIMPLE;
         else if (!strcmp(words[i], "--normal")) o->filter = FILTER_NORMAL;
         else if (!strcmp(words[i], "--to") && i + 1 < count && form_of(words[i + 1]) != FORM_NONE) o->to = form_of(words[++i]);
+        else if (!strcmp(words[i], "--tint")) {
+            i++;
+            if (take_tint(o, i < count ? words[i] : NULL)) return STATUS_USAGE;
+        }
         else return usage("what is ", words[i]);
     }
     return 0;
@@ -61,7 +73,7 @@ int main(int argc, char **argv) {
     if (argc < 2) return usage("no command", "");
     if (!strcmp(argv[1], "--help") || !strcmp(argv[1], "help")) return fputs(help, stdout) < 0;
     if (!strcmp(argv[1], "--version")) return puts("hookbarley " HOOKBARLEY_VERSION) < 0;
-    struct options options = {FILTER_CODED, FORM_NONE, argv + 2, 0};
+    struct options options = {FILTER_CODED, FORM_NONE, TINT_NONE, argv + 2, 0};
     for (size_t i = 0; i < sizeof commands / sizeof *commands; i++)
         if (!strcmp(argv[1], commands[i].name)) return parse(&options, argv + 2, argc - 2) ? STATUS_USAGE : commands[i].run(&options);
     return usage("what is ", argv[1]);

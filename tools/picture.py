@@ -1,7 +1,9 @@
 #!/usr/bin/env python3
-"""The README's picture: picture.py OUT.png [HOOKBARLEY..] draws lit hills, has cwebp encode them at a low quality and decodes the file three
-times with the program (tools/hookbarley): before the loop filter, after it, and with the end of the frame's bytes cut off. The three
-stand side by side, each sample twice as wide and high."""
+"""The pictures of README.md and docs: picture.py tile|tint OUT.png [HOOKBARLEY..] draws lit hills, has cwebp encode them at a low quality
+and decodes the file three times with the program (tools/hookbarley). The three stand side by side, each sample twice as wide and high.
+
+tile, docs/tile.png: before the loop filter, after it, and with the end of the frame's bytes cut off.
+tint, docs/tint.png: luma, and the same tinted by segments and by modes."""
 import math
 import random
 import subprocess
@@ -31,10 +33,36 @@ def hills():
 
 
 def decoded(program, file, out, *options):
+    """The samples that the program writes, red, green and blue: of luma three times the same."""
     said = subprocess.run(program + ["decode", *options, file, out], stdout=subprocess.PIPE, stderr=subprocess.STDOUT, text=True)
     print(said.stdout.strip())
     with open(out, "rb") as f:
-        return f.read().split(b"\n", 3)[3]
+        kind, _, _, samples = f.read().split(b"\n", 3)
+    return samples if kind == b"P6" else bytes(v for v in samples for _ in range(3))
+
+
+def encoded(folder, *options):
+    file = folder + "/hills.webp"
+    with open(folder + "/hills.ppm", "wb") as f:
+        f.write(b"P6\n%d %d\n255\n" % (SIDE, SIDE) + hills())
+    subprocess.run(["cwebp", "-quiet", *options, folder + "/hills.ppm", "-o", file], check=True)
+    return file
+
+
+def tile(program, folder):
+    file = encoded(folder, "-q", "3", "-f", "70")
+    with open(file, "rb") as f:
+        frame = f.read()[20:]
+    with open(folder + "/cut.vp8", "wb") as f:
+        f.write(frame[:int(LEFT * len(frame))])
+    before, after = decoded(program, file, folder + "/a.ppm", "--unfiltered"), decoded(program, file, folder + "/b.ppm")
+    return [before, after, decoded(program, folder + "/cut.vp8", folder + "/c.ppm")]
+
+
+def tint(program, folder):
+    file = encoded(folder, "-q", "10", "-f", "70", "-segments", "4", "-sns", "100")
+    luma = decoded(program, file, folder + "/luma.pgm")
+    return [luma] + [decoded(program, file, f"{folder}/{kind}.ppm", "--tint", kind) for kind in ("segments", "modes")]
 
 
 def twice(samples, y):
@@ -43,18 +71,10 @@ def twice(samples, y):
 
 
 def main():
-    out, program = sys.argv[1], sys.argv[2:] or ["tools/hookbarley"]
+    panels_of = {"tile": tile, "tint": tint}[sys.argv[1]]
+    out, program = sys.argv[2], sys.argv[3:] or ["tools/hookbarley"]
     with tempfile.TemporaryDirectory() as folder:
-        with open(folder + "/hills.ppm", "wb") as f:
-            f.write(b"P6\n%d %d\n255\n" % (SIDE, SIDE) + hills())
-        file = folder + "/hills.webp"
-        subprocess.run(["cwebp", "-quiet", "-q", "3", "-f", "70", folder + "/hills.ppm", "-o", file], check=True)
-        with open(file, "rb") as f:
-            frame = f.read()[20:]
-        with open(folder + "/cut.vp8", "wb") as f:
-            f.write(frame[:int(LEFT * len(frame))])
-        before, after = decoded(program, file, folder + "/a.ppm", "--unfiltered"), decoded(program, file, folder + "/b.ppm")
-        panels = [before, after, decoded(program, folder + "/cut.vp8", folder + "/c.ppm")]
+        panels = panels_of(program, folder)
     gap = b"\xff" * (3 * GAP)
     rows = [gap.join(twice(p, y) for p in panels) for y in range(SIDE) for _ in range(2)]
     png(out, 6 * SIDE + 2 * GAP, 2 * SIDE, rows)

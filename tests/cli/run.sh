@@ -7,6 +7,7 @@ cd "$(dirname "$0")/../.." || exit 1
 ARCHIVE=${1:-${ARCHIVE:-}}
 . tools/outside-env.sh
 need pkg-config pkgconf || exit 1
+need python3 python3 || exit 1
 out=target/cli-test
 rm -rf $out target/cli
 mkdir -p $out
@@ -125,6 +126,41 @@ hb 2 explain bench/tile-q50.webp 256 0 && warned 'no such pixel'
 hb 2 explain bench/tile-q50.webp -- -1 0 && warned 'X and Y'
 hb 2 explain bench/tile-q50.webp $out/e.png && warned '.ppm or .svg' && none e.png
 
+# Tinted: each macroblock's colour over the luma that decode shows otherwise. How many have each is what info counts in mode memory.
+tinted() { # tinted STATUS KIND FILE COLOUR=COUNT..
+    local status=$1 kind=$2 file=$3 filter
+    shift 3
+    for filter in --normal --unfiltered; do
+        hb "$status" decode $filter "$file" $out/t.pgm
+        hb "$status" decode $filter --tint "$kind" "$file" $out/t.ppm
+        tests/cli/tint.py $out/t.ppm $out/t.pgm "$@" >$out/tint.log 2>&1 || bad "$what: $(tail -n 1 $out/tint.log)"
+    done
+}
+hb 0 info bench/tile-q50.webp && said 'by segment  16, 99, 71, 70;' && said 'DC 26, TM 0, V 0, H 0, small 230'
+tinted 0 segments bench/tile-q50.webp blue=16 orange=99 green=71 purple=70 && quiet
+said '  segment 0 blue 16, segment 1 orange 99, segment 2 green 71, segment 3 purple 70'
+tinted 0 modes bench/tile-q50.webp blue=26 orange=230 && said '  large blue 26, small orange 230'
+hb 0 decode --to ppm --unfiltered --tint modes bench/tile-q50.webp $out/t.yuv && same $out/t.yuv $out/t.ppm
+hb 0 info $kept/normal-segments.webp && said '143 x 79' && said 'by segment  2, 11, 27, 5;'
+tinted 0 segments $kept/normal-segments.webp blue=2 orange=11 green=27 purple=5
+tail -c +21 bench/tile-q50.webp | head -c 6000 >$out/tint-cut.vp8
+hb 1 info $out/tint-cut.vp8 && said 'by segment  7, 48, 32, 33;' && said 'DC 16, TM 0, V 0, H 0, small 104'
+tinted 1 segments $out/tint-cut.vp8 blue=7 orange=48 green=32 purple=33 grey=136
+said '  segment 0 blue 7, segment 1 orange 48, segment 2 green 32, segment 3 purple 33, unfinished grey 136'
+tinted 1 modes $out/tint-cut.vp8 blue=16 orange=104 grey=136 && warned 'cut: 7'
+said '  large blue 16, small orange 104, unfinished grey 136'
+hb 1 decode --unfiltered --tint modes bench/tile-q90.webp $out/tint-cut.vp8 $out/tints && said '2 files, 2 pictures'
+same $out/tints/tint-cut.ppm $out/t.ppm
+grep -q orange $out/said && bad "$what: a legend among many files"
+hb 0 info --tint modes bench/tile-q50.webp && quiet
+hb 2 decode --tint paint bench/tile-q50.webp $out/wrong.ppm && warned '--tint takes segments or modes, not paint'
+hb 2 decode bench/tile-q50.webp $out/wrong.ppm --tint && warned '--tint takes segments or modes;'
+for wrong in $out/wrong.yuv $out/wrong.pgm "--to yuv $out/wrong.ppm" "--to pgm bench/tile-q90.webp $out/wrong.ppm"; do
+    # shellcheck disable=SC2086
+    hb 2 decode --tint modes bench/tile-q50.webp $wrong && warned '--tint makes a .ppm and no other form'
+done
+none wrong.yuv && none wrong.pgm && none wrong.ppm
+
 # Installed: the example through pkg-config; one version everywhere.
 if tools/install.sh $out/prefix >$out/install.log 2>&1; then
     export PKG_CONFIG_PATH=$PWD/$out/prefix/lib/pkgconfig
@@ -142,6 +178,6 @@ else
     tail -n 5 $out/install.log
     bad "tools/install.sh"
 fi
-[ $tried -ge 53 ] || bad "only $tried runs of the program"
+[ $tried -ge 85 ] || bad "only $tried runs of the program"
 [ $failed -eq 0 ] && echo "cli: passed, $tried runs of the program"
 exit $failed
