@@ -5,6 +5,7 @@
 set -u
 cd "$(dirname "$0")/../.." || exit 1
 ARCHIVE=${1:-${ARCHIVE:-}}
+export ARCHIVE
 . tools/outside-env.sh
 need pkg-config pkgconf || exit 1
 need python3 python3 || exit 1
