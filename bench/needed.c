@@ -16,7 +16,7 @@ static int whole(size_t n, size_t first, size_t token, size_t tokens) {
     size_t w = be(file + 5, 2), h = be(file + 7, 2), k, starts[8] = {token}, lengths[8] = {tokens};
     uint64_t first_reads, token_reads;
     return hookbarley_decode(file, n, 2210, first, starts, 8, lengths, 8, 2, 255, 0, (uint32_t)be(file + 2210, 2), 1, header, 1096, w, h,
-                             y, w * h, u, w * h / 4, v, w * h / 4, columns, 13 * (w / 16), modes, 20 * (w * h / 256), strengths, 6 * (w * h / 256), &k,
+                             y, w * h, u, w * h / 4, v, w * h / 4, columns, 4 * (w / 16), modes, 20 * (w * h / 256), strengths, 6 * (w * h / 256), &k,
                              &first_reads, &token_reads) == 0;
 }
 

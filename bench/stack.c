@@ -27,7 +27,7 @@ static void *decode(void *unused) {
     uint64_t first_reads, token_reads;
     for (int i = 0; i < 8; i++) cut[i] = lengths[i] / cut_tokens;
     number = hookbarley_decode(file, size, places, first / cut_first, starts, 8, cut, 8, 2, 255, 0, (uint32_t)be(file + places, 2), count, header,
-                               1096, w, h, y, w * h, u, chroma, v, chroma, columns, 13 * (w / 16), modes, 20 * blocks, strengths, 6 * blocks, &k,
+                               1096, w, h, y, w * h, u, chroma, v, chroma, columns, 4 * (w / 16), modes, 20 * blocks, strengths, 6 * blocks, &k,
                                &first_reads, &token_reads);
     return unused;
 }

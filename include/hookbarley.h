@@ -57,8 +57,8 @@ enum hookbarley_number {
  *                  The others are not looked at.
  * width, height    in samples, multiples of 16
  * y, u, v          lent: width*height, (width/2)*(height/2) twice; row after row, without padding; the samples before the loop filter
- * columns          lent: 13 bytes a macroblock column (4 modes, 9 flags: what the row below reads), left as after the last finished
- *                  macroblock
+ * columns          lent: 4 bytes a macroblock column, what the row below reads, left as after the last finished macroblock: 4 modes of 4
+ *                  bits, the first lowest, in a big-endian 16-bit number, then 9 flags of one bit, the first lowest, in another
  * modes            lent: 20 bytes a macroblock (segment, skip, small, 16 luma modes, chroma mode). Modes: 0 DC, 1 TM, 2 V, 3 H, all
  *                  sixteen alike; where small is 1 each is 0 DC, 1 TM, 2 VE, 3 HE, 4 RD, 5 VR, 6 LD, 7 VL, 8 HD or 9 HU
  * strengths        lent: 6 bytes a macroblock: for the loop filter limit 0..189, inner 0..63, threshold 0..2, inside 1 where the inner
@@ -216,7 +216,7 @@ static inline size_t hookbarley_blocks(const struct hookbarley_tile *t) { return
 
 /* The bytes that a tile is lent in all: Y, U, V, columns, modes, strengths, one after the other. */
 static inline size_t hookbarley_room(const struct hookbarley_tile *t) {
-    return t->width * t->height / 2 * 3 + 13 * (t->width / 16) + (20 + 6) * hookbarley_blocks(t);
+    return t->width * t->height / 2 * 3 + 4 * (t->width / 16) + (20 + 6) * hookbarley_blocks(t);
 }
 
 /* Cuts that many bytes into the six. */
@@ -225,7 +225,7 @@ static inline void hookbarley_lend(const struct hookbarley_tile *t, uint8_t *roo
     m->u = m->y + t->width * t->height;
     m->v = m->u + t->width * t->height / 4;
     m->columns = m->v + t->width * t->height / 4;
-    m->modes = m->columns + 13 * (t->width / 16);
+    m->modes = m->columns + 4 * (t->width / 16);
     m->strengths = m->modes + 20 * hookbarley_blocks(t);
 }
 
@@ -242,7 +242,7 @@ static inline uint32_t hookbarley_picture(const uint8_t *frame, size_t length, c
     return hookbarley_decode(frame, length, t->first_start, t->first_length, t->token_starts, 8, t->token_lengths, 8,
                              t->at, (uint32_t)t->range, (uint32_t)t->shifts, (uint32_t)t->window, t->count, header, HOOKBARLEY_ENTRIES,
                              t->width, t->height, m->y, t->width * t->height, m->u, chroma, m->v, chroma,
-                             m->columns, 13 * (t->width / 16), m->modes, 20 * blocks, m->strengths, 6 * blocks,
+                             m->columns, 4 * (t->width / 16), m->modes, 20 * blocks, m->strengths, 6 * blocks,
                              finished, first_reads, token_reads);
 }
 

@@ -31,7 +31,7 @@ int main(int argc, char **argv) {
     uint32_t number = 0;
     for (int i = 0; i < atoi(argv[2]); i++) {
         number = hookbarley_decode(file, n, places, first, starts, 8, lengths, 8, 2, 255, 0, (uint32_t)be(file + places, 2), count, header, 1096, w, h,
-                                   y, luma, u, chroma, v, chroma, columns, 13 * (w / 16), modes, 20 * blocks, strengths, 6 * blocks, &k, &first_reads, &token_reads);
+                                   y, luma, u, chroma, v, chroma, columns, 4 * (w / 16), modes, 20 * blocks, strengths, 6 * blocks, &k, &first_reads, &token_reads);
         if (argc > 3 && hookbarley_deblock(y, luma, u, chroma, v, chroma, strengths, 6 * blocks, w, h, 0)) return 2;
     }
     unsigned long sums[3] = {0};

@@ -73,11 +73,11 @@ int main(int argc, char **argv) {
     if (at != n) return malformed(counts);
     size_t lw = w > 16384 ? 0 : w, lh = h > 16384 ? 0 : h; /* what is lent; a size beyond is refused first */
     size_t luma = lw * lh, chroma = (lw / 2) * (lh / 2), blocks = (lw / 16) * (lh / 16), k = 0;
-    uint8_t *y = lent(luma), *u = lent(chroma), *v = lent(chroma), *columns = lent(13 * (lw / 16)), *modes = lent(20 * blocks), *strengths = lent(6 * blocks);
+    uint8_t *y = lent(luma), *u = lent(chroma), *v = lent(chroma), *columns = lent(4 * (lw / 16)), *modes = lent(20 * blocks), *strengths = lent(6 * blocks);
     uint64_t first_reads, token_reads;
     uint32_t window = (first > 0 ? file[places] * 256u : 0) + (first > 1 ? file[places + 1] : 0); /* zero past the partition's end */
     uint32_t number = hookbarley_decode(file, n, places, first, starts, 8, lengths, 8, 2, 255, 0, window, count, header, 1096, w, h,
-                                        y, luma, u, chroma, v, chroma, columns, 13 * (lw / 16), modes, 20 * blocks, strengths, 6 * blocks,
+                                        y, luma, u, chroma, v, chroma, columns, 4 * (lw / 16), modes, 20 * blocks, strengths, 6 * blocks,
                                         &k, &first_reads, &token_reads);
     int written = number == 0 || number == 6 || number == 7;
     if (counts)

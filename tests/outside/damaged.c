@@ -147,7 +147,7 @@ static int side(size_t n) { return n >= 16 && n <= 16384 && n % 16 == 0; }
 static void lengths_of(size_t w, size_t h, size_t *lent) {
     lent[Y] = w * h;
     lent[U] = lent[V] = (w / 2) * (h / 2);
-    lent[COLUMNS] = 13 * (w / 16);
+    lent[COLUMNS] = 4 * (w / 16);
     lent[MODES] = 20 * (w / 16) * (h / 16);
     lent[STRENGTHS] = 6 * (w / 16) * (h / 16);
 }
@@ -427,7 +427,7 @@ static void whole(const char *dir, struct result *r, struct result *spare) {
 }
 
 /* Column memory after each macroblock row: that of the tile with fewer rows. Empty before the first. */
-static uint8_t after_rows[65][13 * 64];
+static uint8_t after_rows[65][4 * 64];
 
 static void learn_columns(const struct call *tile, struct result *r, struct result *spare) {
     static struct call c;
@@ -441,11 +441,21 @@ static void learn_columns(const struct call *tile, struct result *r, struct resu
     }
 }
 
+/* A column is four modes below 10 in four bits each, nine flags in one bit each, and zeros. */
+static void column_bits(const uint8_t *c, size_t columns) {
+    for (size_t x = 0; x < columns; x++, c += 4) {
+        for (int i = 0; i < 2; i++)
+            if (c[i] % 16 > 9 || c[i] / 16 > 9) fail("column %zu has a mode above 9", x);
+        if (c[2] > 1) fail("column %zu has a bit above its flags", x);
+    }
+}
+
 /* Column memory is as after macroblock k - 1. */
 static void columns_after(const struct call *c, const struct result *r) {
     size_t columns = c->w / 16, row = r->k / columns, in = r->k % columns;
-    if (memcmp(r->mem[COLUMNS], after_rows[row + (in > 0)], 13 * in) ||
-        memcmp(r->mem[COLUMNS] + 13 * in, after_rows[row] + 13 * in, 13 * (columns - in)))
+    column_bits(r->mem[COLUMNS], columns);
+    if (memcmp(r->mem[COLUMNS], after_rows[row + (in > 0)], 4 * in) ||
+        memcmp(r->mem[COLUMNS] + 4 * in, after_rows[row] + 4 * in, 4 * (columns - in)))
         fail("column memory is not as after %zu macroblocks", r->k);
 }
 

@@ -43,10 +43,10 @@ static int decoded(const char *name, struct explain_tile *t) {
     for (int i = 0; i < 1096; i++) header[i] = (int16_t)be(file + 10 + 2 * i, 2);
     for (size_t i = 0; i < count && i < 8; at += lengths[i++]) starts[i] = at, lengths[i] = be(file + 2206 + 4 * i, 4);
     size_t luma = w * h, chroma = (w / 2) * (h / 2), blocks = (w / 16) * (h / 16);
-    uint8_t *y = lent(luma), *u = lent(chroma), *v = lent(chroma), *columns = lent(13 * (w / 16)), *modes = lent(20 * blocks), *strengths = lent(6 * blocks);
+    uint8_t *y = lent(luma), *u = lent(chroma), *v = lent(chroma), *columns = lent(4 * (w / 16)), *modes = lent(20 * blocks), *strengths = lent(6 * blocks);
     uint32_t window = (first > 0 ? file[places] * 256u : 0) + (first > 1 ? file[places + 1] : 0);
     uint32_t number = hookbarley_decode(file, n, places, first, starts, 8, lengths, 8, 2, 255, 0, window, count, header, 1096, w, h,
-                                        y, luma, u, chroma, v, chroma, columns, 13 * (w / 16), modes, 20 * blocks, strengths, 6 * blocks,
+                                        y, luma, u, chroma, v, chroma, columns, 4 * (w / 16), modes, 20 * blocks, strengths, 6 * blocks,
                                         &k, &first_reads, &token_reads);
     *t = (struct explain_tile){w, h, w, h, y, u, v, strengths, 6 * blocks, 0};
     free(columns);

@@ -157,7 +157,7 @@ impl Memory {
             y: vec![fill; width * height],
             u: vec![fill; (width / 2) * (height / 2)],
             v: vec![fill; (width / 2) * (height / 2)],
-            columns: vec![fill; 13 * (width / 16)],
+            columns: vec![fill; 4 * (width / 16)],
             modes: vec![fill; 20 * blocks],
             strengths: vec![fill; 6 * blocks],
         }

@@ -40,7 +40,9 @@ module _ (starts lengths : List ℕ) (c : Call) (m : Memory) where
 
 -- the same with the spans as the code made them
 abbrev pub withTokens : Call → List Span → Call
-withTokens c s = let t = c .tile in callOf (c .bytes) (record { first = t .first; tokens = s; reader = t .reader; count = t .count; width = t .width; height = t .height }) (c .header)
+withTokens c s =
+    let t = c .tile in
+    record { bytes = c .bytes; tile = record { first = t .first; tokens = s; reader = t .reader; count = t .count; width = t .width; height = t .height }; header = c .header; form = c .form }
 
 pub called-found : (starts lengths : List ℕ) (c : Call) (m : Memory) → length starts ≡ 8 → length lengths ≡ 8 → {n k : ℕ} {d : Decoded} {r : SymbolCounts} {q : Memory} → n ≡ numberOf d → k ≡ valuesOf d
     → {s : List Span} → s ≡ c .tile .tokens → (endedOf d q ≡ pictureOf (withTokens c s) m) × (r ≡ costOf (withTokens c s) m) → calledNumbers n k (r .first) (r .tokens) q ≡ calledOf starts lengths c m

@@ -1,5 +1,5 @@
 -- Lent memory as records: those of macroblock columns, the modes of macroblocks, their strengths. Nothing else says what stands where.
-use Prim.Native.Nat.{ℕ, _+_, _*_, _/_, _<_}
+use Prim.Native.Nat.{ℕ, zero, suc, _+_, _*_, _/_, _%_, _<_}
 use mathlib.Core.Path.{_≡_}
 use mathlib.Core.List.{List, [], _∷_, _++_}
 use mathlib.Core.Bool.{Bool, true, false, not, _&&_}
@@ -64,37 +64,70 @@ recordFound width mem i =
       | false ↦ record { answer = K.Refused; bytes = replicate width 0 }
     ]
 
--- ---- a macroblock column, thirteen bytes: four modes, nine flags
-abbrev pub columnWidth : ℕ
-columnWidth = 13
+-- ---- numbers packed into one
+-- numbers below `size` in one number, the first in its lowest digit
+unfoldable pub packedOf : (size : ℕ) → List ℕ → ℕ
+packedOf size [] = 0
+packedOf size (x ∷ l) = x + packedOf size l * size
 
--- the thirteen bytes of a context
-abbrev pub columnRecord : Context → List ℕ
-columnRecord c = c .modes ++ c .flags
+-- the n lowest digits of a number, the lowest first
+unfoldable pub digitsOf : (size n : ℕ) → ℕ → List ℕ
+digitsOf size zero v = []
+digitsOf size (suc n) v = v % size ∷ digitsOf size n (v / size)
 
--- the context that thirteen bytes hold
-abbrev pub contextIn : List ℕ → Context
-contextIn b = record { modes = bytesOf 0 4 b; flags = bytesOf 4 9 b }
+-- a 16-bit number, big-endian
+abbrev pub halfBytes : ℕ → List ℕ
+halfBytes v = v / 256 % 256 ∷ v % 256 ∷ []
 
--- the context of column x, and the memory with it written
-abbrev pub columnAt : List ℕ → ℕ → Context
-columnAt mem x = contextIn (recordAt columnWidth mem x)
+-- the number that the bytes at two places hold
+abbrev pub halfOf : (high low : ℕ) → ℕ
+halfOf high low = high * 256 + low
+
+-- ---- a macroblock column: the context that the macroblock above leaves, four modes and nine flags, in one of two forms
+-- the form of the call since request M-107, and the one before it
+pub data Form : Type 0 where
+  packed : Form
+  old : Form
+
+-- bytes a column: four, before it thirteen
+abbrev pub formWidth : Form → ℕ
+formWidth packed = 4
+formWidth old = 13
+
+-- the bytes of a context. Packed: four modes of four bits, the first lowest, in a 16-bit number; then nine flags of one bit, the first
+-- lowest, in another, the bits above them 0. Before: four modes, then nine flags, a byte each
+abbrev pub columnBytes : Form → Context → List ℕ
+columnBytes packed c = halfBytes (packedOf 16 (c .modes)) ++ halfBytes (packedOf 2 (c .flags))
+columnBytes old c = c .modes ++ c .flags
+
+-- the context that a column's bytes hold
+abbrev pub contextIn : Form → List ℕ → Context
+contextIn packed b = record { modes = digitsOf 16 4 (halfOf (getD b 0 0) (getD b 1 0)); flags = digitsOf 2 9 (halfOf (getD b 2 0) (getD b 3 0)) }
+contextIn old b = record { modes = bytesOf 0 4 b; flags = bytesOf 4 9 b }
+
+-- the context of column x
+abbrev pub columnAt : Form → List ℕ → ℕ → Context
+columnAt form mem x = contextIn form (recordAt (formWidth form) mem x)
 
 -- the memory with the context of column x written
-abbrev pub columnSet : List ℕ → ℕ → Context → List ℕ
-columnSet mem x c = recordSet columnWidth mem x (columnRecord c)
+abbrev pub columnSet : Form → List ℕ → ℕ → Context → List ℕ
+columnSet form mem x c = recordSet (formWidth form) mem x (columnBytes form c)
+
+-- every context in the memory is in range
+abbrev pub Columns : Form → List ℕ → Type 0
+Columns form mem = (x : ℕ) → x < recordsIn (formWidth form) mem → contextFine (columnAt form mem x) ≡ true
+
+-- bytes a column in the code's records
+abbrev pub columnWidth : ℕ
+columnWidth = formWidth packed
 
 -- `write_column`
 abbrev pub columnWritten : List ℕ → ℕ → Context → Written
-columnWritten mem x c = recordWritten columnWidth mem x (contextFine c) (columnRecord c)
+columnWritten mem x c = recordWritten columnWidth mem x (contextFine c) (columnBytes packed c)
 
 -- `read_column`
 abbrev pub columnFound : List ℕ → ℕ → ColumnRecord
-columnFound mem x = record { answer = recordFound columnWidth mem x .answer; context = contextIn (recordFound columnWidth mem x .bytes) }
-
--- every context in the memory is in range
-abbrev pub Columns : List ℕ → Type 0
-Columns mem = (x : ℕ) → x < recordsIn columnWidth mem → contextFine (columnAt mem x) ≡ true
+columnFound mem x = record { answer = recordFound columnWidth mem x .answer; context = contextIn packed (recordFound columnWidth mem x .bytes) }
 
 -- ---- the modes of a macroblock, twenty bytes: segment, skip, small, the sixteen luma modes, chroma
 abbrev pub modeWidth : ℕ

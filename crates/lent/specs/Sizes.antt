@@ -5,7 +5,7 @@ use mathlib.Core.Bool.{Bool, _&&_}
 use lib.Dec.{eqb}
 use Rattle.tile.specs.Checks.{sidesOf, blocksOf}
 use Rattle.lent.specs.declared.sizes.Sizes.{Sizes}
-use Rattle.lent.specs.Records.{columnWidth, modeWidth, strengthWidth}
+use Rattle.lent.specs.Records.{Form, formWidth, modeWidth, strengthWidth}
 
 -- a memory of n bytes is as long as it must be
 unfoldable pub longOf : (w h n must : ℕ) → Bool
@@ -20,8 +20,8 @@ abbrev pub chromaFine : (w h n : ℕ) → Bool
 chromaFine w h n = longOf w h n (w / 2 * (h / 2))
 
 -- records: one a macroblock column, one a macroblock
-abbrev pub columnsFine : (w h n : ℕ) → Bool
-columnsFine w h n = longOf w h n (columnWidth * (w / 16))
+abbrev pub columnsFine : Form → (w h n : ℕ) → Bool
+columnsFine form w h n = longOf w h n (formWidth form * (w / 16))
 
 -- the modes
 abbrev pub modesFine : (w h n : ℕ) → Bool
@@ -31,21 +31,21 @@ modesFine w h n = longOf w h n (modeWidth * blocksOf w h)
 abbrev pub strengthsFine : (w h n : ℕ) → Bool
 strengthsFine w h n = longOf w h n (strengthWidth * blocksOf w h)
 
--- all six
-unfoldable pub sizesFine : (w h : ℕ) → Sizes → Bool
-sizesFine w h z =
+-- all six, columns in this form
+unfoldable pub sizesFine : Form → (w h : ℕ) → Sizes → Bool
+sizesFine form w h z =
     lumaFine w h (z .y)
     && chromaFine w h (z .u)
     && chromaFine w h (z .v)
-    && columnsFine w h (z .columns)
+    && columnsFine form w h (z .columns)
     && modesFine w h (z .modes)
     && strengthsFine w h (z .strengths)
 
 -- all six, as a fact
-pub record Sized (w h : ℕ) (z : Sizes) : Type 0 where
+pub record Sized (form : Form) (w h : ℕ) (z : Sizes) : Type 0 where
   pub y : z .y ≡ w * h
   pub u : z .u ≡ w / 2 * (h / 2)
   pub v : z .v ≡ w / 2 * (h / 2)
-  pub columns : z .columns ≡ columnWidth * (w / 16)
+  pub columns : z .columns ≡ formWidth form * (w / 16)
   pub modes : z .modes ≡ modeWidth * blocksOf w h
   pub strengths : z .strengths ≡ strengthWidth * blocksOf w h

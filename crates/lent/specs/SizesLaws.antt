@@ -1,16 +1,18 @@
 -- What check 4 says: each test and its fact, both ways; filling changes no length; and the sizes in macroblocks.
 use Prim.Native.Nat.{ℕ, _*_, _/_}
-use mathlib.Core.Path.{_≡_, refl, _∙_, ap, ap₂}
+use mathlib.Core.Path.{_≡_, refl, sym, _∙_, ap, ap₂}
+use mathlib.Core.Logic.{⊎-elim}
 use mathlib.Core.Bool.{Bool, true, false, _&&_}
 use native.Mathlib.Omega.{arith}
 use native.Mathlib.Nat.{mul-comm}
 use lib.Dec.{eqb}
 use lib.ListN.{length-replicate}
-use borrow.Author.Tests.{eqb-true, eq-eqb}
-use Rattle.numbers.specs.Tests.{both-left, both-right, both-true}
+use borrow.Author.Tests.{eqb-true, eq-eqb, ne-eqb}
+use Rattle.numbers.specs.Tests.{eq-or, both-left, both-right, both-true}
 use Rattle.tile.specs.Checks.{sidesOf, Sides}
 use Rattle.tile.specs.ChecksLaws.{sides-fact, sides-test}
 use Rattle.lent.specs.declared.sizes.Sizes.{Sizes}
+use Rattle.lent.specs.Records.{Form, packed, old, formWidth}
 use Rattle.lent.specs.Memory.{Memory, sizesOf, blankOf}
 use Rattle.lent.specs.Sizes.{longOf, lumaFine, chromaFine, columnsFine, modesFine, strengthsFine, sizesFine, Sized}
 
@@ -34,14 +36,14 @@ module _ (w h n : ℕ) {must : ℕ} where
       go false e = refl
 
 -- ---- all six
-module _ (w h : ℕ) (z : Sizes) where
-  pub sizes-fact : sizesFine w h z ≡ true → Sized w h z
+module _ (form : Form) (w h : ℕ) (z : Sizes) where
+  pub sizes-fact : sizesFine form w h z ≡ true → Sized form w h z
   unfolding sizesFine
   sizes-fact e =
       let y : Bool = lumaFine w h (z .y) in
       let u : Bool = chromaFine w h (z .u) in
       let v : Bool = chromaFine w h (z .v) in
-      let c : Bool = columnsFine w h (z .columns) in
+      let c : Bool = columnsFine form w h (z .columns) in
       let m : Bool = modesFine w h (z .modes) in
       let s : Bool = strengthsFine w h (z .strengths) in
       let e2 = both-left (y && u && v && c && m) s e in
@@ -57,7 +59,7 @@ module _ (w h : ℕ) (z : Sizes) where
         strengths = long-fact w h _ (both-right (y && u && v && c && m) s e);
       }
 
-  pub sizes-test : Sides w h → Sized w h z → sizesFine w h z ≡ true
+  pub sizes-test : Sides w h → Sized form w h z → sizesFine form w h z ≡ true
   unfolding sizesFine
   sizes-test a s =
       both-true
@@ -67,6 +69,20 @@ module _ (w h : ℕ) (z : Sizes) where
       (long-test w h _ a (s .columns)))
       (long-test w h _ a (s .modes)))
       (long-test w h _ a (s .strengths))
+
+-- ---- as many columns in either form: check 4 says the same
+columns-forms : (w h n : ℕ) {a b : ℕ} → a ≡ formWidth packed * n → b ≡ formWidth old * n → columnsFine packed w h a ≡ columnsFine old w h b
+unfolding longOf
+columns-forms w h n {a} {b} e f = ap (λ (t : Bool). sidesOf w h && t) (⊎-elim
+    (λ (q : n ≡ w / 16). eq-eqb a (4 * (w / 16)) (omega arith) ∙ sym (eq-eqb b (13 * (w / 16)) (omega arith)))
+    (λ q. ne-eqb a (4 * (w / 16)) (λ r. q (omega arith)) ∙ sym (ne-eqb b (13 * (w / 16)) (λ r. q (omega arith))))
+    (eq-or n (w / 16)))
+
+module _ (w h n : ℕ) (z s : Sizes) (packed-long : z .columns ≡ formWidth packed * n) (old-long : s .columns ≡ formWidth old * n)
+    (y : z .y ≡ s .y) (u : z .u ≡ s .u) (v : z .v ≡ s .v) (m : z .modes ≡ s .modes) (t : z .strengths ≡ s .strengths) where
+  pub sizes-forms : sizesFine packed w h z ≡ sizesFine old w h s
+  unfolding sizesFine
+  sizes-forms = λ i. lumaFine w h (y i) && chromaFine w h (u i) && chromaFine w h (v i) && columns-forms w h n packed-long old-long i && modesFine w h (m i) && strengthsFine w h (t i)
 
 -- filling changes no length
 pub blank-sizes : (m : Memory) → sizesOf (blankOf m) ≡ sizesOf m

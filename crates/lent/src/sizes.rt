@@ -5,6 +5,7 @@ use crate::macroblocks::STRENGTH_WIDTH;
 use tile::checks::sides_fine;
 ghost use mathlib.Core.Path.{_≡_};
 ghost use Prim.Native.Nat.{_*_, _≤_};
+ghost use Rattle.lent.specs.Records.{packed};
 ghost use Rattle.lent.specs.Sizes.{lumaFine, chromaFine, columnsFine, modesFine, strengthsFine, sizesFine};
 
 // The lengths of the lent memories.
@@ -44,7 +45,7 @@ pub fn chroma_fine(w: usize, h: usize, n: usize) -> bool
 }
 
 pub fn columns_fine(w: usize, h: usize, n: usize) -> bool
-    ensures { λ r. ⌜ r ≡ columnsFine w h n ⌝ }
+    ensures { λ r. ⌜ r ≡ columnsFine packed w h n ⌝ }
 {
     sides_fine(w, h) & (n == COLUMN_WIDTH * (w / 16))
 }
@@ -63,7 +64,7 @@ pub fn strengths_fine(w: usize, h: usize, n: usize) -> bool
 
 // All six.
 pub fn sizes_fine(w: usize, h: usize, z: Sizes) -> bool
-    ensures { λ r. ⌜ r ≡ sizesFine w h z ⌝ }
+    ensures { λ r. ⌜ r ≡ sizesFine packed w h z ⌝ }
 {
     luma_fine(w, h, z.y)
         & chroma_fine(w, h, z.u)

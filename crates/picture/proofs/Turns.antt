@@ -77,14 +77,14 @@ module _ {P : Picture} {E : Total} {k : ℕ} {S : State} {reads : SymbolCounts} 
 
   module _ {n : SymbolCounts} (j : n ≡ plus reads w) where
     -- a turn that ends the picture
-    pub going-refused : (T : Turned) → T ≡ turned (S .left) k (columnOf P k) (S .mem) (stepAt P k S) → (finishNumberOf (T .answer) ≡ 0 → ⊥) → {d : Decoded} → d ≡ stoppedOf (T .answer) k
+    pub going-refused : (T : Turned) → T ≡ turned (P .form) (S .left) k (columnOf P k) (S .mem) (stepAt P k S) → (finishNumberOf (T .answer) ≡ 0 → ⊥) → {d : Decoded} → d ≡ stoppedOf (T .answer) k
         → (record { answer = d; mem = T .mem } ≡ E .ended) × (n ≡ E .reads)
     going-refused T e z {d} q = go (g .rest) (g .sum) (g .same) (g .paid) (stepAt P k S) refl e
       where
-        at : (t : Step) → T ≡ turned (S .left) k (columnOf P k) (S .mem) t → _≡_ {A = Ended} (record { answer = d; mem = T .mem }) (let y = turned (S .left) k (columnOf P k) (S .mem) t in record { answer = stoppedOf (y .answer) k; mem = y .mem })
+        at : (t : Step) → T ≡ turned (P .form) (S .left) k (columnOf P k) (S .mem) t → _≡_ {A = Ended} (record { answer = d; mem = T .mem }) (let y = turned (P .form) (S .left) k (columnOf P k) (S .mem) t in record { answer = stoppedOf (y .answer) k; mem = y .mem })
         at t e = ap (λ (x : Decoded). record { answer = x; mem = T .mem }) q ∙ ap (λ (y : Turned). record { answer = stoppedOf (y .answer) k; mem = y .mem }) e
 
-        go : (m : ℕ) → k + m ≡ P .wide * P .high → runOf m P k S ≡ E .ended → plus reads (readsFrom m P k S) ≡ E .reads → (t : Step) → stepAt P k S ≡ t → T ≡ turned (S .left) k (columnOf P k) (S .mem) t
+        go : (m : ℕ) → k + m ≡ P .wide * P .high → runOf m P k S ≡ E .ended → plus reads (readsFrom m P k S) ≡ E .reads → (t : Step) → stepAt P k S ≡ t → T ≡ turned (P .form) (S .left) k (columnOf P k) (S .mem) t
             → (record { answer = d; mem = T .mem } ≡ E .ended) × (n ≡ E .reads)
         go zero a b c t u e = absurd (omega arith)
         go (suc m) a b c (finished x) u e = absurd (z (ap (λ (y : Turned). finishNumberOf (y .answer)) e))
@@ -92,7 +92,7 @@ module _ {P : Picture} {E : Total} {k : ℕ} {S : State} {reads : SymbolCounts} 
         go (suc m) a b c no-tokens u e = (at no-tokens e ∙ sym (run-no-tokens m P k S u) ∙ b, j ∙ ap (plus reads) (v ∙ sym (reads-no-tokens m P k S u)) ∙ c)
 
     -- a turn that goes on
-    pub going-next : (T : Turned) → T ≡ turned (S .left) k (columnOf P k) (S .mem) (stepAt P k S) → {r : Readers} → T .answer ≡ F.Done r
+    pub going-next : (T : Turned) → T ≡ turned (P .form) (S .left) k (columnOf P k) (S .mem) (stepAt P k S) → {r : Readers} → T .answer ≡ F.Done r
         → ((x : Finished) → stepAt P k S ≡ finished x → Ends (P .first) (P .token (partitionOf P k)) (planesIn (S .mem)) x)
         → {p : ℕ} → p ≡ partitionOf P k → Going P E (k + 1) (record { reader = r .first; readers = set (S .readers) p (r .token); left = T .left; mem = T .mem }) n
     going-next T e {r} f z {p} q = go (g .rest) (g .sum) (g .same) (g .paid) (stepAt P k S) refl e
@@ -103,10 +103,10 @@ module _ {P : Picture} {E : Total} {k : ℕ} {S : State} {reads : SymbolCounts} 
         after F.NoTokens = record { first = noReader; token = noReader }
         after F.Refused = record { first = noReader; token = noReader }
 
-        number : (u : Step) → T ≡ turned (S .left) k (columnOf P k) (S .mem) u → 0 ≡ finishNumberOf (turned (S .left) k (columnOf P k) (S .mem) u .answer)
+        number : (u : Step) → T ≡ turned (P .form) (S .left) k (columnOf P k) (S .mem) u → 0 ≡ finishNumberOf (turned (P .form) (S .left) k (columnOf P k) (S .mem) u .answer)
         number u e = sym (ap finishNumberOf f) ∙ ap (λ (y : Turned). finishNumberOf (y .answer)) e
 
-        go : (m : ℕ) → k + m ≡ P .wide * P .high → runOf m P k S ≡ E .ended → plus reads (readsFrom m P k S) ≡ E .reads → (u : Step) → stepAt P k S ≡ u → T ≡ turned (S .left) k (columnOf P k) (S .mem) u
+        go : (m : ℕ) → k + m ≡ P .wide * P .high → runOf m P k S ≡ E .ended → plus reads (readsFrom m P k S) ≡ E .reads → (u : Step) → stepAt P k S ≡ u → T ≡ turned (P .form) (S .left) k (columnOf P k) (S .mem) u
             → Going P E (k + 1) (record { reader = r .first; readers = set (S .readers) p (r .token); left = T .left; mem = T .mem }) n
         go zero a b d u t e = absurd (omega arith)
         go (suc m) a b d (finished x) t e =

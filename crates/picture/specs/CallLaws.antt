@@ -67,7 +67,7 @@ module _ (t : Call) (m : Memory) (e : refusalOf t (sizesOf m) ≡ 0) where
         tokens = λ q h. fine-readers t (sizesOf m) e b q noReader h;
         left = refl;
         beside = record { modes = refl; flags = refl };
-        contexts = columns-empty (length (m .columns));
+        contexts = columns-empty (t .form) (length (m .columns));
         y = filled-long (m .y) 128 (z .y ∙ luma-area s);
         u = filled-long (m .u) 128 (z .u ∙ chroma-area s ∙ halved);
         v = filled-long (m .v) 128 (z .v ∙ chroma-area s ∙ halved);
@@ -79,7 +79,7 @@ module _ (t : Call) (m : Memory) (e : refusalOf t (sizesOf m) ≡ 0) where
   -- as the code finds them: the frame and the table made of the header, the memory filled
   module _ {f : Framed} {x : Table} {b : Memory} (g : f ≡ framedOf (t .header)) (y : x ≡ tableOf (t .header)) (h : b ≡ blankOf m) where
     abbrev found : Picture
-    found = cutOut (t .bytes) (t .tile) (f .frame) (x .bytes)
+    found = cutOut (t .form) (t .bytes) (t .tile) (f .frame) (x .bytes)
 
     frame-found : f .frame ≡ frameOf (t .header)
     frame-found = ap (λ (x : Framed). x .frame) (g ∙ frame-good (t .header) (fine-header t (sizesOf m) e))
@@ -88,7 +88,7 @@ module _ (t : Call) (m : Memory) (e : refusalOf t (sizesOf m) ≡ 0) where
     table-found = ap (λ (x : Table). x .bytes) (y ∙ sym (table-done (t .header) (fine-lengths t (sizesOf m) e .header) refl))
 
     pub picture-found : found ≡ picturedOf t
-    picture-found = λ i. cutOut (t .bytes) (t .tile) (frame-found i) (table-found i)
+    picture-found = λ i. cutOut (t .form) (t .bytes) (t .tile) (frame-found i) (table-found i)
 
     pub shared-found : Shared found
     shared-found = rw picture-found shared-start

@@ -13,21 +13,27 @@ use Rattle.header.specs.Header.{entriesOf}
 use Rattle.tile.specs.declared.Tile.{Tile}
 use Rattle.tile.specs.Checks.{sidesOf, countOf, partitionsOf}
 use Rattle.lent.specs.declared.sizes.Sizes.{Sizes}
+use Rattle.lent.specs.Records.{Form, packed}
 use Rattle.lent.specs.Sizes.{sizesFine, Sized}
 
--- what the picture call is given besides the lent memory
+-- what the picture call is given besides the lent memory, and the form that its column memory has
 pub record Call : Type 0 where
   pub bytes : List ℕ
   pub tile : Tile
   pub header : List ℤ
+  pub form : Form
 
--- the three put together
+-- the three put together: columns are packed (M-107)
 abbrev pub callOf : List ℕ → Tile → List ℤ → Call
-callOf bytes tile header = record { bytes = bytes; tile = tile; header = header }
+callOf bytes tile header = record { bytes = bytes; tile = tile; header = header; form = packed }
+
+-- the same call over column memory of another form
+abbrev pub callIn : Form → Call → Call
+callIn form c = record { bytes = c .bytes; tile = c .tile; header = c .header; form = form }
 
 -- ---- 4: the length of each lent memory, and of the header
 unfoldable pub lengthsOf : Call → Sizes → Bool
-lengthsOf c z = sizesFine (c .tile .width) (c .tile .height) z && eqb (length (c .header)) entryCount
+lengthsOf c z = sizesFine (c .form) (c .tile .width) (c .tile .height) z && eqb (length (c .header)) entryCount
 
 -- ---- 3 and 4 as facts
 abbrev pub Bounded : List ℤ → Type 0
@@ -35,7 +41,7 @@ Bounded = Each (negsuc 254) (pos 255)
 
 -- 4: the lent memories and the header have their lengths
 pub record Lengths (t : Call) (z : Sizes) : Type 0 where
-  pub sizes : Sized (t .tile .width) (t .tile .height) z
+  pub sizes : Sized (t .form) (t .tile .width) (t .tile .height) z
   pub header : length (t .header) ≡ entryCount
 
 -- ---- the number of the first check that fails, counted from n; 0 where none does

@@ -21,13 +21,14 @@ use Rattle.header.specs.Header.{entry, outside, fineTo, entriesOf, headerOf}
 use Rattle.header.specs.HeaderLaws.{entries-each, fine-none, fine-next, entries-all, header-fine}
 use Rattle.lent.specs.declared.sizes.Sizes.{Sizes}
 use Rattle.lent.specs.Memory.{Memory, sizesOf, blankOf}
+use Rattle.lent.specs.Records.{packed, old}
 use Rattle.lent.specs.Sizes.{sizesFine}
 use Rattle.lent.specs.SizesLaws.{sizes-fact, sizes-test, blank-sizes}
 use Rattle.tile.specs.Partitions.{tokenContents, readersOf}
 use Rattle.tile.specs.PartitionsLaws.{readers-valid}
 use Rattle.tile.specs.Checks.{sidesOf, countOf, partitionsOf, Sides, Counted, Cut}
 use Rattle.tile.specs.ChecksLaws.{sides-fact, sides-test, count-fact, count-test, partitions-fact, partitions-test}
-use Rattle.picture.specs.Checks.{Call, Bounded, Lengths, lengthsOf, failed, checksOf, refusalOf}
+use Rattle.picture.specs.Checks.{Call, callIn, Bounded, Lengths, lengthsOf, failed, checksOf, refusalOf}
 
 -- ---- 3: the facts are crate header's `entries-each`
 not-less : (a b : ℤ) → b ≤ℤ a → ltZ a b ≡ false
@@ -48,23 +49,23 @@ module _ (t : Call) (z : Sizes) where
   lengths-fact : lengthsOf t z ≡ true → Lengths t z
   unfolding lengthsOf
   lengths-fact e =
-      let b : Bool = sizesFine (t .tile .width) (t .tile .height) z in
-      record { sizes = sizes-fact _ _ z (both-left b _ e); header = eqb-true _ _ (both-right b _ e) }
+      let b : Bool = sizesFine (t .form) (t .tile .width) (t .tile .height) z in
+      record { sizes = sizes-fact _ _ _ z (both-left b _ e); header = eqb-true _ _ (both-right b _ e) }
 
   lengths-test : Sides (t .tile .width) (t .tile .height) → Lengths t z → lengthsOf t z ≡ true
   unfolding lengthsOf
-  lengths-test a s = both-true (sizes-test _ _ z a (s .sizes)) (eq-eqb _ _ (s .header))
+  lengths-test a s = both-true (sizes-test _ _ _ z a (s .sizes)) (eq-eqb _ _ (s .header))
 
   -- as the code tries them
-  pub lengths-sizes : sizesFine (t .tile .width) (t .tile .height) z ≡ false → lengthsOf t z ≡ false
+  pub lengths-sizes : sizesFine (t .form) (t .tile .width) (t .tile .height) z ≡ false → lengthsOf t z ≡ false
   unfolding lengthsOf
   lengths-sizes e = rw e
 
   pub lengths-header : (length (t .header) ≡ entryCount → ⊥) → lengthsOf t z ≡ false
   unfolding lengthsOf
-  lengths-header n = both-false (sizesFine (t .tile .width) (t .tile .height) z) (ne-eqb _ _ n)
+  lengths-header n = both-false (sizesFine (t .form) (t .tile .width) (t .tile .height) z) (ne-eqb _ _ n)
 
-  pub lengths-both : sizesFine (t .tile .width) (t .tile .height) z ≡ true → length (t .header) ≡ entryCount → lengthsOf t z ≡ true
+  pub lengths-both : sizesFine (t .form) (t .tile .width) (t .tile .height) z ≡ true → length (t .header) ≡ entryCount → lengthsOf t z ≡ true
   unfolding lengthsOf
   lengths-both e h = both-true e (eq-eqb _ _ h)
 
@@ -205,3 +206,9 @@ module _ (t : Call) (z : Sizes) where
 -- refusals are decided before anything is filled: filling would not change them
 pub refused-first : (t : Call) (m : Memory) → refusalOf t (sizesOf (blankOf m)) ≡ refusalOf t (sizesOf m)
 refused-first t m = ap (refusalOf t) (blank-sizes m)
+
+-- ---- the two forms of column memory: where check 4 says the same, all checks do
+pub refusal-forms : (c : Call) (z s : Sizes) → sizesFine packed (c .tile .width) (c .tile .height) z ≡ sizesFine old (c .tile .width) (c .tile .height) s → refusalOf (callIn packed c) z ≡ refusalOf (callIn old c) s
+unfolding refusalOf lengthsOf
+refusal-forms c z s e = λ i. failed 1
+    (sidesOf (c .tile .width) (c .tile .height) ∷ countOf (c .tile .count) ∷ entriesOf (c .header) ∷ (e i && eqb (length (c .header)) entryCount) ∷ partitionsOf (c .bytes) (c .tile) ∷ [])

@@ -19,7 +19,7 @@ plus a b = record { first = a .first + b .first; tokens = a .tokens + b .tokens 
 unfoldable pub readsAt : Picture → ℕ → State → SymbolCounts
 readsAt P k S =
     let q = partitionOf P k in
-    readsOf (P .first) (P .token q) (readersAt S q) (P .frame) (P .table) (aroundAt S (columnOf P k))
+    readsOf (P .first) (P .token q) (readersAt S q) (P .frame) (P .table) (aroundAt P S (columnOf P k))
 
 -- n macroblocks from number k on, until one is refused, and that one too
 unfoldable pub readsFrom : ℕ → Picture → ℕ → State → SymbolCounts

@@ -43,16 +43,16 @@ module _ (n : ℕ) (P : Picture) (k : ℕ) (S : State) where
 
 -- one macroblock written out: its partitions and readers, the contexts around it
 pub reads-at : (P : Picture) (k : ℕ) (S : State)
-    → readsAt P k S ≡ readsOf (P .first) (P .token (partitionOf P k)) (readersAt S (partitionOf P k)) (P .frame) (P .table) (aroundAt S (columnOf P k))
+    → readsAt P k S ≡ readsOf (P .first) (P .token (partitionOf P k)) (readersAt S (partitionOf P k)) (P .frame) (P .table) (aroundAt P S (columnOf P k))
 unfolding readsAt
 reads-at P k S = refl
 
 -- the same for a column and a partition that the code works out
-pub reads-in : (P : Picture) (k : ℕ) (S : State) {w : SymbolCounts} (column q : ℕ) (first tokens : List ℕ) → w ≡ readsOf first tokens (readersAt S q) (P .frame) (P .table) (aroundAt S column)
+pub reads-in : (P : Picture) (k : ℕ) (S : State) {w : SymbolCounts} (column q : ℕ) (first tokens : List ℕ) → w ≡ readsOf first tokens (readersAt S q) (P .frame) (P .table) (aroundAt P S column)
     → first ≡ P .first → column ≡ columnOf P k → q ≡ partitionOf P k → tokens ≡ P .token q → w ≡ readsAt P k S
 reads-in P k S column q first tokens e f a c d =
     let d′ : tokens ≡ P .token (partitionOf P k) = d ∙ ap (P .token) c in
-    e ∙ (λ o. readsOf (f o) (d′ o) (readersAt S (c o)) (P .frame) (P .table) (aroundAt S (a o))) ∙ sym (reads-at P k S)
+    e ∙ (λ o. readsOf (f o) (d′ o) (readersAt S (c o)) (P .frame) (P .table) (aroundAt P S (a o))) ∙ sym (reads-at P k S)
 
 -- ---- the call
 module _ (t : Call) (m : Memory) {n : ℕ} (e : n ≡ refusalOf t (sizesOf m)) where
@@ -70,7 +70,7 @@ module _ (t : Call) (m : Memory) {n : ℕ} (e : n ≡ refusalOf t (sizesOf m)) w
 
 -- as the code finds it: the frame and the table made of the header, the memory filled
 module _ (t : Call) (m : Memory) (e : refusalOf t (sizesOf m) ≡ 0) {f : Framed} {x : Table} {b : Memory} (g : f ≡ framedOf (t .header)) (y : x ≡ tableOf (t .header)) (h : b ≡ blankOf m) where
-  pub cost-found : {w : SymbolCounts} → w ≡ readsFrom (blocksOf (t .tile .width) (t .tile .height)) (cutOut (t .bytes) (t .tile) (f .frame) (x .bytes)) 0 (startOf (t .bytes) (t .tile) b) → w ≡ costOf t m
+  pub cost-found : {w : SymbolCounts} → w ≡ readsFrom (blocksOf (t .tile .width) (t .tile .height)) (cutOut (t .form) (t .bytes) (t .tile) (f .frame) (x .bytes)) 0 (startOf (t .bytes) (t .tile) b) → w ≡ costOf t m
   cost-found q =
       q
       ∙ (λ i. readsFrom (blocksOf (t .tile .width) (t .tile .height)) (picture-found t m e g y h i) 0 (startOf (t .bytes) (t .tile) (h i)))
@@ -88,7 +88,7 @@ module _ (P : Picture) (s : Shared P) (a : Bytes (P .first)) (b : (q : ℕ) → 
   reads-at-most : (k : ℕ) (S : State) → Live P S → k < P .wide * P .high → AtMost 1 (readsAt P k S)
   unfolding readsAt
   reads-at-most k S l h =
-      reads-most (P .first) (P .token (partitionOf P k)) (readersAt S (partitionOf P k)) (P .frame) (P .table) (aroundAt S (columnOf P k))
+      reads-most (P .first) (P .token (partitionOf P k)) (readersAt S (partitionOf P k)) (P .frame) (P .table) (aroundAt P S (columnOf P k))
       (ready-at P S k s l h (columnOf P k) (partitionOf P k) (column-below P k h) (partition-below P k h (s .least)) refl refl) (s .bytes)
 
   pub reads-over : (n k : ℕ) (S : State) → Live P S → k + n ≤ P .wide * P .high → Over n k (runOf n P k S .answer) (readsFrom n P k S)

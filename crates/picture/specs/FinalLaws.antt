@@ -10,7 +10,7 @@ use lib.ListN.{length, getD, replicate}
 use borrow.Author.Tests.{leb-true}
 use Rattle.numbers.specs.Tests.{eq-or, both-left}
 use Rattle.reader.specs.BooleanLaws.{Bytes}
-use Rattle.lent.specs.Records.{Columns, recordsIn, strengthWidth, strengthIn, strengthAt, strengthSet}
+use Rattle.lent.specs.Records.{Form, Columns, recordsIn, strengthWidth, strengthIn, strengthAt, strengthSet}
 use Rattle.lent.specs.RecordsLaws.{record-zeros}
 use Rattle.lent.specs.MacroblocksLaws.{strength-back, strength-other}
 use Rattle.modes.specs.declared.answers.Kinds.{Kinds}
@@ -30,8 +30,8 @@ use Rattle.picture.specs.CallLaws.{picture-good, shared-start, live-star
 abbrev pub Limits : List ℕ → Type 0
 Limits mem = (i : ℕ) → strengthAt mem i .limit ≤ 189
 
-pub record Final (m : Memory) : Type 0 where
-  pub contexts : Columns (m .columns)
+pub record Final (form : Form) (m : Memory) : Type 0 where
+  pub contexts : Columns form (m .columns)
   pub limits : Limits (m .strengths)
 
 limits-set : (mem : List ℕ) (k : ℕ) (t : Strength) (c : Kinds) → k < recordsIn strengthWidth mem → strengthFine t ≡ true → Limits mem → Limits (strengthSet mem k t c)
@@ -49,15 +49,15 @@ limits-blank : (n : ℕ) → Limits (replicate n 0)
 limits-blank n i = subst (λ (z : Strength). z .limit ≤ 189) (sym (ap strengthIn (record-zeros strengthWidth n i))) (lit≤ tt)
 
 module _ (P : Picture) (s : Shared P) (a : Bytes (P .first)) (b : (q : ℕ) → q < P .count → Bytes (P .token q)) where
-  pub run-final : (n k : ℕ) (S : State) → Live P S → Limits (S .mem .strengths) → k + n ≤ P .wide * P .high → Final (runOf n P k S .mem)
+  pub run-final : (n k : ℕ) (S : State) → Live P S → Limits (S .mem .strengths) → k + n ≤ P .wide * P .high → Final (P .form) (runOf n P k S .mem)
   run-final zero k S l m h = rw (run-none P k S) (record { contexts = l .contexts; limits = m })
   run-final (suc n) k S l m h = go (λ x. run-final n (k + 1) (nextOf P k S x)) (stepAt P k S) refl
     where
       below : k < P .wide * P .high
       below = omega arith
 
-      go : ((x : Finished) → Live P (nextOf P k S x) → Limits (nextOf P k S x .mem .strengths) → k + 1 + n ≤ P .wide * P .high → Final (runOf n P (k + 1) (nextOf P k S x) .mem))
-          → (t : Step) → stepAt P k S ≡ t → Final (runOf (suc n) P k S .mem)
+      go : ((x : Finished) → Live P (nextOf P k S x) → Limits (nextOf P k S x .mem .strengths) → k + 1 + n ≤ P .wide * P .high → Final (P .form) (runOf n P (k + 1) (nextOf P k S x) .mem))
+          → (t : Step) → stepAt P k S ≡ t → Final (P .form) (runOf (suc n) P k S .mem)
       go rest (finished x) e =
           let z = ends-at P S k s l below a (b (partitionOf P k) (partition-below P k below (s .least))) x e in
           rw (run-finished n P k S x e)
@@ -66,7 +66,7 @@ module _ (P : Picture) (s : Shared P) (a : Bytes (P .first)) (b : (q : ℕ) → 
       go rest no-tokens e = rw (run-no-tokens n P k S e) (record { contexts = l .contexts; limits = m })
 
 module _ (t : Call) (m : Memory) (e : refusalOf t (sizesOf m) ≡ 0) (y : Bytes (t .bytes)) where
-  pub picture-final : Final (pictureOf t m .mem)
+  pub picture-final : Final (t .form) (pictureOf t m .mem)
   picture-final =
       rw (picture-good t m (sym e) refl)
       (run-final (picturedOf t) (shared-start t m e) (part-bytes (t .bytes) (t .tile .first) y) (λ q h. part-bytes (t .bytes) (spanAt (t .tile) q) y)

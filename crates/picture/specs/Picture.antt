@@ -21,14 +21,14 @@ use Rattle.macroblock.specs.Macroblock.{Planes, planesOf, Finished, Step, finis
 use Rattle.picture.specs.declared.rows.Decoded.{Decoded}
 use Rattle.picture.specs.declared.rows.Decoded.the-variants as D
 use Rattle.lent.specs.Memory.{Memory, sizesOf, blankOf}
-use Rattle.lent.specs.Records.{columnAt, columnSet, modeSet, strengthSet}
+use Rattle.lent.specs.Records.{Form, columnAt, columnSet, modeSet, strengthSet}
 use Rattle.tile.specs.declared.Tile.{Tile}
 use Rattle.tile.specs.Partitions.{contentsOf, tokenContents, readersOf, pickOf}
 use Rattle.tile.specs.Checks.{blocksOf}
 use Rattle.picture.specs.Checks.{Call, refusalOf}
 
 -- ---- what the macroblocks share: the partitions' contents and their count, what the header gives to all (the frame and the table of
--- coefficient probabilities), the macroblocks in a row and the rows
+-- coefficient probabilities), the macroblocks in a row and the rows, and the form of the column memory
 pub record Picture : Type 0 where
   pub first : List ℕ
   pub token : ℕ → List ℕ
@@ -37,10 +37,11 @@ pub record Picture : Type 0 where
   pub table : List ℕ
   pub wide : ℕ
   pub high : ℕ
+  pub form : Form
 
 -- the partitions cut out of the bytes, with what the header gives
-abbrev pub cutOut : List ℕ → Tile → Frame → List ℕ → Picture
-cutOut bytes t frame table = record {
+abbrev pub cutOut : Form → List ℕ → Tile → Frame → List ℕ → Picture
+cutOut form bytes t frame table = record {
   first = contentsOf bytes (t .first);
   token = tokenContents bytes t;
   count = t .count;
@@ -48,11 +49,12 @@ cutOut bytes t frame table = record {
   table = table;
   wide = t .width / 16;
   high = t .height / 16;
+  form = form;
 }
 
 -- the picture of a call
 abbrev pub picturedOf : Call → Picture
-picturedOf c = cutOut (c .bytes) (c .tile) (frameOf (c .header)) (headerTable (c .header))
+picturedOf c = cutOut (c .form) (c .bytes) (c .tile) (frameOf (c .header)) (headerTable (c .header))
 
 -- ---- what goes from one to the next: the reader of the first partition, those of the token partitions, what lies to the left,
 -- and the lent memory
@@ -99,23 +101,23 @@ abbrev pub readersAt : State → (q : ℕ) → Readers
 readersAt S q = record { first = S .reader; token = getD (S .readers) q noReader }
 
 -- the contexts that it finds: its column's record, and what lies to the left
-abbrev pub aroundAt : State → (column : ℕ) → Around
-aroundAt S column = record { top = columnAt (S .mem .columns) column; left = besideOf column (S .left) }
+abbrev pub aroundAt : Picture → State → (column : ℕ) → Around
+aroundAt P S column = record { top = columnAt (P .form) (S .mem .columns) column; left = besideOf column (S .left) }
 
 -- macroblock k made of the state that it finds
 unfoldable pub stepAt : Picture → ℕ → State → Step
 stepAt P k S =
     let q = partitionOf P k in
-    stepOf (P .first) (P .token q) (readersAt S q) (P .frame) (P .table) (aroundAt S (columnOf P k)) (placeOf P k) (planesIn (S .mem))
+    stepOf (P .first) (P .token q) (readersAt S q) (P .frame) (P .table) (aroundAt P S (columnOf P k)) (placeOf P k) (planesIn (S .mem))
 
 -- what a finished macroblock writes: its samples, its column's record, its mode record, its strengths with the segment and the kind that the
 -- mode record has (M-106)
-abbrev pub written : (k column : ℕ) → Memory → Finished → Memory
-written k column m x = record {
+abbrev pub written : Form → (k column : ℕ) → Memory → Finished → Memory
+written form k column m x = record {
   y = x .planes .y;
   u = x .planes .u;
   v = x .planes .v;
-  columns = columnSet (m .columns) column (x .top);
+  columns = columnSet form (m .columns) column (x .top);
   modes = modeSet (m .modes) k (kindsOf (x .modes)) (x .modes .modes);
   strengths = strengthSet (m .strengths) k (x .strength) (kindsOf (x .modes));
 }
@@ -126,7 +128,7 @@ nextOf P k S x = record {
   reader = x .readers .first;
   readers = set (S .readers) (partitionOf P k) (x .readers .token);
   left = x .left;
-  mem = written k (columnOf P k) (S .mem) x;
+  mem = written (P .form) k (columnOf P k) (S .mem) x;
 }
 
 -- ---- the answer, with the lent memory

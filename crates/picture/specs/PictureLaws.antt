@@ -17,8 +17,8 @@ use Rattle.modes.specs.declared.contexts.Context.{Context}
 use Rattle.modes.specs.Answers.{kindsOf}
 use Rattle.modes.specs.Contexts.{contextFine, emptyContext, Shaped}
 use Rattle.modes.specs.ContextsLaws.{contexts-fine}
-use Rattle.lent.specs.Records.{recordsIn, columnWidth, modeWidth, strengthWidth, columnAt, columnSet, modeSet, Columns}
-use Rattle.lent.specs.ColumnsLaws.{columns-set, column-set-length, column-shaped}
+use Rattle.lent.specs.Records.{recordsIn, formWidth, modeWidth, strengthWidth, columnAt, columnSet, modeSet, Columns}
+use Rattle.lent.specs.ColumnsLaws.{column-room, columns-set, column-set-length, column-shaped}
 use Rattle.lent.specs.MacroblocksLaws.{mode-set-length, strength-set-length}
 use Rattle.header.specs.FrameLaws.{Sound}
 use Rattle.tile.specs.PartitionsLaws.{pick-below}
@@ -51,7 +51,7 @@ module _ (n : ℕ) (P : Picture) (k : ℕ) (S : State) where
 
 -- one macroblock written out: its partitions and readers, the contexts around it, its place, the planes
 pub step-at : (P : Picture) (k : ℕ) (S : State)
-    → stepAt P k S ≡ stepOf (P .first) (P .token (partitionOf P k)) (readersAt S (partitionOf P k)) (P .frame) (P .table) (aroundAt S (columnOf P k)) (placeOf P k) (planesIn (S .mem))
+    → stepAt P k S ≡ stepOf (P .first) (P .token (partitionOf P k)) (readersAt S (partitionOf P k)) (P .frame) (P .table) (aroundAt P S (columnOf P k)) (placeOf P k) (planesIn (S .mem))
 unfolding stepAt
 step-at P k S = refl
 
@@ -72,11 +72,11 @@ pub record Live (P : Picture) (S : State) : Type 0 where
   pub tokens : (q : ℕ) → q < P .count → Valid (P .token q) (getD (S .readers) q noReader)
   pub left : contextFine (S .left) ≡ true
   pub beside : Shaped (S .left)
-  pub contexts : Columns (S .mem .columns)
+  pub contexts : Columns (P .form) (S .mem .columns)
   pub y : length (S .mem .y) ≡ P .high * 16 * (P .wide * 16)
   pub u : length (S .mem .u) ≡ P .high * 8 * (P .wide * 16 / 2)
   pub v : length (S .mem .v) ≡ P .high * 8 * (P .wide * 16 / 2)
-  pub columns : length (S .mem .columns) ≡ columnWidth * P .wide
+  pub columns : length (S .mem .columns) ≡ formWidth (P .form) * P .wide
   pub modes : length (S .mem .modes) ≡ modeWidth * (P .wide * P .high)
   pub strengths : length (S .mem .strengths) ≡ strengthWidth * (P .wide * P .high)
 
@@ -106,15 +106,15 @@ beside-fine column left e z = ⊎-elim
 
 -- the turn that the code takes, with what it worked out, is macroblock k's
 pub turn-at : (P : Picture) (k : ℕ) (S : State) {T : Turned} (column row q : ℕ) (first tokens : List ℕ)
-    → T ≡ turned (S .left) k column (S .mem) (stepOf first tokens (readersAt S q) (P .frame) (P .table) (aroundAt S column) (record { column = column; row = row; width = P .wide * 16 }) (planesIn (S .mem)))
+    → T ≡ turned (P .form) (S .left) k column (S .mem) (stepOf first tokens (readersAt S q) (P .frame) (P .table) (aroundAt P S column) (record { column = column; row = row; width = P .wide * 16 }) (planesIn (S .mem)))
     → first ≡ P .first → column ≡ columnOf P k → row ≡ rowOf P k → q ≡ partitionOf P k → tokens ≡ P .token q
-    → T ≡ turned (S .left) k (columnOf P k) (S .mem) (stepAt P k S)
+    → T ≡ turned (P .form) (S .left) k (columnOf P k) (S .mem) (stepAt P k S)
 unfolding stepAt
 turn-at P k S column row q first tokens e f a b c d =
     let d′ : tokens ≡ P .token (partitionOf P k) = d ∙ ap (P .token) c in
     e
-    ∙ (λ o. turned (S .left) k (a o) (S .mem)
-    (stepOf (f o) (d′ o) (readersAt S (c o)) (P .frame) (P .table) (aroundAt S (a o)) (record { column = a o; row = b o; width = P .wide * 16 }) (planesIn (S .mem))))
+    ∙ (λ o. turned (P .form) (S .left) k (a o) (S .mem)
+    (stepOf (f o) (d′ o) (readersAt S (c o)) (P .frame) (P .table) (aroundAt P S (a o)) (record { column = a o; row = b o; width = P .wide * 16 }) (planesIn (S .mem))))
 
 module _ (P : Picture) (S : State) (k : ℕ) (s : Shared P) (l : Live P S) (h : k < P .wide * P .high) where
   -- what its call asks
@@ -132,9 +132,9 @@ module _ (P : Picture) (S : State) (k : ℕ) (s : Shared P) (l : Live P S) (h : 
     red = l .v;
   }
 
-  pub room-at : Room (columnOf P k) k (S .mem .columns) (S .mem .modes) (S .mem .strengths)
+  pub room-at : Room (P .form) (columnOf P k) k (S .mem .columns) (S .mem .modes) (S .mem .strengths)
   room-at = record {
-    columns = rw (l .columns) (omega (arith, column-below P k h));
+    columns = column-room (P .form) (S .mem .columns) (l .columns) (column-below P k h);
     modes = rw (l .modes) (omega arith);
     strengths = rw (l .strengths) (omega arith);
   }
@@ -143,22 +143,22 @@ module _ (P : Picture) (S : State) (k : ℕ) (s : Shared P) (l : Live P S) (h : 
   pub laid-in : {column row : ℕ} → column ≡ columnOf P k → row ≡ rowOf P k → Laid (record { column = column; row = row; width = P .wide * 16 }) (planesIn (S .mem))
   laid-in e f = rw (e, f) laid-at
 
-  pub room-in : {column : ℕ} → column ≡ columnOf P k → Room column k (S .mem .columns) (S .mem .modes) (S .mem .strengths)
+  pub room-in : {column : ℕ} → column ≡ columnOf P k → Room (P .form) column k (S .mem .columns) (S .mem .modes) (S .mem .strengths)
   room-in e = rw e room-at
 
   -- its readers and contexts, for a column and a partition that the code works out
   pub ready-at : (column q : ℕ) → column < P .wide → q < P .count → {first tokens : List ℕ} → first ≡ P .first → tokens ≡ P .token q
-      → Ready first tokens (readersAt S q) (P .frame) (P .table) (aroundAt S column)
+      → Ready first tokens (readersAt S q) (P .frame) (P .table) (aroundAt P S column)
   ready-at column q c d f e =
-      let room : column < recordsIn columnWidth (S .mem .columns) = rw (l .columns) (omega arith) in
+      let room : column < recordsIn (formWidth (P .form)) (S .mem .columns) = column-room (P .form) (S .mem .columns) (l .columns) c in
       let b = beside-fine column (S .left) (l .left) (l .beside) in
       let a = l .contexts column room in
       record {
         reader = rw f (l .reader);
         token = rw e (l .tokens q d);
         size = s .size;
-        contexts = contexts-fine (columnAt (S .mem .columns) column) (besideOf column (S .left)) a (b .0);
-        top = flags-of (columnAt (S .mem .columns) column) (column-shaped (S .mem .columns) column .flags) a;
+        contexts = contexts-fine (columnAt (P .form) (S .mem .columns) column) (besideOf column (S .left)) a (b .0);
+        top = flags-of (columnAt (P .form) (S .mem .columns) column) (column-shaped (P .form) (S .mem .columns) column .flags) a;
         left = flags-of (besideOf column (S .left)) (b .1 .flags) (b .0);
         sound = s .sound;
       }
@@ -166,7 +166,7 @@ module _ (P : Picture) (S : State) (k : ℕ) (s : Shared P) (l : Live P S) (h : 
   pub ends-at : Bytes (P .first) → Bytes (P .token (partitionOf P k)) → (x : Finished) → stepAt P k S ≡ finished x → Ends (P .first) (P .token (partitionOf P k)) (planesIn (S .mem)) x
   unfolding stepAt
   ends-at a b =
-      ends-of (P .first) (P .token (partitionOf P k)) (readersAt S (partitionOf P k)) (P .frame) (P .table) (aroundAt S (columnOf P k)) (placeOf P k) (planesIn (S .mem))
+      ends-of (P .first) (P .token (partitionOf P k)) (readersAt S (partitionOf P k)) (P .frame) (P .table) (aroundAt P S (columnOf P k)) (placeOf P k) (planesIn (S .mem))
       (ready-at (columnOf P k) (partitionOf P k) (column-below P k h) (partition-below P k h (s .least)) refl refl) laid-at a b (s .bytes)
 
   -- and what it leaves
@@ -177,11 +177,11 @@ module _ (P : Picture) (S : State) (k : ℕ) (s : Shared P) (l : Live P S) (h : 
     tokens = valid;
     left = z .left;
     beside = z .left-sized;
-    contexts = columns-set (S .mem .columns) (columnOf P k) (x .top) (l .contexts) (room-at .columns) (z .top-sized) (z .top);
+    contexts = columns-set (P .form) (S .mem .columns) (columnOf P k) (x .top) (l .contexts) (room-at .columns) (z .top-sized) (z .top);
     y = z .y ∙ l .y;
     u = z .u ∙ l .u;
     v = z .v ∙ l .v;
-    columns = column-set-length (S .mem .columns) (columnOf P k) (x .top) ∙ l .columns;
+    columns = column-set-length (P .form) (S .mem .columns) (columnOf P k) (x .top) ∙ l .columns;
     modes = mode-set-length (S .mem .modes) k (kindsOf (x .modes)) (x .modes .modes) ∙ l .modes;
     strengths = strength-set-length (S .mem .strengths) k (x .strength) (kindsOf (x .modes)) ∙ l .strengths;
   }

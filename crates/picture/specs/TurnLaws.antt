@@ -16,7 +16,7 @@ use Rattle.modes.specs.ModesLaws.{modes-test}
 use Rattle.filter.specs.Strengths.{strengthFine}
 use Rattle.lent.specs.declared.columns.ColumnRecord.{ColumnRecord}
 use Rattle.numbers.specs.declared.Checked.{Checked}
-use Rattle.lent.specs.Records.{Written, recordsIn, columnWidth, modeWidth, strengthWidth, columnAt, columnFound, columnRecord, columnSet, columnWritten, kindsFine, modeRecord, modeSet, modeWritten, strengthRecord, strengthSet, strengthWritten}
+use Rattle.lent.specs.Records.{Written, recordsIn, columnWidth, modeWidth, strengthWidth, packed, columnBytes, columnAt, columnFound, columnSet, columnWritten, kindsFine, modeRecord, modeSet, modeWritten, strengthRecord, strengthSet, strengthWritten}
 use Rattle.lent.specs.RecordsLaws.{write-good}
 use Rattle.lent.specs.ColumnsLaws.{column-read}
 use Rattle.lent.specs.MacroblocksLaws.{kinds-fine, strength-fine}
@@ -68,7 +68,7 @@ call-reads first tokens readers f table top left place p e c d g l =
     ∙ reads-good first tokens readers f table (record { top = top; left = left }) place p g l
 
 -- what is read of a column
-pub column-is : (mem : List ℕ) (x : ℕ) {c : ColumnRecord} → c ≡ columnFound mem x → x < recordsIn columnWidth mem → c .context ≡ columnAt mem x
+pub column-is : (mem : List ℕ) (x : ℕ) {c : ColumnRecord} → c ≡ columnFound mem x → x < recordsIn columnWidth mem → c .context ≡ columnAt packed mem x
 column-is mem x e h = ap (λ (c : ColumnRecord). c .context) (e ∙ column-read mem x h)
 
 -- ---- a finished macroblock is in range: what can be written, and what the next one asks
@@ -113,28 +113,28 @@ afterOf a w p columns modes strengths = turnedOf (F.Done a) (w .left) (memoryOf 
 
 module _ (left : Context) (k column : ℕ) (m : Memory) {w : Outcome} {p : Planes} where
   pub turn-stopped : (s : Step) → record { answer = w; planes = p } ≡ toMacroblockCalled (planesIn m) s → (finishNumberOf (w .answer) ≡ 0 → ⊥)
-      → _≡_ {A = Turned} (record { answer = w .answer; left = left; mem = record { y = p .y; u = p .u; v = p .v; columns = m .columns; modes = m .modes; strengths = m .strengths } }) (turned left k column m s)
+      → _≡_ {A = Turned} (record { answer = w .answer; left = left; mem = record { y = p .y; u = p .u; v = p .v; columns = m .columns; modes = m .modes; strengths = m .strengths } }) (turned packed left k column m s)
   turn-stopped (finished x) e n = absurd (n (ap (λ (c : MacroblockCalled). finishNumberOf (c .answer .answer)) e))
   turn-stopped no-modes e n = λ i. record { answer = e i .answer .answer; left = left; mem = record { y = e i .planes .y; u = e i .planes .u; v = e i .planes .v; columns = m .columns; modes = m .modes; strengths = m .strengths } }
   turn-stopped no-tokens e n = λ i. record { answer = e i .answer .answer; left = left; mem = record { y = e i .planes .y; u = e i .planes .u; v = e i .planes .v; columns = m .columns; modes = m .modes; strengths = m .strengths } }
 
-  module _ {a : Readers} {n₁ n₂ n₃ : Checked} {columns modes strengths first tokens : List ℕ} (g : w .answer ≡ F.Done a) (r : Room column k (m .columns) (m .modes) (m .strengths))
+  module _ {a : Readers} {n₁ n₂ n₃ : Checked} {columns modes strengths first tokens : List ℕ} (g : w .answer ≡ F.Done a) (r : Room packed column k (m .columns) (m .modes) (m .strengths))
       (c : record { answer = n₁; mem = columns } ≡ columnWritten (m .columns) column (w .top))
       (d : record { answer = n₂; mem = modes } ≡ modeWritten (m .modes) k (w .kinds) (w .modes))
       (f : record { answer = n₃; mem = strengths } ≡ strengthWritten (m .strengths) k (w .strength) (w .kinds)) where
-    done : (x : Finished) → Ends first tokens (planesIn m) x → record { answer = w; planes = p } ≡ toMacroblockCalled (planesIn m) (finished x) → afterOf a w p columns modes strengths ≡ turned left k column m (finished x)
+    done : (x : Finished) → Ends first tokens (planesIn m) x → record { answer = w; planes = p } ≡ toMacroblockCalled (planesIn m) (finished x) → afterOf a w p columns modes strengths ≡ turned packed left k column m (finished x)
     done x z e =
         let ew : w ≡ shown x = ap (λ (q : MacroblockCalled). q .answer) e in
         let ea : F.Done a ≡ F.Done (x .readers) = sym g ∙ ap (λ (q : Outcome). q .answer) ew in
-        let ec : columns ≡ columnSet (m .columns) column (x .top) =
-        ap (λ (q : Written). q .mem) (c ∙ ap (λ (q : Outcome). columnWritten (m .columns) column (q .top)) ew ∙ write-good columnWidth (m .columns) column (contextFine (x .top)) (columnRecord (x .top)) (r .columns) (z .top)) in
+        let ec : columns ≡ columnSet packed (m .columns) column (x .top) =
+        ap (λ (q : Written). q .mem) (c ∙ ap (λ (q : Outcome). columnWritten (m .columns) column (q .top)) ew ∙ write-good columnWidth (m .columns) column (contextFine (x .top)) (columnBytes packed (x .top)) (r .columns) (z .top)) in
         let ed : modes ≡ modeSet (m .modes) k (kindsOf (x .modes)) (x .modes .modes) =
         ap (λ (q : Written). q .mem) (d ∙ ap (λ (q : Outcome). modeWritten (m .modes) k (q .kinds) (q .modes)) ew ∙ write-good modeWidth (m .modes) k (kindsFine (kindsOf (x .modes)) && eachBelow 10 (x .modes .modes)) (modeRecord (kindsOf (x .modes)) (x .modes .modes)) (r .modes) (both-true (z .kinds) (z .modes))) in
         let ef : strengths ≡ strengthSet (m .strengths) k (x .strength) (kindsOf (x .modes)) =
         ap (λ (q : Written). q .mem) (f ∙ ap (λ (q : Outcome). strengthWritten (m .strengths) k (q .strength) (q .kinds)) ew ∙ write-good strengthWidth (m .strengths) k (strengthFine (x .strength) && ltb (x .modes .segment) 4) (strengthRecord (x .strength) (kindsOf (x .modes))) (r .strengths) (strength-fine (x .strength) (x .modes) (z .strength) (z .kinds))) in
         λ i. record { answer = ea i; left = ew i .left; mem = record { y = e i .planes .y; u = e i .planes .u; v = e i .planes .v; columns = ec i; modes = ed i; strengths = ef i } }
 
-    pub turn-done : (s : Step) → record { answer = w; planes = p } ≡ toMacroblockCalled (planesIn m) s → ((x : Finished) → s ≡ finished x → Ends first tokens (planesIn m) x) → afterOf a w p columns modes strengths ≡ turned left k column m s
+    pub turn-done : (s : Step) → record { answer = w; planes = p } ≡ toMacroblockCalled (planesIn m) s → ((x : Finished) → s ≡ finished x → Ends first tokens (planesIn m) x) → afterOf a w p columns modes strengths ≡ turned packed left k column m s
     turn-done (finished x) e z = done x (z x refl) e
     turn-done no-modes e z = absurd (not-done (ap (λ (q : MacroblockCalled). finishNumberOf (q .answer .answer)) e))
       where

@@ -19,7 +19,7 @@ ghost use Rattle.picture.specs.Checks.{callOf};
 ghost use Rattle.picture.specs.Picture.{endedOf, pictureOf};
 ghost use Rattle.picture.specs.Counts.{costOf};
 
-// The picture call. Lent: w*h bytes of Y, (w/2)*(h/2) of U and V, 13 bytes a macroblock column, 20 and 6 bytes a macroblock. It also says
+// The picture call. Lent: w*h bytes of Y, (w/2)*(h/2) of U and V, 4 bytes a macroblock column, 20 and 6 bytes a macroblock. It also says
 // how many symbols were read.
 pub fn decode(
     bytes: &[u8],

@@ -15,6 +15,7 @@ use tile::partitions::token;
 ghost use mathlib.Core.Path.{_≡_};
 ghost use Rattle.tile.specs.Checks.{blocksOf};
 ghost use Rattle.lent.specs.Memory.{memoryOf};
+ghost use Rattle.lent.specs.Records.{packed};
 ghost use Rattle.picture.specs.Picture.{cutOut, endedOf, numberOf, runOf, startOf, stoppedOf, valuesOf};
 ghost use Rattle.macroblock.specs.Counts.{AtMost};
 ghost use Rattle.picture.specs.Counts.{plus, readsFrom};
@@ -96,18 +97,18 @@ pub(crate) fn rows(
     modes: &mut [u8],
     strengths: &mut [u8],
 ) -> PictureRead
-    requires { ⌜ Shared (cutOut (now bytes) tile frame (now table)) ⌝ }
-    requires { ⌜ Live (cutOut (now bytes) tile frame (now table))
+    requires { ⌜ Shared (cutOut packed (now bytes) tile frame (now table)) ⌝ }
+    requires { ⌜ Live (cutOut packed (now bytes) tile frame (now table))
         (startOf (now bytes) tile (memoryOf (now y) (now u) (now v) (now columns) (now modes) (now strengths))) ⌝ }
     ensures { λ q. ⌜ (endedOf (q .answer)
         (memoryOf (now (y .exit)) (now (u .exit)) (now (v .exit)) (now (columns .exit)) (now (modes .exit)) (now (strengths .exit)))
         ≡ runOf (blocksOf (tile .width) (tile .height))
-        (cutOut (now (bytes .entry)) tile frame (now (table .entry))) 0
+        (cutOut packed (now (bytes .entry)) tile frame (now (table .entry))) 0
         (startOf (now (bytes .entry)) tile
         (memoryOf (now (y .entry)) (now (u .entry)) (now (v .entry))
         (now (columns .entry)) (now (modes .entry)) (now (strengths .entry)))))
         × (q .reads ≡ readsFrom (blocksOf (tile .width) (tile .height))
-        (cutOut (now (bytes .entry)) tile frame (now (table .entry))) 0
+        (cutOut packed (now (bytes .entry)) tile frame (now (table .entry))) 0
         (startOf (now (bytes .entry)) tile
         (memoryOf (now (y .entry)) (now (u .entry)) (now (v .entry))
         (now (columns .entry)) (now (modes .entry)) (now (strengths .entry))))) ⌝ }

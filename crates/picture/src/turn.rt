@@ -14,7 +14,7 @@ use macroblock::whole::decode;
 use modes::contexts::Context;
 ghost use mathlib.Core.Path.{_≡_};
 ghost use Rattle.lent.specs.Memory.{memoryOf};
-ghost use Rattle.lent.specs.Records.{columnAt};
+ghost use Rattle.lent.specs.Records.{packed, columnAt};
 ghost use Rattle.macroblock.specs.Macroblock.{planesOf, stepOf};
 ghost use Rattle.macroblock.specs.Counts.{readsOf};
 ghost use Rattle.macroblock.specs.MacroblockLaws.{Ready, Laid};
@@ -60,18 +60,18 @@ pub(crate) fn turn(
     strengths: &mut [u8],
 ) -> Ending
     requires { ⌜ Ready (now first) (now tokens) (task .readers) (task .frame) (now table)
-        (record { top = columnAt (now columns) (task .place .column); left = besideOf (task .place .column) (task .left) }) ⌝ }
+        (record { top = columnAt packed (now columns) (task .place .column); left = besideOf (task .place .column) (task .left) }) ⌝ }
     requires { ⌜ Laid (task .place) (planesOf (now y) (now u) (now v)) ⌝ }
-    requires { ⌜ Room (task .place .column) (task .k) (now columns) (now modes) (now strengths) ⌝ }
+    requires { ⌜ Room packed (task .place .column) (task .k) (now columns) (now modes) (now strengths) ⌝ }
     ensures { λ q. ⌜ (turnedOf (q .answer) (q .left)
         (memoryOf (now (y .exit)) (now (u .exit)) (now (v .exit)) (now (columns .exit)) (now (modes .exit)) (now (strengths .exit)))
-        ≡ turned (task .left) (task .k) (task .place .column)
+        ≡ turned packed (task .left) (task .k) (task .place .column)
         (memoryOf (now (y .entry)) (now (u .entry)) (now (v .entry)) (now (columns .entry)) (now (modes .entry)) (now (strengths .entry)))
         (stepOf (now (first .entry)) (now (tokens .entry)) (task .readers) (task .frame) (now (table .entry))
-        (record { top = columnAt (now (columns .entry)) (task .place .column); left = besideOf (task .place .column) (task .left) })
+        (record { top = columnAt packed (now (columns .entry)) (task .place .column); left = besideOf (task .place .column) (task .left) })
         (task .place) (planesOf (now (y .entry)) (now (u .entry)) (now (v .entry)))))
         × (q .reads ≡ readsOf (now (first .entry)) (now (tokens .entry)) (task .readers) (task .frame) (now (table .entry))
-        (record { top = columnAt (now (columns .entry)) (task .place .column); left = besideOf (task .place .column) (task .left) })) ⌝ }
+        (record { top = columnAt packed (now (columns .entry)) (task .place .column); left = besideOf (task .place .column) (task .left) })) ⌝ }
 {
     let place = task.place;
     let found = read_column(columns, place.column);

@@ -35,13 +35,13 @@ pub record CostAtMost (t : Call) (m : Memory) : Type 0 where
 -- ---- what is counted: the symbols of the definition, in order
 -- those of macroblock k's modes, and those of its coefficients; where a byte is missing, the ones before it
 abbrev pub modeSymbols : Picture → ℕ → State → List CodedSymbol
-modeSymbols P k S = let a = aroundAt S (columnOf P k) in trace (modesOf (P .frame .announced) (a .top .modes) (a .left .modes)) (P .first) (S .reader)
+modeSymbols P k S = let a = aroundAt P S (columnOf P k) in trace (modesOf (P .frame .announced) (a .top .modes) (a .left .modes)) (P .first) (S .reader)
 
 -- those of its coefficients, its modes being given or not
 abbrev pub symbolsAfter : Picture → ℕ → State → Given Macroblock → List CodedSymbol
 symbolsAfter P k S missing = []
 symbolsAfter P k S (given m next) =
-    let a = aroundAt S (columnOf P k) in
+    let a = aroundAt P S (columnOf P k) in
     trace (residualOf (P .table) (factorsAt (P .frame) (m .segment)) (m .small) (m .skip) (a .top .flags) (a .left .flags))
     (P .token (partitionOf P k)) (getD (S .readers) (partitionOf P k) noReader)
 

@@ -60,7 +60,7 @@ cost-at-most t m y =
 
 -- ---- what is counted
 module _ (P : Picture) (k : ℕ) (S : State) where
-  after-count : (g : Given Macroblock) → macroblockTokenReads (P .token (partitionOf P k)) (readersAt S (partitionOf P k) .token) (P .frame) (P .table) (aroundAt S (columnOf P k)) g ≡ length (symbolsAfter P k S g)
+  after-count : (g : Given Macroblock) → macroblockTokenReads (P .token (partitionOf P k)) (readersAt S (partitionOf P k) .token) (P .frame) (P .table) (aroundAt P S (columnOf P k)) g ≡ length (symbolsAfter P k S g)
   unfolding count
   after-count (given m next) = refl
   after-count missing = refl
@@ -158,5 +158,5 @@ module _ (p : ℕ) (t u : Call) (m n : Memory) (a : Alike p t u) (e : Fine t m) 
 pub old-memory-costs-the-same : (t : Call) (m n : Memory) → Fine t m → Fine t n → costOf t m ≡ costOf t n
 old-memory-costs-the-same t m n e f =
     cost-good t m (sym e) refl
-    ∙ ap (λ (b : Memory). readsFrom (macroblocks t) (picturedOf t) 0 (startOf (t .bytes) (t .tile) b)) (blank-same m n (sizes-same t t m n refl refl e f))
+    ∙ ap (λ (b : Memory). readsFrom (macroblocks t) (picturedOf t) 0 (startOf (t .bytes) (t .tile) b)) (blank-same m n (sizes-same t t m n refl refl refl e f))
     ∙ sym (cost-good t n (sym f) refl)

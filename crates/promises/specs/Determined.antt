@@ -33,7 +33,7 @@ use Rattle.modes.specs.Modes as Modes
 use Rattle.modes.specs.Modes.{bottomOf}
 use Rattle.modes.specs.Counts.{modesReads}
 use Rattle.modes.specs.Contexts.{emptyContext, contextFine}
-use Rattle.lent.specs.Records.{columnWritten, columnFound, modeWritten, modeFound, strengthWritten, strengthFound}
+use Rattle.lent.specs.Records.{packed, columnWritten, columnFound, modeWritten, modeFound, strengthWritten, strengthFound}
 use Rattle.lent.specs.declared.sizes.Sizes.{Sizes}
 use Rattle.lent.specs.Sizes.{lumaFine, chromaFine, columnsFine, modesFine, strengthsFine, sizesFine}
 use Rattle.tile.specs.declared.Span.{Span}
@@ -403,8 +403,8 @@ pub lent-chroma-fine : (w h n : ℕ) → One (λ o. o ≡ chromaFine w h n)
 lent-chroma-fine w h n = determined (chromaFine w h n)
 
 -- lent::sizes::columns_fine
-pub lent-columns-fine : (w h n : ℕ) → One (λ o. o ≡ columnsFine w h n)
-lent-columns-fine w h n = determined (columnsFine w h n)
+pub lent-columns-fine : (w h n : ℕ) → One (λ o. o ≡ columnsFine packed w h n)
+lent-columns-fine w h n = determined (columnsFine packed w h n)
 
 -- lent::sizes::modes_fine
 pub lent-modes-fine : (w h n : ℕ) → One (λ o. o ≡ modesFine w h n)
@@ -415,8 +415,8 @@ pub lent-strengths-fine : (w h n : ℕ) → One (λ o. o ≡ strengthsFine w h n
 lent-strengths-fine w h n = determined (strengthsFine w h n)
 
 -- lent::sizes::sizes_fine
-pub lent-sizes-fine : (w h : ℕ) (z : Sizes) → One (λ o. o ≡ sizesFine w h z)
-lent-sizes-fine w h z = determined (sizesFine w h z)
+pub lent-sizes-fine : (w h : ℕ) (z : Sizes) → One (λ o. o ≡ sizesFine packed w h z)
+lent-sizes-fine w h z = determined (sizesFine packed w h z)
 
 -- lent::columns::write_column
 pub lent-write-column : (mem : List ℕ) (x : ℕ) (c : Context) → One (λ o. o ≡ columnWritten mem x c)

@@ -6,6 +6,7 @@ use mathlib.Core.Logic.{_⊎_, inl, inr}
 use mathlib.Core.List.{List}
 use Rattle.reader.specs.Boolean.{Bytes}
 use Rattle.lent.specs.Memory.{Memory, sizesOf}
+use Rattle.lent.specs.Records.{packed}
 use Rattle.lent.specs.Sizes.{Sized}
 use Rattle.picture.specs.Checks.{Call, callOf}
 use Rattle.picture.specs.ChecksLaws.{refusal-none}
@@ -20,7 +21,7 @@ use Rattle.promises.specs.Stops.{stops-at}
 abbrev pub frameCall : List ℕ → Call
 frameCall b = callOf b (takenOf b .answer .tile) (takenOf b .header)
 
-module _ (b : List ℕ) (y : Bytes b) (e : takenOf b .answer .number ≡ 0) (m : Memory) (s : Sized (takenOf b .answer .tile .width) (takenOf b .answer .tile .height) (sizesOf m)) where
+module _ (b : List ℕ) (y : Bytes b) (e : takenOf b .answer .number ≡ 0) (m : Memory) (s : Sized packed (takenOf b .answer .tile .width) (takenOf b .answer .tile .height) (sizesOf m)) where
   -- THE PROMISE: a frame that is taken, with memory of the lengths that check 4 asks, passes all five checks
   pub taken-passes : Fine (frameCall b) m
   taken-passes =

@@ -19,12 +19,13 @@ SameTokens t u q =
     (i : ℕ) → i < s .len → getD (t .bytes) (s .start + i) 0 ≡ getD (u .bytes) (r .start + i) 0
 
 -- two tiles alike in all but the bytes of token partition p: size, count, header, starting reader, the partitions' lengths, and the bytes
--- of the first partition and of every other token partition below the count
+-- of the first partition and of every other token partition below the count; and column memory of one form
 pub record Alike (p : ℕ) (t u : Call) : Type 0 where
   pub width : t .tile .width ≡ u .tile .width
   pub height : t .tile .height ≡ u .tile .height
   pub count : t .tile .count ≡ u .tile .count
   pub header : t .header ≡ u .header
+  pub form : t .form ≡ u .form
   pub reader : t .tile .reader ≡ u .tile .reader
   pub firstLength : t .tile .first .len ≡ u .tile .first .len
   pub lengths : (q : ℕ) → q < t .tile .count → spanAt (t .tile) q .len ≡ spanAt (u .tile) q .len

@@ -68,6 +68,7 @@ module _ (p : ℕ) (t u : Call) (m n : Memory) (a : Alike p t u) (e : Fine t m) 
       frame = ap frameOf (a .header);
       table = ap headerTable (a .header);
       wide = ap (λ (w : ℕ). w / 16) (a .width);
+      form = a .form;
       token = λ q h. token-same q (below q h) (same q h);
     }
 
@@ -83,7 +84,7 @@ module _ (p : ℕ) (t u : Call) (m n : Memory) (a : Alike p t u) (e : Fine t m) 
       eight′ = readers-length (u .bytes) (u .tile);
       readers = reader-same;
       left = refl;
-      mem = blank-same m n (sizes-same t u m n (a .width) (a .height) e f);
+      mem = blank-same m n (sizes-same t u m n (a .form) (a .width) (a .height) e f);
     }
 
   -- the call of the second tile, as many macroblocks as the first has
@@ -191,10 +192,10 @@ module _ (p : ℕ) (t u : Call) (m n : Memory) (a : Alike p t u) (e : Fine t m) 
     shared = twins Rest (λ q r. r .0) (λ q r. a .tokens q (r .0) (r .1))
 
     blank : begunOf t m .mem ≡ begunOf u n .mem
-    blank = blank-same m n (sizes-same t u m n (a .width) (a .height) e f)
+    blank = blank-same m n (sizes-same t u m n (a .form) (a .width) (a .height) e f)
 
-    start-modes : Moded (t .tile .width / 16) (begunOf t m) (begunOf u n)
-    start-modes = record { reader = a .reader; left = refl; above = λ c h. ap (λ (b : Memory). columnAt (b .columns) c .modes) blank; modes = ap (λ (b : Memory). b .modes) blank }
+    start-modes : Moded (t .form) (u .form) (t .tile .width / 16) (begunOf t m) (begunOf u n)
+    start-modes = record { reader = a .reader; left = refl; above = λ c h i. columnAt (a .form i) (blank i .columns) c .modes; modes = ap (λ (b : Memory). b .modes) blank }
 
     kinds-same : (k i : ℕ) → k < valuesOf (pictureOf t m .answer) → k < valuesOf (pictureOf u n .answer) → i < modeWidth
         → modeByte (k * modeWidth + i) (pictureOf t m .mem) ≡ modeByte (k * modeWidth + i) (pictureOf u n .mem)

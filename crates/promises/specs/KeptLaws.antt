@@ -49,7 +49,7 @@ module _ {P : Picture} {S₀ : State} (z : Sound P S₀) where
 
     elsewhere : Elsewhere (placeOf P k) (planesIn (S .mem)) (x .planes)
     elsewhere =
-        step-outside (P .first) (P .token (partitionOf P k)) (readersAt S (partitionOf P k)) (P .frame) (P .table) (aroundAt S (columnOf P k)) (placeOf P k) (planesIn (S .mem))
+        step-outside (P .first) (P .token (partitionOf P k)) (readersAt S (partitionOf P k)) (P .frame) (P .table) (aroundAt P S (columnOf P k)) (placeOf P k) (planesIn (S .mem))
         (ready-at P S k (z .shared) l h (columnOf P k) (partitionOf P k) (column-below P k h) q-below refl refl) (z .first) (z .tokens (partitionOf P k) q-below) (z .shared .bytes) (sym (step-at P k S) ∙ e) (laid-at P S k (z .shared) l h)
 
     half : {w n : ℕ} {p q : List ℕ} {a b : ℕ} → w ≡ n → Kept w a b 8 p q → Kept n a b 8 p q

@@ -42,7 +42,7 @@ use Rattle.transform.specs.Lanes.{macroblockLanes}
 use Rattle.residual.specs.Residual as Residual
 use Rattle.residual.specs.Residual.{Model, Values, residualOf, residualNumberOf, residualValuesOf}
 use Rattle.planes.specs.Paint.{squareBlocks, squarePainted, paintFine, paintOf}
-use Rattle.lent.specs.Records.{recordAt, recordsIn, columnWidth, columnAt, columnSet, columnWritten, columnFound, modeWidth, kindsAt, modesAt, modeSet, kindsFine, modeWritten, modeFound, strengthWidth, segmentIn, smallIn, strengthAt, strengthSet, strengthWritten, strengthFound}
+use Rattle.lent.specs.Records.{recordAt, recordsIn, packed, columnWidth, columnAt, columnSet, columnWritten, columnFound, modeWidth, kindsAt, modesAt, modeSet, kindsFine, modeWritten, modeFound, strengthWidth, segmentIn, smallIn, strengthAt, strengthSet, strengthWritten, strengthFound}
 use Rattle.macroblock.specs.declared.arguments.Place.{Place}
 use Rattle.macroblock.specs.declared.arguments.Readers.{Readers}
 use Rattle.macroblock.specs.declared.arguments.Around.{Around}
@@ -210,8 +210,8 @@ pub record Numbers : Type 0 where
   -- ---- lent: 9
   -- lent::columns::write_column, read_column
   pub write-column : (mem : List ℕ) (x : ℕ) (c : Context)
-      → Checked 9 (ltb x (recordsIn columnWidth mem) && contextFine c) (checkedNumberOf (columnWritten mem x c .answer)) (columnWritten mem x c .mem) mem (columnSet mem x c)
-  pub read-column : (mem : List ℕ) (x : ℕ) → Checked 9 (ltb x (recordsIn columnWidth mem)) (checkedNumberOf (columnFound mem x .answer)) (columnFound mem x .context) emptyContext (columnAt mem x)
+      → Checked 9 (ltb x (recordsIn columnWidth mem) && contextFine c) (checkedNumberOf (columnWritten mem x c .answer)) (columnWritten mem x c .mem) mem (columnSet packed mem x c)
+  pub read-column : (mem : List ℕ) (x : ℕ) → Checked 9 (ltb x (recordsIn columnWidth mem)) (checkedNumberOf (columnFound mem x .answer)) (columnFound mem x .context) emptyContext (columnAt packed mem x)
   -- lent::macroblocks::write_mode_record, read_mode_record
   pub write-modes : (mem : List ℕ) (i : ℕ) (k : Kinds) (modes : List ℕ)
       → Checked 9 (ltb i (recordsIn modeWidth mem) && (kindsFine k && eachBelow 10 modes)) (checkedNumberOf (modeWritten mem i k modes .answer)) (modeWritten mem i k modes .mem) mem (modeSet mem i k modes)

@@ -35,7 +35,7 @@ use Rattle.residual.specs.Residual as Residual
 use Rattle.residual.specs.Residual.{Model, residualOf, residualNumberOf, residualValuesOf}
 use Rattle.planes.specs.Paint.{PaintedPlane, paintOf}
 use Rattle.lent.specs.Records as Records
-use Rattle.lent.specs.Records.{contextIn, kindsIn, modesIn, strengthIn, segmentIn, smallIn, recordWritten, recordFound}
+use Rattle.lent.specs.Records.{digitsOf, packed, contextIn, kindsIn, modesIn, strengthIn, segmentIn, smallIn, recordWritten, recordFound}
 use Rattle.macroblock.specs.declared.whole.Finish.the-variants as F
 use Rattle.macroblock.specs.Macroblock as Macroblock
 use Rattle.macroblock.specs.Macroblock.{Planes, Finished, MacroblockCalled, toMacroblockCalled, afterModes, afterTokens, noOutcome, endOf, finishNumberOf}
@@ -196,7 +196,7 @@ wrap-numbers frame out = record {
 
 -- ---- THE PROMISE
 pub numbers-bind : Numbers
-unfolding wrap16Of symbolAnswer walkOf walkAnswer extraOf extraAnswer tokenOf tokenAnswer quantizersOf levelAnswer framedOf magnitudeOf numberAnswer signedOf signedAnswer Tokens.blockOf Tokens.blockCallOf Tokens.blockByHeaderOf tableOf transformOf pixelOf strengthAnswer prefixAnswer mainAnswer blockAnswer smallAnswer modesAnswer Residual.residualAnswer Residual.residualCallOf Residual.residualByHeaderOf paintOf recordWritten recordFound Macroblock.macroblockCallOf Macroblock.stepOf ranOf intoOf filteredOf explainCalledOf frameCalledOf deblockCalledOf webpFoundOf webpWrappedOf
+unfolding wrap16Of symbolAnswer walkOf walkAnswer extraOf extraAnswer tokenOf tokenAnswer quantizersOf levelAnswer framedOf magnitudeOf numberAnswer signedOf signedAnswer Tokens.blockOf Tokens.blockCallOf Tokens.blockByHeaderOf tableOf transformOf pixelOf strengthAnswer prefixAnswer mainAnswer blockAnswer smallAnswer modesAnswer Residual.residualAnswer Residual.residualCallOf Residual.residualByHeaderOf paintOf recordWritten recordFound digitsOf Macroblock.macroblockCallOf Macroblock.stepOf ranOf intoOf filteredOf explainCalledOf frameCalledOf deblockCalledOf webpFoundOf webpWrappedOf
 numbers-bind = record {
   wrap16 = λ v. checked-cond _ Wrap.wrap16NumberOf Wrap.wrap16ValuesOf refl refl refl refl;
   symbol = λ short s r prob. reads _ (symbolOf s r prob) toSymbol (symbolNumberOf short) symbolValuesOf refl refl refl refl (λ b q. (refl, refl));
@@ -223,7 +223,7 @@ numbers-bind = record {
   residual-decode-header = λ s r h segment small skip top left old. reads-both (headerOf h && ltb segment 4) (validOf s r && Residual.residualArguments (headerTable h) top left (length old)) (run (residualOf (headerTable h) (factorsOf h segment) small skip top left) s r) (Residual.toResidualCalled old) {y = Residual.refusedResidual old} (λ c. residualNumberOf (c .answer)) (λ c. (residualValuesOf (c .answer), c .out)) refl refl refl refl (λ m q. (refl, refl));
   paint = λ p w column row n small mode modes c from. checked-cond _ (λ (x : PaintedPlane). checkedNumberOf (x .answer)) (λ (x : PaintedPlane). x .plane) refl refl refl refl;
   write-column = λ mem x c. checked _ (λ (w : Records.Written). checkedNumberOf (w .answer)) (λ (w : Records.Written). w .mem) refl refl refl refl;
-  read-column = λ mem x. checked _ (λ (t : Records.Taken). checkedNumberOf (t .answer)) (λ (t : Records.Taken). contextIn (t .bytes)) refl refl refl refl;
+  read-column = λ mem x. checked _ (λ (t : Records.Taken). checkedNumberOf (t .answer)) (λ (t : Records.Taken). contextIn packed (t .bytes)) refl refl refl refl;
   write-modes = λ mem i k modes. checked _ (λ (w : Records.Written). checkedNumberOf (w .answer)) (λ (w : Records.Written). w .mem) refl refl refl refl;
   modes-read = λ mem i. checked _ (λ (t : Records.Taken). checkedNumberOf (t .answer)) (λ (t : Records.Taken). (kindsIn (t .bytes), modesIn (t .bytes))) refl refl refl refl;
   write-strength = λ mem i t k. checked _ (λ (w : Records.Written). checkedNumberOf (w .answer)) (λ (w : Records.Written). w .mem) refl refl refl refl;

@@ -19,12 +19,12 @@ pub data Reached (P : Picture) (S₀ : State) : ℕ → State → Type 0 where
 
 -- what macroblock k asks of the first partition: its modes (RFC 6386 section 19.3); `missing` where it asks for a byte that is not there
 abbrev pub modesAsked : Picture → ℕ → State → Given Macroblock
-modesAsked P k S = let a = aroundAt S (columnOf P k) in run (modesOf (P .frame .announced) (a .top .modes) (a .left .modes)) (P .first) (S .reader)
+modesAsked P k S = let a = aroundAt P S (columnOf P k) in run (modesOf (P .frame .announced) (a .top .modes) (a .left .modes)) (P .first) (S .reader)
 
 -- what macroblock k, its modes being m, asks of its row's token partition: its coefficients (section 13)
 abbrev pub tokensAsked : Picture → ℕ → State → Macroblock → Given Model
 tokensAsked P k S m =
-    let a = aroundAt S (columnOf P k) in
+    let a = aroundAt P S (columnOf P k) in
     run (residualOf (P .table) (factorsAt (P .frame) (m .segment)) (m .small) (m .skip) (a .top .flags) (a .left .flags))
     (P .token (partitionOf P k)) (getD (S .readers) (partitionOf P k) noReader)
 

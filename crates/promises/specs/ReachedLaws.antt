@@ -19,12 +19,12 @@ use Rattle.promises.specs.Reached.{Reached, start, after, modesAsked, to
 module _ (P : Picture) (k : ℕ) (S : State) where
   pub modes-missing : stepAt P k S ≡ no-modes → modesAsked P k S ≡ missing
   modes-missing e =
-      step-refused-modes (P .first) (P .token (partitionOf P k)) (readersAt S (partitionOf P k)) (P .frame) (P .table) (aroundAt S (columnOf P k)) (placeOf P k) (planesIn (S .mem)) (sym (step-at P k S) ∙ e)
+      step-refused-modes (P .first) (P .token (partitionOf P k)) (readersAt S (partitionOf P k)) (P .frame) (P .table) (aroundAt P S (columnOf P k)) (placeOf P k) (planesIn (S .mem)) (sym (step-at P k S) ∙ e)
 
   pub missing-modes : modesAsked P k S ≡ missing → stepAt P k S ≡ no-modes
   missing-modes e =
       step-at P k S
-      ∙ step-no-modes (P .first) (P .token (partitionOf P k)) (readersAt S (partitionOf P k)) (P .frame) (P .table) (aroundAt S (columnOf P k)) (placeOf P k) (planesIn (S .mem)) e
+      ∙ step-no-modes (P .first) (P .token (partitionOf P k)) (readersAt S (partitionOf P k)) (P .frame) (P .table) (aroundAt P S (columnOf P k)) (placeOf P k) (planesIn (S .mem)) e
 
   -- its modes are given, and its tokens run out
   pub record Short : Type 0 where
@@ -35,13 +35,13 @@ module _ (P : Picture) (k : ℕ) (S : State) where
 
   pub tokens-missing : stepAt P k S ≡ no-tokens → Short
   tokens-missing e =
-      let n = step-refused-tokens (P .first) (P .token (partitionOf P k)) (readersAt S (partitionOf P k)) (P .frame) (P .table) (aroundAt S (columnOf P k)) (placeOf P k) (planesIn (S .mem)) (sym (step-at P k S) ∙ e) in
+      let n = step-refused-tokens (P .first) (P .token (partitionOf P k)) (readersAt S (partitionOf P k)) (P .frame) (P .table) (aroundAt P S (columnOf P k)) (placeOf P k) (planesIn (S .mem)) (sym (step-at P k S) ∙ e) in
       record { modes = n .modes; reader = n .first; gave = n .gave; out = n .out }
 
   pub missing-tokens : (m : Macroblock) (r : Reader) → modesAsked P k S ≡ given m r → tokensAsked P k S m ≡ missing → stepAt P k S ≡ no-tokens
   missing-tokens m r e f =
       step-at P k S
-      ∙ step-no-tokens (P .first) (P .token (partitionOf P k)) (readersAt S (partitionOf P k)) (P .frame) (P .table) (aroundAt S (columnOf P k)) (placeOf P k) (planesIn (S .mem)) m r e f
+      ∙ step-no-tokens (P .first) (P .token (partitionOf P k)) (readersAt S (partitionOf P k)) (P .frame) (P .table) (aroundAt P S (columnOf P k)) (placeOf P k) (planesIn (S .mem)) m r e f
 
 -- ---- the run passes through every state that is reached
 pub run-from : {P : Picture} {S₀ S : State} {k : ℕ} → Reached P S₀ k S → (n : ℕ) → runOf (k + n) P 0 S₀ ≡ runOf n P k S

@@ -129,12 +129,12 @@ blank-same m n e =
     }
 
 -- a tile that is not refused with one memory and with another finds the same lengths
-pub sizes-same : (t u : Call) (m n : Memory) → t .tile .width ≡ u .tile .width → t .tile .height ≡ u .tile .height → Fine t m → Fine u n → sizesOf m ≡ sizesOf n
-sizes-same t u m n w h e f =
+pub sizes-same : (t u : Call) (m n : Memory) → t .form ≡ u .form → t .tile .width ≡ u .tile .width → t .tile .height ≡ u .tile .height → Fine t m → Fine u n → sizesOf m ≡ sizesOf n
+sizes-same t u m n form w h e f =
     let a = fine-lengths t (sizesOf m) e .sizes in
     let b = fine-lengths u (sizesOf n) f .sizes in
     let y : length (m .y) ≡ length (n .y) = rw (w, h) at (a .y) ∙ sym (b .y) in
-    let c : length (m .columns) ≡ length (n .columns) = rw w at (a .columns) ∙ sym (b .columns) in
+    let c : length (m .columns) ≡ length (n .columns) = rw (form, w) at (a .columns) ∙ sym (b .columns) in
     let u2 : length (m .u) ≡ length (n .u) = rw (w, h) at (a .u) ∙ sym (b .u) in
     let v : length (m .v) ≡ length (n .v) = rw (w, h) at (a .v) ∙ sym (b .v) in
     let d : length (m .modes) ≡ length (n .modes) = rw (w, h) at (a .modes) ∙ sym (b .modes) in
@@ -145,5 +145,5 @@ sizes-same t u m n w h e f =
 pub old-memory-does-not-matter : (t : Call) (m n : Memory) → Fine t m → Fine t n → pictureOf t m ≡ pictureOf t n
 old-memory-does-not-matter t m n e f =
     fine-is t m e
-    ∙ ap (λ (b : Memory). runOf (blocksOf (t .tile .width) (t .tile .height)) (picturedOf t) 0 (startOf (t .bytes) (t .tile) b)) (blank-same m n (sizes-same t t m n refl refl e f))
+    ∙ ap (λ (b : Memory). runOf (blocksOf (t .tile .width) (t .tile .height)) (picturedOf t) 0 (startOf (t .bytes) (t .tile) b)) (blank-same m n (sizes-same t t m n refl refl refl e f))
     ∙ sym (fine-is t n f)

@@ -34,6 +34,7 @@ pub record Twins (U : ℕ → Type 0) (P Q : Picture) : Type 0 where
   pub frame : P .frame ≡ Q .frame
   pub table : P .table ≡ Q .table
   pub wide : P .wide ≡ Q .wide
+  pub form : P .form ≡ Q .form
   pub token : (q : ℕ) → U q → P .token q ≡ Q .token q
 
 -- the same state, but for the readers of those partitions
@@ -52,13 +53,13 @@ module _ {U : ℕ → Type 0} {P Q : Picture} (t : Twins U P Q) where
   module _ {S T : State} (s : Same U S T) (k : ℕ) (u : U (partitionOf P k)) where
     -- what is worked out of what macroblock k finds
     pub found-same : {A : Type 0} (F : (first tokens : List ℕ) → Readers → Frame → (table : List ℕ) → Around → Place → Planes → A)
-        → F (P .first) (P .token (partitionOf P k)) (readersAt S (partitionOf P k)) (P .frame) (P .table) (aroundAt S (columnOf P k)) (placeOf P k) (planesIn (S .mem))
-        ≡ F (Q .first) (Q .token (partitionOf Q k)) (readersAt T (partitionOf Q k)) (Q .frame) (Q .table) (aroundAt T (columnOf Q k)) (placeOf Q k) (planesIn (T .mem))
+        → F (P .first) (P .token (partitionOf P k)) (readersAt S (partitionOf P k)) (P .frame) (P .table) (aroundAt P S (columnOf P k)) (placeOf P k) (planesIn (S .mem))
+        ≡ F (Q .first) (Q .token (partitionOf Q k)) (readersAt T (partitionOf Q k)) (Q .frame) (Q .table) (aroundAt Q T (columnOf Q k)) (placeOf Q k) (planesIn (T .mem))
     found-same F =
         let a : P .token (partitionOf P k) ≡ Q .token (partitionOf Q k) = t .token (partitionOf P k) u ∙ ap (Q .token) (part-same k) in
         let b : getD (S .readers) (partitionOf P k) noReader ≡ getD (T .readers) (partitionOf Q k) noReader = s .readers (partitionOf P k) u ∙ ap (λ (q : ℕ). getD (T .readers) q noReader) (part-same k) in
         λ i. F (t .first i) (a i) (record { first = s .reader i; token = b i }) (t .frame i) (t .table i)
-        (record { top = columnAt (s .mem i .columns) (k % t .wide i); left = besideOf (k % t .wide i) (s .left i) })
+        (record { top = columnAt (t .form i) (s .mem i .columns) (k % t .wide i); left = besideOf (k % t .wide i) (s .left i) })
         (record { column = k % t .wide i; row = k / t .wide i; width = t .wide i * 16 }) (planesIn (s .mem i))
 
     -- one macroblock of both
@@ -77,7 +78,7 @@ module _ {U : ℕ → Type 0} {P Q : Picture} (t : Twins U P Q) where
           eight′ = length-set (T .readers) (partitionOf Q k) (x .readers .token) ∙ s .eight′;
           readers = λ q v. with q v (eq-or q (partitionOf P k));
           left = refl;
-          mem = λ i. written k (k % t .wide i) (s .mem i) x;
+          mem = λ i. written (t .form i) k (k % t .wide i) (s .mem i) x;
         }
       where
         with : (q : ℕ) → U q → (q ≡ partitionOf P k) ⊎ (q ≡ partitionOf P k → ⊥) → getD (set (S .readers) (partitionOf P k) (x .readers .token)) q noReader ≡ getD (set (T .readers) (partitionOf Q k) (x .readers .token)) q noReader

@@ -9,7 +9,7 @@ use Rattle.picture.specs.FinalLaws.{picture-final}
 use Rattle.promises.specs.Refusals.{Fine}
 
 -- THE PROMISES, after 0, 6 and 7: every context in column memory is in range, four modes below 10 and nine flags below 2
-pub final-contexts-valid : (t : Call) (m : Memory) → Bytes (t .bytes) → Fine t m → Columns (pictureOf t m .mem .columns)
+pub final-contexts-valid : (t : Call) (m : Memory) → Bytes (t .bytes) → Fine t m → Columns (t .form) (pictureOf t m .mem .columns)
 final-contexts-valid t m b e = picture-final t m e b .contexts
 
 -- and every macroblock's limit is at most 189

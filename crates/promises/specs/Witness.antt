@@ -34,7 +34,7 @@ use Rattle.modes.specs.Table.{probabilities, rfcTable}
 use Rattle.modes.specs.Modes.{modesOf, prefix, segment, skip, modeAbove, modeLeft, smallFrom, smallModes}
 use Rattle.coefficients.specs.Block.{categories, bases, magnitude, signedValue, bands, zigzag, probabilityPlace, quantizerAt, contextAfter, blockFrom, headerTable}
 use Rattle.residual.specs.Residual.{coordinates, kindOf, spread, second, sixteenAt, advance, blocksFrom, residualOf}
-use Rattle.lent.specs.Records.{recordAt, recordSet}
+use Rattle.lent.specs.Records.{packedOf, digitsOf, recordAt, recordSet}
 use Rattle.macroblock.specs.Macroblock.{endOf, stepOf}
 use Rattle.picture.specs.Picture.{besideOf, stepAt, runOf, picturedOf, begunOf, numberOf, valuesOf, Ended, pictureOf}
 use Rattle.planes.specs.Paint.{nearOf, fourAbove, fourLeft, firstPlaces, edgeOf, aboveRight, blockAboveRight, aroundOf, rowsPainted, blockCoefficients, blockResidual, summedOf, blockPainted, blocksPainted, smallAt, predictionRule, squarePainted}
@@ -73,7 +73,7 @@ witnessTile x = callOf (witnessBytes x)
 
 -- memory of the right lengths that holds x everywhere
 abbrev pub heldOf : ℕ → Memory
-heldOf x = memoryOf (replicate 512 x) (replicate 128 x) (replicate 128 x) (replicate 13 x) (replicate 40 x) (replicate 12 x)
+heldOf x = memoryOf (replicate 512 x) (replicate 128 x) (replicate 128 x) (replicate 4 x) (replicate 40 x) (replicate 12 x)
 
 -- what all of them share
 front : (x i : ℕ) → i < 64 → getD (witnessBytes x) i 0 ≡ 0
@@ -110,7 +110,7 @@ fine x y = good-arguments (witnessTile x) (heldOf y) sides counted bounded sized
         y = length-replicate 512 y;
         u = length-replicate 128 y;
         v = length-replicate 128 y;
-        columns = length-replicate 13 y;
+        columns = length-replicate 4 y;
         modes = length-replicate 40 y;
         strengths = length-replicate 12 y;
       };
@@ -143,6 +143,7 @@ two-tiles x y = record {
   height = refl;
   count = refl;
   header = refl;
+  form = refl;
   reader = refl;
   firstLength = refl;
   lengths = λ q h. refl;
@@ -170,7 +171,7 @@ picture-is x y = fine-is (witnessTile x) (heldOf y) (fine x y)
 -- the answers, and the first luma sample of row 1
 computed : (numberOf (outcome 0 7 .answer) ≡ 0) × (valuesOf (outcome 0 7 .answer) ≡ 2) × (sampleOf 1 luma 0 16 (outcome 0 7 .mem) ≡ 129)
     × (numberOf (outcome 128 9 .answer) ≡ 0) × (valuesOf (outcome 128 9 .answer) ≡ 2) × (sampleOf 1 luma 0 16 (outcome 128 9 .mem) ≡ 188)
-unfolding build upTo clampZ placed copied wrapZ announcedOf frameOf segmentedOf deltaOf levelOf factorsOf dcSteps acSteps symbolOf splitOf grow decidedOf run extraFrom walk step elevenAt probabilities rfcTable modesOf prefix segment skip modeAbove modeLeft smallFrom smallModes categories bases magnitude signedValue bands zigzag probabilityPlace quantizerAt contextAfter blockFrom headerTable coordinates kindOf spread second sixteenAt advance blocksFrom residualOf recordAt recordSet endOf stepOf contentsOf spanAt pickOf readerOf readersOf besideOf stepAt runOf nearOf fourAbove fourLeft firstPlaces edgeOf aboveRight blockAboveRight aroundOf rowsPainted blockCoefficients blockResidual summedOf blockPainted blocksPainted smallAt predictionRule squarePainted dcBlock sumOfFirst gridOf transposeOf scaledOf passOf rowsOf verticalPass horizontalPass resultsOf samplesOf
+unfolding build upTo clampZ placed copied wrapZ announcedOf frameOf segmentedOf deltaOf levelOf factorsOf dcSteps acSteps symbolOf splitOf grow decidedOf run extraFrom walk step elevenAt probabilities rfcTable modesOf prefix segment skip modeAbove modeLeft smallFrom smallModes categories bases magnitude signedValue bands zigzag probabilityPlace quantizerAt contextAfter blockFrom headerTable coordinates kindOf spread second sixteenAt advance blocksFrom residualOf recordAt recordSet packedOf digitsOf endOf stepOf contentsOf spanAt pickOf readerOf readersOf besideOf stepAt runOf nearOf fourAbove fourLeft firstPlaces edgeOf aboveRight blockAboveRight aroundOf rowsPainted blockCoefficients blockResidual summedOf blockPainted blocksPainted smallAt predictionRule squarePainted dcBlock sumOfFirst gridOf transposeOf scaledOf passOf rowsOf verticalPass horizontalPass resultsOf samplesOf
 computed = (refl, refl, refl, refl, refl, refl)
 
 -- both tiles are finished: two macroblocks each, number 0

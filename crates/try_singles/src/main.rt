@@ -6,7 +6,6 @@ use filter::strengths::Strength;
 use header::entries::ENTRY_COUNT;
 use header::frame::Frame;
 use header::frame::take;
-use lent::columns::read_column;
 use macroblock::arguments::Around;
 use macroblock::arguments::Place;
 use macroblock::arguments::Readers;
@@ -163,6 +162,16 @@ fn show_outcome(w: Outcome, y: &[u8], u: &[u8], v: &[u8]) {
 }
 
 // ---- the cases
+// Four modes and nine flags, a byte each.
+fn context(b: &[u8]) -> Context
+    requires { ⌜ length (now b) ≡ 13 ⌝ }
+{
+    Context {
+        modes: [b[0], b[1], b[2], b[3]],
+        flags: [b[4], b[5], b[6], b[7], b[8], b[9], b[10], b[11], b[12]],
+    }
+}
+
 // One case: 34 bytes, and its two partitions opened.
 fn one(case: &[u8], first: &[u8], tokens: &[u8], readers: Readers, frame: Frame, table: &[u8])
     requires { ⌜ length (now case) ≡ 34 ⌝ }
@@ -174,10 +183,8 @@ fn one(case: &[u8], first: &[u8], tokens: &[u8], readers: Readers, frame: Frame,
     fill(&mut y, seed);
     fill(&mut u, seed + 1);
     fill(&mut v, seed + 2);
-    let above = read_column(&case[8..34], 0);
-    let beside = read_column(&case[8..34], 1);
-    let top = above.context;
-    let left = beside.context;
+    let top = context(&case[8..21]);
+    let left = context(&case[21..34]);
     let around = Around {
         top: top,
         left: left,

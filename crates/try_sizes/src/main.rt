@@ -39,10 +39,10 @@ fn luma() -> [u8; 262144]
     [0; 262144]
 }
 
-fn columns() -> [u8; 13312]
-    ensures { λ r. ⌜ 13312 ≡ length r ⌝ }
+fn columns() -> [u8; 4096]
+    ensures { λ r. ⌜ 4096 ≡ length r ⌝ }
 {
-    [0; 13312]
+    [0; 4096]
 }
 
 fn modes() -> [u8; 20480]

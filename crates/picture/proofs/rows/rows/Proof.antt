@@ -9,6 +9,7 @@ use Rattle.tile.specs.PartitionsLaws.{part-bytes, pick-below}
 use Rattle.tile.specs.Checks.{blocksOf}
 use Rattle.macroblock.specs.Macroblock.{Finished, finished}
 use Rattle.lent.specs.Memory.{Memory, memoryOf}
+use Rattle.lent.specs.Records.{packed}
 use Rattle.picture.specs.Picture.{Picture, State, Ended, cutOut, startOf, rowOf, columnOf, partitionOf, planesIn, stepAt, runOf}
 use Rattle.picture.specs.Turn.{Turned, turnedOf, turned}
 use Rattle.picture.specs.TurnLaws.{Ends}
@@ -33,7 +34,7 @@ use Rattle.tile.proofs.partitions.token.Reads as token-reads
 
 abbrev Inv-across : tie.InvT-across
 Inv-across bytes tile frame table y₀ u₀ v₀ columns₀ modes₀ strengths₀ wide high blocks first r₀ readers₀ left₀ k₀ answer₀ reads₀ width row p tokens column₀ y u v columns modes strengths r readers left k answer reads column =
-    InRow (cutOut bytes tile frame table) k₀ (stateOf r₀ readers₀ left₀ (memoryOf y₀ u₀ v₀ columns₀ modes₀ strengths₀)) answer₀ reads₀ k answer column (stateOf r readers left (memoryOf y u v columns modes strengths)) reads
+    InRow (cutOut packed bytes tile frame table) k₀ (stateOf r₀ readers₀ left₀ (memoryOf y₀ u₀ v₀ columns₀ modes₀ strengths₀)) answer₀ reads₀ k answer column (stateOf r readers left (memoryOf y u v columns modes strengths)) reads
 
 abbrev μ-across : tie.MeasureT-across
 μ-across bytes tile frame table y₀ u₀ v₀ columns₀ modes₀ strengths₀ wide high blocks first r₀ readers₀ left₀ k₀ answer₀ reads₀ width row p tokens column₀ y u v columns modes strengths r readers left k answer reads column =
@@ -41,7 +42,7 @@ abbrev μ-across : tie.MeasureT-across
 
 abbrev Inv-rows : tie.InvT-rows
 Inv-rows bytes tile frame table y₀ u₀ v₀ columns₀ modes₀ strengths₀ wide high blocks first r₀ readers₀ left₀ k₀ answer₀ reads₀ width row₀ y u v columns modes strengths r readers left k answer reads row =
-    AtRow (cutOut bytes tile frame table) (totalOf (cutOut bytes tile frame table) (stateOf r₀ readers₀ left₀ (memoryOf y₀ u₀ v₀ columns₀ modes₀ strengths₀))) k answer row (stateOf r readers left (memoryOf y u v columns modes strengths)) reads
+    AtRow (cutOut packed bytes tile frame table) (totalOf (cutOut packed bytes tile frame table) (stateOf r₀ readers₀ left₀ (memoryOf y₀ u₀ v₀ columns₀ modes₀ strengths₀))) k answer row (stateOf r readers left (memoryOf y u v columns modes strengths)) reads
 
 abbrev μ-rows : tie.MeasureT-rows
 μ-rows bytes tile frame table y₀ u₀ v₀ columns₀ modes₀ strengths₀ wide high blocks first r₀ readers₀ left₀ k₀ answer₀ reads₀ width row₀ y u v columns modes strengths r readers left k answer reads row =
@@ -58,7 +59,7 @@ abbrev inner : tie.After-turn Inv-across μ-across Inv-rows μ-rows → tie.In-a
 inner c = c .before .before .before .before .before .before .before .before
 
 abbrev pic : tie.At-rows Inv-across μ-across Inv-rows μ-rows → Picture
-pic c = let a = start c .args in cutOut (a .bytes .now) (a .tile) (a .frame) (a .table .now)
+pic c = let a = start c .args in cutOut packed (a .bytes .now) (a .tile) (a .frame) (a .table .now)
 
 abbrev mem₀ : tie.At-rows Inv-across μ-across Inv-rows μ-rows → Memory
 mem₀ c = let a = start c .args in memoryOf (a .y .now) (a .u .now) (a .v .now) (a .columns .now) (a .modes .now) (a .strengths .now)
@@ -121,7 +122,7 @@ after c =
     turnedOf (c .turn .result .answer) (c .turn .result .left) (memoryOf (l .0) (l .1 .0) (l .1 .1 .0) (l .1 .1 .1 .0) (l .1 .1 .1 .1 .0) (l .1 .1 .1 .1 .1 .0))
 
 -- what it answered is macroblock k
-turned-is : (c : tie.After-turn Inv-across μ-across Inv-rows μ-rows) → (let i = inner c in after c ≡ turned (i .before .across .left) (i .before .across .k) (columnOf (pic (outer i)) (i .before .across .k)) (state (i .before) .mem) (stepAt (pic (outer i)) (i .before .across .k) (state (i .before))))
+turned-is : (c : tie.After-turn Inv-across μ-across Inv-rows μ-rows) → (let i = inner c in after c ≡ turned packed (i .before .across .left) (i .before .across .k) (columnOf (pic (outer i)) (i .before .across .k)) (state (i .before) .mem) (stepAt (pic (outer i)) (i .before .across .k) (state (i .before))))
 turned-is c =
     let i = inner c in
     let o = outer i in

@@ -1,6 +1,6 @@
 use mathlib.Core.Path.{_≡_}
 use Rattle.lent.specs.Memory.{Memory, memoryOf}
-use Rattle.lent.specs.Records.{columnAt}
+use Rattle.lent.specs.Records.{packed, columnAt}
 use Rattle.macroblock.specs.Counts.{readsOf}
 use Rattle.macroblock.specs.Macroblock.{Planes, Finished, Step, finished, stepOf, toMacroblockCalled}
 use Rattle.picture.specs.Picture.{besideOf, planesIn}
@@ -32,7 +32,7 @@ abbrev step : tie.After-decode → Step
 step c =
     let a = start c .args in
     let t = a .task in
-    stepOf (a .first .now) (a .tokens .now) (t .readers) (t .frame) (a .table .now) (record { top = columnAt (a .columns .now) (t .place .column); left = besideOf (t .place .column) (t .left) }) (t .place) (planesIn (before c))
+    stepOf (a .first .now) (a .tokens .now) (t .readers) (t .frame) (a .table .now) (record { top = columnAt packed (a .columns .now) (t .place .column); left = besideOf (t .place .column) (t .left) }) (t .place) (planesIn (before c))
 
 abbrev painted : tie.After-decode → Planes
 painted c = let l = c .decode .last .1 .1 .1 .1 .1 .1 .1 in record { y = l .0; u = l .1 .0; v = l .1 .1 .0 }
@@ -45,7 +45,7 @@ answer c =
     (c .before .before .before .before .beside .ensures)
     (p .0) (p .1 .0)
 
-counted : (c : tie.After-decode) → (let a = start c .args in let t = a .task in c .decode .result .reads ≡ readsOf (a .first .now) (a .tokens .now) (t .readers) (t .frame) (a .table .now) (record { top = columnAt (a .columns .now) (t .place .column); left = besideOf (t .place .column) (t .left) }))
+counted : (c : tie.After-decode) → (let a = start c .args in let t = a .task in c .decode .result .reads ≡ readsOf (a .first .now) (a .tokens .now) (t .readers) (t .frame) (a .table .now) (record { top = columnAt packed (a .columns .now) (t .place .column); left = besideOf (t .place .column) (t .left) }))
 counted c =
     let p = start c .pre in
     call-reads _ _ _ _ _ _ _ _ _ (c .decode .ensures .1)
