@@ -4,26 +4,27 @@
 #include <unistd.h>
 
 static const char *const words[ANSWERS] = {
-    [0] = "every macroblock is finished",
-    [1] = "width or height is not a multiple of 16 in 16 to 16384",
-    [2] = "the count of token partitions is not 1 to 8",
-    [3] = "a header entry is outside -255 to 255",
-    [4] = "a lent length is not what the size asks",
-    [5] = "a partition lies outside the bytes, or the starting reader is out of range",
-    [6] = "the first partition, which holds the modes, ran out",
-    [7] = "a token partition ran out",
+    [HOOKBARLEY_WHOLE] = "every macroblock is finished",
+    [HOOKBARLEY_SIZE] = "width or height is not a multiple of 16 in 16 to 16384",
+    [HOOKBARLEY_COUNT] = "the count of token partitions is not 1 to 8",
+    [HOOKBARLEY_ENTRY] = "a header entry is outside -255 to 255",
+    [HOOKBARLEY_LENGTH] = "a lent length is not what the size asks",
+    [HOOKBARLEY_PARTITION] = "a partition lies outside the bytes, or the starting reader is out of range",
+    [HOOKBARLEY_NO_MODES] = "the first partition, which holds the modes, ran out",
+    [HOOKBARLEY_NO_TOKENS] = "a token partition ran out",
     [8] = "a coefficient is outside 16 bits",
-    [9] = "an argument is out of range",
+    [HOOKBARLEY_ARGUMENT] = "an argument is out of range",
     [10] = "the case file is malformed",
-    [11] = "a strength record's limit is above 189",
-    [12] = "not a VP8 key frame (under 10 bytes, an inter frame, a wrong start code, a version above 3 or a size of 0)",
-    [13] = "a partition lies past the end of the frame",
-    [14] = "the frame's header ran out",
+    [HOOKBARLEY_LIMIT] = "a strength record's limit is above 189",
+    [HOOKBARLEY_NO_KEY_FRAME] =
+        "not a VP8 key frame (under 10 bytes, an inter frame, a wrong start code, a version above 3 or a size of 0)",
+    [HOOKBARLEY_PAST_END] = "a partition lies past the end of the frame",
+    [HOOKBARLEY_NO_HEADER] = "the frame's header ran out",
     [15] = "a count would pass 2^63 - 1",
-    [16] = "the room to write into is too small",
-    [17] = "not a WebP file ('RIFF' or 'WEBP' is missing)",
-    [18] = "a size in the WebP file is at odds with its bytes",
-    [19] = "the WebP file's first chunk is not 'VP8 ' (lossless, or the extended layout)",
+    [HOOKBARLEY_ROOM] = "the room to write into is too small",
+    [HOOKBARLEY_MARKS] = "not a WebP file ('RIFF' or 'WEBP' is missing)",
+    [HOOKBARLEY_SIZES] = "a size in the WebP file is at odds with its bytes",
+    [HOOKBARLEY_KIND] = "the WebP file's first chunk is not 'VP8 ' (lossless, or the extended layout)",
     [ANSWER_IVF] = "the IVF file ends in a frame's head, holds no frame or is not of VP8",
 };
 
@@ -32,7 +33,7 @@ const char *words_of(uint32_t number) {
 }
 
 const char *outcome_of(uint32_t number) {
-    return number == 0 ? "whole" : has_picture(number) ? "cut" : "refused";
+    return number == HOOKBARLEY_WHOLE ? "whole" : has_picture(number) ? "cut" : "refused";
 }
 
 void print_answer(FILE *out, uint32_t number, const struct picture *p) {

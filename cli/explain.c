@@ -32,19 +32,20 @@ static void filter_line(struct replay *r, size_t x, size_t y, struct explain_tou
 /* The macroblock's edges of one direction: its own unless the picture ends there, then the inner ones where the record says so. */
 static void filter_edges(struct replay *r, size_t column, size_t row, uint8_t horizontal, const uint8_t *strength) {
     for (size_t offset = 0; offset < r->side; offset += 4) {
-        if (offset ? strength[3] != 1 : (horizontal ? row : column) == 0) continue;
+        if (offset ? strength[HOOKBARLEY_STRENGTH_INSIDE] != 1 : (horizontal ? row : column) == 0) continue;
         for (size_t i = 0; i < r->side; i++) {
             struct explain_touch t = {.column = column, .row = row, .horizontal = horizontal, .offset = (uint8_t)offset};
-            t.limit = (uint8_t)(strength[0] + (offset ? 0 : 4)), t.inner = strength[1], t.threshold = strength[2];
+            t.limit = (uint8_t)(strength[HOOKBARLEY_STRENGTH_LIMIT] + (offset ? 0 : 4));
+            t.inner = strength[HOOKBARLEY_STRENGTH_INNER], t.threshold = strength[HOOKBARLEY_STRENGTH_THRESHOLD];
             filter_line(r, column * r->side + (horizontal ? i : offset - 4), row * r->side + (horizontal ? offset - 4 : i), &t);
         }
     }
 }
 
-static void filter_plane(struct replay *r, const uint8_t *strengths, size_t record) {
+static void filter_plane(struct replay *r, const uint8_t *strengths) {
     for (size_t row = 0; row < r->height / r->side; row++)
-        for (size_t column = 0; column < r->width / r->side; column++, strengths += record) {
-            if (strengths[0] == 0) continue;
+        for (size_t column = 0; column < r->width / r->side; column++, strengths += HOOKBARLEY_STRENGTH_BYTES) {
+            if (strengths[HOOKBARLEY_STRENGTH_LIMIT] == 0) continue;
             filter_edges(r, column, row, 0, strengths);
             filter_edges(r, column, row, 1, strengths);
         }
@@ -82,7 +83,7 @@ static int replayed(const struct explain_tile *t, enum explain_plane plane, seen
     else {
         memcpy(p, before, width * height);
         struct replay r = {p, width, height, plane == EXPLAIN_Y ? 16 : 8, t->simple != 0, tell, to};
-        if (plane == EXPLAIN_Y || !t->simple) filter_plane(&r, t->strengths, t->strengths_len / (t->width / 16 * (t->height / 16)));
+        if (plane == EXPLAIN_Y || !t->simple) filter_plane(&r, t->strengths);
         if (memcmp(p, want, width * height)) answer = EXPLAIN_DIFFERS;
     }
     free(p);
@@ -127,7 +128,8 @@ static void say_edge(FILE *out, const struct explain_touch *t, size_t side) {
     const char *lines = t->horizontal ? "rows" : "columns";
     const char *where = t->place < 4 ? (t->horizontal ? "above" : "left of") : (t->horizontal ? "below" : "right of");
     if (t->offset)
-        fprintf(out, "inner %s edge of the macroblock in column %zu, row %zu", t->horizontal ? "horizontal" : "vertical", t->column, t->row);
+        fprintf(out, "inner %s edge of the macroblock in column %zu, row %zu", t->horizontal ? "horizontal" : "vertical", t->column,
+                t->row);
     else
         fprintf(out, "%s edge of the macroblock in column %zu, row %zu", t->horizontal ? "top" : "left", t->column, t->row);
     fprintf(out, ",\n     between %s %zu and %zu of samples; this one is %s, the %s %s it\n", lines, at - 1, at, place_names[t->place],

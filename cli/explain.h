@@ -19,7 +19,7 @@ struct explain_tile {
     size_t true_width, true_height; /* of the picture, at most those: pixels outside are refused, pictures are cut to it */
     const uint8_t *y, *u, *v;
     const uint8_t *strengths; /* of a frame whose level is 0, which is not filtered at all, hand over zeros */
-    size_t strengths_len;     /* a record a macroblock: limit, inner, threshold, inside; what follows in a record is not looked at */
+    size_t strengths_len;     /* HOOKBARLEY_STRENGTH_BYTES a macroblock */
     int simple;               /* the simple filter, by the frame header's filter type */
 };
 

@@ -38,9 +38,8 @@ static int paint(const struct explain_tile *tile, const char *path, int svg) {
 static struct explain_tile tile_of(const struct picture *p) {
     const struct hookbarley_tile *t = &p->tile;
     const struct hookbarley_memory *m = &p->memory;
-    size_t strengths = (size_t)(p->room + hookbarley_room(t) - m->strengths); /* they are the last of the room */
     return (struct explain_tile){t->width, t->height, t->true_width, t->true_height,
-                                 m->y, m->u, m->v, m->strengths, strengths, t->simple != 0};
+                                 m->y, m->u, m->v, m->strengths, hookbarley_lengths_of(t).strengths, t->simple != 0};
 }
 
 static int tell(const struct options *o, const struct picture *p) {

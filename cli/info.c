@@ -3,15 +3,6 @@
 #include "commands.h"
 #include <inttypes.h>
 
-/* Places in the header, as include/hookbarley.h lists them. */
-enum {
-    SEGMENTS = 2, MAP = 3, ABSOLUTE = 5, SEGMENT_QUANTIZER = 6, SEGMENT_LEVEL = 10, SHARPNESS = 19, DELTAS = 20,
-    INTRA_DELTA = 22, SMALL_DELTA = 26, QUANTIZER = 31, QUANTIZER_DELTA = 32, SKIP = 1094
-};
-
-/* Places in a mode record. */
-enum { MODE_RECORD = 20, RECORD_SEGMENT = 0, RECORD_SKIP = 1, RECORD_SMALL = 2, RECORD_MODES = 3, RECORD_CHROMA = 19 };
-
 static void print_numbers(const char *name, const int32_t *numbers, int count) {
     printf("%s", name);
     for (int i = 0; i < count; i++) printf(" %d", (int)numbers[i]);
@@ -24,33 +15,34 @@ static void print_header(const struct picture *p) {
     printf(", macroblocks %zu x %zu\n", t->width / 16, t->height / 16);
     printf("  partitions  the first of %zu bytes; %zu of tokens:", t->first_length, t->count);
     for (size_t i = 0; i < t->count; i++) printf(" %zu", t->token_lengths[i]);
-    print_numbers("\n  quantizer  ", h + QUANTIZER, 1);
-    print_numbers("; added for Y DC, Y2 DC, Y2 AC, UV DC, UV AC:", h + QUANTIZER_DELTA, 5);
+    print_numbers("\n  quantizer  ", h + HOOKBARLEY_HEADER_QUANTIZER, 1);
+    print_numbers("; added for Y DC, Y2 DC, Y2 AC, UV DC, UV AC:", h + HOOKBARLEY_HEADER_QUANTIZER_DELTA, 5);
     printf("\n  segments    ");
-    if (h[SEGMENTS]) {
-        print_numbers("quantizers", h + SEGMENT_QUANTIZER, 4);
-        print_numbers(", levels", h + SEGMENT_LEVEL, 4);
-        printf(", %s; %s map\n", h[ABSOLUTE] ? "absolute" : "added to the frame's", h[MAP] ? "with a" : "without a");
+    if (h[HOOKBARLEY_HEADER_SEGMENTS]) {
+        print_numbers("quantizers", h + HOOKBARLEY_HEADER_SEGMENT_QUANTIZER, 4);
+        print_numbers(", levels", h + HOOKBARLEY_HEADER_SEGMENT_LEVEL, 4);
+        printf(", %s", h[HOOKBARLEY_HEADER_ABSOLUTE] ? "absolute" : "added to the frame's");
+        printf("; %s map\n", h[HOOKBARLEY_HEADER_MAP] ? "with a" : "without a");
     } else
         printf("none\n");
     printf("  filter      %s, level %d%s", t->simple ? "simple" : "normal", p->level, p->level ? "" : " (nothing is filtered)");
-    printf(", sharpness %d; ", (int)h[SHARPNESS]);
-    if (h[DELTAS])
-        printf("deltas: intra %d, small %d\n", (int)h[INTRA_DELTA], (int)h[SMALL_DELTA]);
+    printf(", sharpness %d; ", (int)h[HOOKBARLEY_HEADER_SHARPNESS]);
+    if (h[HOOKBARLEY_HEADER_DELTAS])
+        printf("deltas: intra %d, small %d\n", (int)h[HOOKBARLEY_HEADER_INTRA_DELTA], (int)h[HOOKBARLEY_HEADER_SMALL_DELTA]);
     else
         printf("no deltas\n");
-    printf("  skipping    %s\n", h[SKIP] ? "macroblocks may be skipped" : "no macroblock is skipped");
+    printf("  skipping    %s\n", h[HOOKBARLEY_HEADER_SKIPPING] ? "macroblocks may be skipped" : "no macroblock is skipped");
 }
 
 /* The finished macroblocks, counted by their records. */
 static void print_modes(const struct picture *p) {
     size_t luma[5] = {0}, chroma[4] = {0}, segment[4] = {0}, skipped = 0;
     for (size_t i = 0; i < p->finished; i++) {
-        const uint8_t *record = p->memory.modes + MODE_RECORD * i;
-        luma[record[RECORD_SMALL] ? 4 : record[RECORD_MODES] & 3]++;
-        chroma[record[RECORD_CHROMA] & 3]++;
-        segment[record[RECORD_SEGMENT] & 3]++;
-        skipped += record[RECORD_SKIP];
+        const uint8_t *record = p->memory.modes + HOOKBARLEY_MODE_BYTES * i;
+        luma[record[HOOKBARLEY_MODE_SMALL] ? 4 : record[HOOKBARLEY_MODE_LUMA] & 3]++;
+        chroma[record[HOOKBARLEY_MODE_CHROMA] & 3]++;
+        segment[record[HOOKBARLEY_MODE_SEGMENT] & 3]++;
+        skipped += record[HOOKBARLEY_MODE_SKIP];
     }
     printf("  luma        DC %zu, TM %zu, V %zu, H %zu, small %zu\n", luma[0], luma[1], luma[2], luma[3], luma[4]);
     printf("  chroma      DC %zu, TM %zu, V %zu, H %zu\n", chroma[0], chroma[1], chroma[2], chroma[3]);

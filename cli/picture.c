@@ -2,8 +2,6 @@
 #include <stdlib.h>
 #include <string.h>
 
-enum { LEVEL = 18 };
-
 int has_picture(uint32_t number) {
     return number == HOOKBARLEY_WHOLE || number == HOOKBARLEY_NO_MODES || number == HOOKBARLEY_NO_TOKENS;
 }
@@ -11,7 +9,7 @@ int has_picture(uint32_t number) {
 uint32_t picture_header(struct picture *p, struct frame frame) {
     memset(p, 0, sizeof *p);
     p->number = hookbarley_take(frame.bytes, frame.length, p->header, &p->tile);
-    p->level = p->header[LEVEL];
+    p->level = p->header[HOOKBARLEY_HEADER_LEVEL];
     return p->number;
 }
 
@@ -27,7 +25,8 @@ void picture_decode(struct picture *p, struct frame frame, enum filter filter) {
     p->blocks = hookbarley_blocks(&p->tile);
     p->room = memory(hookbarley_room(&p->tile));
     hookbarley_lend(&p->tile, p->room, &p->memory);
-    p->number = hookbarley_picture(frame.bytes, frame.length, p->header, &p->tile, &p->memory, &p->finished, &p->first_reads, &p->token_reads);
+    p->number = hookbarley_picture(frame.bytes, frame.length, p->header, &p->tile, &p->memory, &p->finished, &p->first_reads,
+                                   &p->token_reads);
     p->filtered = "unfiltered";
     if (has_picture(p->number) && filter != FILTER_NONE && p->level) deblock(p);
 }

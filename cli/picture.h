@@ -10,7 +10,7 @@ enum filter { FILTER_CODED, FILTER_NONE, FILTER_SIMPLE, FILTER_NORMAL };
 
 struct picture {
     uint32_t number;                    /* the answer; where it is 0, 6 or 7 all below stands */
-    int32_t header[HOOKBARLEY_ENTRIES]; /* the entries that include/hookbarley.h lists */
+    int32_t header[HOOKBARLEY_ENTRIES]; /* places in it: HOOKBARLEY_HEADER_.. */
     struct hookbarley_tile tile;        /* its `simple` is the kind of filter that is asked for */
     struct hookbarley_memory memory;
     uint8_t *room;           /* what the memory is cut from */

@@ -3,9 +3,6 @@
 #include <stdlib.h>
 #include <string.h>
 
-/* A strength record's length, and places in it. */
-enum { STRENGTH_RECORD = 6, STRENGTH_SEGMENT = 4, STRENGTH_SMALL = 5 };
-
 /* Of Okabe and Ito's colours the four that hue alone tells apart best, for colour-blind viewers too: how bright they are is luma's. */
 static const struct colour palette[] = {
     {{0, 114, 178}, "blue"}, {{230, 159, 0}, "orange"}, {{0, 158, 115}, "green"}, {{204, 121, 167}, "purple"}};
@@ -19,8 +16,8 @@ struct tint_kind {
 };
 
 static const struct tint_kind kinds[] = {
-    [TINT_SEGMENTS] = {"segments", STRENGTH_SEGMENT, 4, {"segment 0", "segment 1", "segment 2", "segment 3"}},
-    [TINT_MODES] = {"modes", STRENGTH_SMALL, 2, {"large", "small"}},
+    [TINT_SEGMENTS] = {"segments", HOOKBARLEY_STRENGTH_SEGMENT, 4, {"segment 0", "segment 1", "segment 2", "segment 3"}},
+    [TINT_MODES] = {"modes", HOOKBARLEY_STRENGTH_SMALL, 2, {"large", "small"}},
 };
 
 enum tint tint_of(const char *name) {
@@ -31,7 +28,7 @@ enum tint tint_of(const char *name) {
 
 /* The value of a finished macroblock. That it is one of the kind's is proved; the remainder keeps any byte inside the palette. */
 static size_t value_of(const struct tint_kind *kind, const struct picture *p, size_t block) {
-    return p->memory.strengths[STRENGTH_RECORD * block + kind->place] % kind->values;
+    return p->memory.strengths[HOOKBARLEY_STRENGTH_BYTES * block + kind->place] % kind->values;
 }
 
 static void tint_row(uint8_t *row, const struct tint_kind *kind, const struct picture *p, size_t y) {

@@ -34,7 +34,7 @@ CHAPTERS = [
     ("The WebP file", "RFC 9649", ["webp/Webp", "webp/Worked"]),
     ("Case files", "", ["casefile/CaseFile", "casefile/Measures", "casefile/Run"]),
     ("The calls as C sees them", "",
-     ["hookbarley/Calls", "hookbarley/ExplainCalls", "hookbarley/FrameCalls", "hookbarley/WebpCalls"]),
+     ["hookbarley/TileNumbers", "hookbarley/Calls", "hookbarley/ExplainCalls", "hookbarley/FrameCalls", "hookbarley/WebpCalls"]),
 ]
 
 # ---- the page of notation: forms of the language, then the kit's names by module

@@ -1,27 +1,18 @@
-/* Decodes a case file and writes its planes as PGM pictures: decode_case [-c | -d | -s] FILE [PREFIX] writes PREFIX-y.pgm, -u.pgm, -v.pgm
- * and prints the answer's number, the macroblocks finished and the sums of the planes. With -d the planes are deblocked, with -s by the simple
- * kind, and behind each sum stands the plane's FNV-1a hash. With -c the symbols read from the first partition and from token partitions stand
- * in place of the sums. Lengths in a case file are big-endian: version
- * (1 byte), length of the rest (4), width, height (2 each), count (1), 1096 header entries (2 each, signed), the lengths of the
- * first partition and of the token partitions (4 each), their bytes. */
-#include "hookbarley.h"
+/* Decodes a case file (case_file.h): decode_case [-c | -d | -s] FILE [PREFIX] prints the answer's number, the macroblocks finished and the
+ * sums of the planes, and writes these as PGM pictures, PREFIX-y.pgm, -u.pgm, -v.pgm. With -d the planes are deblocked, with -s by the
+ * simple kind, and behind each sum stands the plane's FNV-1a hash. With -c the symbols read from the first partition and from token
+ * partitions stand in place of the sums. */
+#include "case_file.h"
 #include <inttypes.h>
-#include <stdio.h>
-#include <stdlib.h>
-#include <string.h>
 
-static size_t be(const uint8_t *p, int n) {
-    size_t x = 0;
-    while (n--) x = x << 8 | *p++;
-    return x;
-}
-
-static void *lent(size_t n) {
-    uint8_t *p = malloc(n ? n : 1);
-    if (!p) exit(2);
-    memset(p, 0xA5, n);
-    return p;
-}
+/* What a call leaves. */
+struct result {
+    uint32_t number;
+    int written; /* there is a picture: 0, 6 and 7 */
+    size_t finished;
+    uint64_t first_reads, token_reads;
+    struct hookbarley_memory memory;
+};
 
 static unsigned long sum(const uint8_t *p, size_t n) {
     unsigned long s = 0;
@@ -45,54 +36,53 @@ static void pgm(const char *prefix, const char *plane, const uint8_t *p, size_t 
     fclose(f);
 }
 
-static int malformed(int counts) {
-    puts(counts ? "10 0 0 0" : "10 0 0 0 0");
-    return 0;
+/* A size that is refused is lent nothing. */
+static void decode(const struct case_file *c, struct result *r) {
+    const struct hookbarley_tile *t = &c->tile;
+    if (!case_side(t->width) || !case_side(t->height)) {
+        r->number = hookbarley_decode(c->bytes, c->length, c->header, HOOKBARLEY_ENTRIES, (const size_t *)t, HOOKBARLEY_TILE_NUMBERS,
+                                      NULL, 0, NULL, 0, NULL, 0, NULL, 0, NULL, 0, NULL, 0, &r->finished, &r->first_reads, &r->token_reads);
+        return;
+    }
+    uint8_t *room = malloc(hookbarley_room(t));
+    if (!room) exit(2);
+    memset(room, 0xA5, hookbarley_room(t));
+    hookbarley_lend(t, room, &r->memory);
+    r->number = hookbarley_picture(c->bytes, c->length, c->header, t, &r->memory, &r->finished, &r->first_reads, &r->token_reads);
+    r->written = r->number == HOOKBARLEY_WHOLE || r->number == HOOKBARLEY_NO_MODES || r->number == HOOKBARLEY_NO_TOKENS;
+}
+
+static void print(const struct case_file *c, const struct result *r, int option) {
+    struct hookbarley_lengths n = hookbarley_lengths_of(&c->tile);
+    const uint8_t *planes[] = {r->memory.y, r->memory.u, r->memory.v};
+    const size_t lengths[] = {n.y, n.u, n.v};
+    printf("%u %zu", r->number, r->finished);
+    if (option == 'c') printf(" %" PRIu64 " %" PRIu64, r->first_reads, r->token_reads);
+    for (int i = 0; i < 3 && option != 'c'; i++) {
+        if (r->written || !option) printf(" %lu", r->written ? sum(planes[i], lengths[i]) : 0);
+        if (r->written && option) printf(" %016llx", fnv(planes[i], lengths[i]));
+    }
+    printf("\n");
 }
 
 int main(int argc, char **argv) {
-    int option = argc > 1 && argv[1][0] == '-' ? argv[1][1] : 0, simple = option == 's', deblock = simple || option == 'd', counts = option == 'c';
+    static struct case_file c;
+    struct result r = {0};
+    int option = argc > 1 && argv[1][0] == '-' ? argv[1][1] : 0;
     argc -= option != 0, argv += option != 0;
-    if (argc < 2) { fprintf(stderr, "usage: decode_case [-c | -d | -s] FILE [PREFIX]\n"); return 2; }
-    FILE *f = fopen(argv[1], "rb");
-    if (!f) { perror(argv[1]); return 2; }
-    static uint8_t file[1 << 22];
-    size_t n = fread(file, 1, sizeof file, f);
-    fclose(f);
-    if (n < 2206 || file[0] != 1 || be(file + 1, 4) + 5 != n) return malformed(counts);
-    size_t w = be(file + 5, 2), h = be(file + 7, 2), count = file[9], places = 2206 + 4 * count;
-    if (n < places) return malformed(counts);
-    static int32_t header[1096];
-    for (int i = 0; i < 1096; i++) header[i] = (int16_t)be(file + 10 + 2 * i, 2);
-    size_t first = be(file + 2202, 4), at = places + first, starts[8] = {0}, lengths[8] = {0};
-    for (size_t i = 0; i < count; i++) {
-        size_t length = be(file + 2206 + 4 * i, 4);
-        if (i < 8) { starts[i] = at; lengths[i] = length; }
-        at += length;
+    if (argc < 2 || !strchr("cds", option)) { fprintf(stderr, "usage: decode_case [-c | -d | -s] FILE [PREFIX]\n"); return 2; }
+    if (!case_read(argv[1], &c)) {
+        puts(option == 'c' ? "10 0 0 0" : "10 0 0 0 0");
+        return 0;
     }
-    if (at != n) return malformed(counts);
-    size_t lw = w > 16384 ? 0 : w, lh = h > 16384 ? 0 : h; /* what is lent; a size beyond is refused first */
-    size_t luma = lw * lh, chroma = (lw / 2) * (lh / 2), blocks = (lw / 16) * (lh / 16), k = 0;
-    uint8_t *y = lent(luma), *u = lent(chroma), *v = lent(chroma), *columns = lent(4 * (lw / 16)), *modes = lent(20 * blocks), *strengths = lent(6 * blocks);
-    uint64_t first_reads, token_reads;
-    uint32_t window = (first > 0 ? file[places] * 256u : 0) + (first > 1 ? file[places + 1] : 0); /* zero past the partition's end */
-    uint32_t number = hookbarley_decode(file, n, places, first, starts, 8, lengths, 8, 2, 255, 0, window, count, header, 1096, w, h,
-                                        y, luma, u, chroma, v, chroma, columns, 4 * (lw / 16), modes, 20 * blocks, strengths, 6 * blocks,
-                                        &k, &first_reads, &token_reads);
-    int written = number == 0 || number == 6 || number == 7;
-    if (counts)
-        printf("%u %zu %" PRIu64 " %" PRIu64 "\n", number, k, first_reads, token_reads);
-    else if (deblock) {
-        if (written && hookbarley_deblock(y, luma, u, chroma, v, chroma, strengths, 6 * blocks, w, h, (uint32_t)simple)) return 2;
-        printf("%u %zu", number, k);
-        if (written) printf(" %lu %016llx %lu %016llx %lu %016llx", sum(y, luma), fnv(y, luma), sum(u, chroma), fnv(u, chroma), sum(v, chroma), fnv(v, chroma));
-        printf("\n");
-    } else
-        printf("%u %zu %lu %lu %lu\n", number, k, written ? sum(y, luma) : 0, written ? sum(u, chroma) : 0, written ? sum(v, chroma) : 0);
-    if (argc > 2 && written) {
-        pgm(argv[2], "y", y, w, h);
-        pgm(argv[2], "u", u, w / 2, h / 2);
-        pgm(argv[2], "v", v, w / 2, h / 2);
+    decode(&c, &r);
+    c.tile.simple = option == 's';
+    if (r.written && (option == 'd' || option == 's') && hookbarley_deblock_picture(&c.tile, &r.memory)) return 2;
+    print(&c, &r, option);
+    if (argc > 2 && r.written) {
+        pgm(argv[2], "y", r.memory.y, c.tile.width, c.tile.height);
+        pgm(argv[2], "u", r.memory.u, c.tile.width / 2, c.tile.height / 2);
+        pgm(argv[2], "v", r.memory.v, c.tile.width / 2, c.tile.height / 2);
     }
     return 0;
 }

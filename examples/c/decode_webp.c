@@ -23,7 +23,7 @@ static int decode(const uint8_t *frame, size_t length) {
     hookbarley_lend(&tile, malloc(hookbarley_room(&tile)), &memory);
     if (!memory.y) return 2;
     number = hookbarley_picture(frame, length, header, &tile, &memory, &finished, &first_reads, &token_reads);
-    if (header[18]) hookbarley_deblock_picture(&tile, &memory);
+    if (header[HOOKBARLEY_HEADER_LEVEL]) hookbarley_deblock_picture(&tile, &memory);
     fprintf(stderr, "%u %zu %zu %zu\n", number, finished, tile.true_width, tile.true_height);
     printf("P5\n%zu %zu\n255\n", tile.true_width, tile.true_height);
     for (size_t row = 0; row < tile.true_height; row++) fwrite(memory.y + row * tile.width, 1, tile.true_width, stdout);

@@ -5,8 +5,8 @@
 set -u
 cd "$(dirname "$0")/../.." || exit 1
 ARCHIVE=${1:-${ARCHIVE:-}}
-export ARCHIVE
 . tools/outside-env.sh
+export ARCHIVE # tools/install.sh installs this one, and builds none
 need pkg-config pkgconf || exit 1
 need python3 python3 || exit 1
 out=target/cli-test

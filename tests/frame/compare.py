@@ -1,14 +1,17 @@
 #!/usr/bin/env python3
-"""The program crates/try_frame beside model.py, an independent reading: tests/frame/compare.py PROGRAM SEED MADE DAMAGED FILE..
+"""The program crates/try_frame beside tests/model/frame_header.py: tests/frame/compare.py PROGRAM SEED MADE DAMAGED FILE..
 
-Takes the key frames of the files (.webp, .ivf) and MADE made-up ones (made.py), and DAMAGED damaged copies of each: cut, bits flipped in
+Takes the key frames of the files (.webp, .ivf) and MADE made-up ones (made_frames.py), and DAMAGED damaged copies of each: cut, bits flipped in
 the first ten bytes, random bytes in the first sixty. What the program prints of each has to be what the model prints."""
 import collections
+import os
 import random
 import subprocess
 import sys
-import made
-import model
+
+sys.path.insert(0, os.path.join(os.path.dirname(__file__), "..", "model"))
+import frame_header
+import made_frames
 
 
 def frames_of(path):
@@ -39,16 +42,16 @@ def damaged(frame, draw):
 def main():
     program, seed, count, copies = sys.argv[1].split(), int(sys.argv[2]), int(sys.argv[3]), int(sys.argv[4])
     draw = random.Random(seed)
-    whole = [(path, f) for path in sys.argv[5:] for f in frames_of(path)] + [("made", made.frame(draw)) for _ in range(count)]
+    whole = [(path, f) for path in sys.argv[5:] for f in frames_of(path)] + [("made", made_frames.frame(draw)) for _ in range(count)]
     whole = [(name, f) for name, f in whole if len(f) <= 65536]
     seen, kinds, bad = collections.Counter(), collections.Counter(), 0
     for name, f in whole:
         source = name.rsplit(".", 1)[-1]
         for copy in range(copies + 1):
             g = damaged(f, draw) if copy else f
-            expected = model.printed(g)
+            expected = frame_header.printed(g)
             found = subprocess.run(program, input=g, capture_output=True).stdout.decode()
-            number, what = model.taken(g)
+            number, what = frame_header.taken(g)
             seen[number] += 1
             if copy == 0 and number == 0:
                 entry = what[6]

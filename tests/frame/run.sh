@@ -1,7 +1,7 @@
 #!/usr/bin/env bash
 # The key frame's header beside an independent reading: tests/frame/run.sh [COUNT [SEED]]. Makes COUNT pictures (30), encodes each with cwebp
 # and, four key frames long, with vpxenc, with options drawn by SEED, adds as many made-up frames and ten damaged copies of each, and
-# compares what target/bin/try_frame (`rt check try_frame`) prints with what model.py prints. Installs what is missing (Debian's webp,
+# compares what target/bin/try_frame (`rt check try_frame`) prints with what tests/model/frame_header.py prints. Installs what is missing (Debian's webp,
 # vpx-tools).
 set -u
 cd "$(dirname "$0")/../.." || exit 1

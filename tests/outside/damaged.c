@@ -1,9 +1,9 @@
-/* The picture call from outside, with damaged input: damaged DIR N SEED [random].
+/* The picture call from outside, with damaged input, between guard pages (guard.h): damaged DIR N SEED [random].
  *
- * DIR holds NNNN.case, expected-memory-m102.txt and expected-counts-m102.txt (tests/outside/README.md). Every lent buffer and every input stands between
- * pages that may not be touched: once ending at the page behind it, once starting at the page before it. The inputs are lent
- * through a view that may only be read. Memory to be written is poisoned, each time with another byte. Run here:
- *   whole   every tile of DIR: number, k and the six memories as expected-memory-m102.txt says, the symbols read as expected-counts-m102.txt;
+ * DIR holds NNNN.case, expected-memory-m102.txt and expected-counts-m102.txt (tests/outside/README.md). Memory to be written is poisoned,
+ * each time with another byte. Run here:
+ *   whole   every tile of DIR: number, k and the six memories as expected-memory-m102.txt says, the symbols read as
+ *           expected-counts-m102.txt;
  *   cut     every tile, every partition, every shorter length: finished macroblocks equal the whole tile's, the rest is 128 and 0,
  *           column memory is as after macroblock k - 1; k and the symbols read never fall as the length rises;
  *   apart   every tile of two partitions or more, every partition: another content leaves the macroblock rows above alone;
@@ -14,117 +14,59 @@
  *   kernel  the edge kernel: numbers of the scope, other lengths answer 9 and change nothing;
  *   deblock after each answer above, both kinds: what a plain filter of this file makes of the planes, strengths in memory that may only be
  *           read, grey stays grey; with N drawn pictures, sizes, lengths and strengths too: 1, 4 and 11 in this order, nothing written.
- * With `random` the cuts are left out. A fault or a difference ends the run with status 1 and says where. */
-#define _GNU_SOURCE
-#include "hookbarley.h"
-#include <signal.h>
-#include <stdarg.h>
-#include <stdio.h>
-#include <stdlib.h>
-#include <string.h>
-#include <sys/mman.h>
-#include <unistd.h>
+ * With `random` the cuts are left out. */
+#include "guard.h"
+#include "../../examples/c/case_file.h"
 
-enum { Y, U, V, COLUMNS, MODES, STRENGTHS, LENT, BYTES = LENT, STARTS, LENGTHS, HEADER, FINISHED, FIRST_READS, TOKEN_READS, BUFFERS };
-enum { GUARD = 1 << 20, SLACK = 64 };
-static const char *const names[] = {"y", "u", "v", "columns", "modes", "strengths", "bytes", "starts", "lengths", "header", "finished", "first_reads", "token_reads"};
-static const size_t capacities[] = {1 << 18, 1 << 16, 1 << 16, 1 << 14, 5 << 12, 1 << 12, 1 << 17, 1 << 12, 1 << 12, 5 << 12, 1 << 12, 1 << 12, 1 << 12};
-
-static char where[256] = "start";
-
-static void fail(const char *format, ...) {
-    va_list a;
-    va_start(a, format);
-    fprintf(stderr, "FAILED at %s: ", where);
-    vfprintf(stderr, format, a);
-    fprintf(stderr, "\n");
-    va_end(a);
-    exit(1);
-}
-
-static void fault(int s, siginfo_t *i, void *c) {
-    (void)c;
-    char t[400];
-    int n = snprintf(t, sizeof t, "FAILED at %s: signal %d at %p\n", where, s, i->si_addr);
-    if (write(2, t, (size_t)n) < 0) _exit(3);
-    _exit(1);
-}
-
-/* Memory between guards. `seen` is what the library is given, `ours` the same bytes to be written here. */
-static struct { uint8_t *seen, *ours; } buffers[BUFFERS];
-
-static void make_buffers(void) {
-    for (int b = 0; b < BUFFERS; b++) {
-        size_t n = capacities[b];
-        int input = b >= BYTES && b <= HEADER, fd = memfd_create(names[b], 0);
-        if (fd < 0 || ftruncate(fd, (off_t)n)) { perror("memfd"); exit(2); }
-        uint8_t *p = mmap(NULL, n + 2 * GUARD, PROT_NONE, MAP_PRIVATE | MAP_ANONYMOUS | MAP_NORESERVE, -1, 0);
-        if (p == MAP_FAILED) { perror("mmap"); exit(2); }
-        buffers[b].seen = mmap(p + GUARD, n, input ? PROT_READ : PROT_READ | PROT_WRITE, MAP_SHARED | MAP_FIXED, fd, 0);
-        buffers[b].ours = input ? mmap(NULL, n, PROT_READ | PROT_WRITE, MAP_SHARED, fd, 0) : buffers[b].seen;
-        if (buffers[b].seen != p + GUARD || buffers[b].ours == MAP_FAILED) { perror("mmap"); exit(2); }
-        close(fd);
-    }
-}
+enum { Y, U, V, COLUMNS, MODES, STRENGTHS, LENT, BYTES = LENT, TILE, HEADER, FINISHED, FIRST_READS, TOKEN_READS, BUFFERS };
+enum { SLACK = 64 };
+static struct guarded buffers[BUFFERS] = {
+    [Y] = {.name = "y", .capacity = 1 << 18},
+    [U] = {.name = "u", .capacity = 1 << 16},
+    [V] = {.name = "v", .capacity = 1 << 16},
+    [COLUMNS] = {.name = "columns", .capacity = 1 << 14},
+    [MODES] = {.name = "modes", .capacity = 5 << 12},
+    [STRENGTHS] = {.name = "strengths", .capacity = 1 << 13},
+    [BYTES] = {.name = "bytes", .capacity = 1 << 17, .input = 1},
+    [TILE] = {.name = "tile", .capacity = 1 << 12, .input = 1},
+    [HEADER] = {.name = "header", .capacity = 5 << 12, .input = 1},
+    [FINISHED] = {.name = "finished", .capacity = 1 << 12},
+    [FIRST_READS] = {.name = "first_reads", .capacity = 1 << 12},
+    [TOKEN_READS] = {.name = "token_reads", .capacity = 1 << 12},
+};
 
 /* One call's arguments and lent lengths. */
 struct call {
     uint8_t bytes[1 << 17];
-    size_t n, first_start, first_length, starts[16], lengths[16], starts_len, lengths_len, at;
-    uint32_t range, shifts, window;
-    size_t count;
+    size_t n;
+    union {
+        struct hookbarley_tile tile;
+        size_t numbers[HOOKBARLEY_TILE_NUMBERS + 12];
+    };
+    size_t tile_len;
     int32_t header[1200];
-    size_t header_len, w, h, lent[LENT];
+    size_t header_len, lent[LENT];
 };
 
 struct result { uint32_t number; size_t k; uint64_t first, tokens; uint8_t *mem[LENT]; };
 
 static struct result new_result(void) {
     struct result r = {0};
-    for (int b = 0; b < LENT; b++) r.mem[b] = malloc(capacities[b]);
+    for (int b = 0; b < LENT; b++) r.mem[b] = malloc(buffers[b].capacity);
     return r;
-}
-
-static size_t offset(int b, size_t n, int end) { return end ? capacities[b] - n : 0; }
-
-/* Where a number is to be written. */
-static void *out(int b, size_t n, int end, int poison) { return memset(buffers[b].seen + offset(b, n, end), poison, n); }
-
-static const void *lay(int b, const void *from, size_t n, int end) {
-    size_t o = offset(b, n, end);
-    memcpy(buffers[b].ours + o, from, n);
-    return buffers[b].seen + o;
-}
-
-/* The bytes beside a lent buffer on the side where no guard stands. */
-static uint8_t *slack(int b, size_t n, int end, size_t *size) {
-    size_t free = capacities[b] - n;
-    *size = free < SLACK ? free : SLACK;
-    return end ? buffers[b].seen + free - *size : buffers[b].seen + n;
-}
-
-static int all(const uint8_t *p, size_t n, int x) {
-    return n == 0 || (*p == x && memcmp(p, p + 1, n - 1) == 0);
 }
 
 /* Runs a call, the buffers ending (end = 1) or starting (end = 0) at a guard. */
 static void run(const struct call *c, int end, int poison, struct result *r) {
-    uint8_t *m[LENT], *beside;
-    size_t size;
-    for (int b = 0; b < LENT; b++) {
-        m[b] = buffers[b].seen + offset(b, c->lent[b], end);
-        memset(m[b], poison, c->lent[b]);
-        beside = slack(b, c->lent[b], end, &size);
-        memset(beside, poison ^ 0x3C, size);
-    }
-    const uint8_t *bytes = lay(BYTES, c->bytes, c->n, end);
-    const size_t *starts = lay(STARTS, c->starts, c->starts_len * sizeof(size_t), end);
-    const size_t *lengths = lay(LENGTHS, c->lengths, c->lengths_len * sizeof(size_t), end);
-    const int32_t *header = lay(HEADER, c->header, c->header_len * sizeof(int32_t), end);
-    size_t *finished = out(FINISHED, sizeof *finished, end, poison);
-    uint64_t *first = out(FIRST_READS, sizeof *first, end, poison), *tokens = out(TOKEN_READS, sizeof *tokens, end, poison);
-    r->number = hookbarley_decode(bytes, c->n, c->first_start, c->first_length, starts, c->starts_len, lengths, c->lengths_len,
-                                  c->at, c->range, c->shifts, c->window, c->count, header, c->header_len, c->w, c->h,
+    uint8_t *m[LENT];
+    for (int b = 0; b < LENT; b++) m[b] = poisoned(&buffers[b], c->lent[b], end, poison, SLACK);
+    const uint8_t *bytes = lay(&buffers[BYTES], c->bytes, c->n, end);
+    const int32_t *header = lay(&buffers[HEADER], c->header, c->header_len * sizeof *header, end);
+    const size_t *tile = lay(&buffers[TILE], c->numbers, c->tile_len * sizeof *tile, end);
+    size_t *finished = poisoned(&buffers[FINISHED], sizeof *finished, end, poison, SLACK);
+    uint64_t *first = poisoned(&buffers[FIRST_READS], sizeof *first, end, poison, SLACK);
+    uint64_t *tokens = poisoned(&buffers[TOKEN_READS], sizeof *tokens, end, poison, SLACK);
+    r->number = hookbarley_decode(bytes, c->n, header, c->header_len, tile, c->tile_len,
                                   m[Y], c->lent[Y], m[U], c->lent[U], m[V], c->lent[V], m[COLUMNS], c->lent[COLUMNS],
                                   m[MODES], c->lent[MODES], m[STRENGTHS], c->lent[STRENGTHS], finished, first, tokens);
     r->k = *finished;
@@ -132,9 +74,9 @@ static void run(const struct call *c, int end, int poison, struct result *r) {
     r->tokens = *tokens;
     for (int b = 0; b < LENT; b++) {
         memcpy(r->mem[b], m[b], c->lent[b]);
-        beside = slack(b, c->lent[b], end, &size);
-        if (!all(beside, size, poison ^ 0x3C)) fail("a byte beside %s was written", names[b]);
+        untouched(&buffers[b], c->lent[b], end, poison, SLACK);
     }
+    for (int b = FINISHED; b <= TOKEN_READS; b++) untouched(&buffers[b], sizeof(uint64_t), end, poison, SLACK);
 }
 
 /* The refusal that a call must be answered with, worked out from the header's text; 0 where it must be decoded. */
@@ -145,29 +87,38 @@ static int inside(const struct call *c, size_t start, size_t length) {
 static int side(size_t n) { return n >= 16 && n <= 16384 && n % 16 == 0; }
 
 static void lengths_of(size_t w, size_t h, size_t *lent) {
+    size_t columns = w / 16, blocks = columns * (h / 16);
     lent[Y] = w * h;
     lent[U] = lent[V] = (w / 2) * (h / 2);
-    lent[COLUMNS] = 4 * (w / 16);
-    lent[MODES] = 20 * (w / 16) * (h / 16);
-    lent[STRENGTHS] = 6 * (w / 16) * (h / 16);
+    lent[COLUMNS] = HOOKBARLEY_COLUMN_BYTES * columns;
+    lent[MODES] = HOOKBARLEY_MODE_BYTES * blocks;
+    lent[STRENGTHS] = HOOKBARLEY_STRENGTH_BYTES * blocks;
 }
 
 static uint32_t refusal(const struct call *c) {
-    if (c->starts_len != 8 || c->lengths_len != 8) return 9;
-    if (!side(c->w) || !side(c->h)) return 1;
-    if (c->count < 1 || c->count > 8) return 2;
+    const struct hookbarley_tile *t = &c->tile;
+    if (c->tile_len != HOOKBARLEY_TILE_NUMBERS) return HOOKBARLEY_ARGUMENT;
+    if (!side(t->width) || !side(t->height)) return HOOKBARLEY_SIZE;
+    if (t->count < 1 || t->count > 8) return HOOKBARLEY_COUNT;
     for (size_t i = 0; i < c->header_len; i++)
-        if (c->header[i] < -255 || c->header[i] > 255) return 3;
+        if (c->header[i] < -255 || c->header[i] > 255) return HOOKBARLEY_ENTRY;
     size_t lent[LENT];
-    lengths_of(c->w, c->h, lent);
-    if (memcmp(lent, c->lent, sizeof lent) || c->header_len != 1096) return 4;
-    if (!inside(c, c->first_start, c->first_length)) return 5;
-    for (size_t i = 0; i < c->count; i++)
-        if (!inside(c, c->starts[i], c->lengths[i])) return 5;
-    if (c->at < 2 || c->at > c->first_length + 2 || c->range < 128 || c->range > 255 || c->shifts > 7) return 5;
-    if (c->window > 65535 || c->window % (1u << c->shifts)) return 5;
-    return 0;
+    lengths_of(t->width, t->height, lent);
+    if (memcmp(lent, c->lent, sizeof lent) || c->header_len != HOOKBARLEY_ENTRIES) return HOOKBARLEY_LENGTH;
+    if (!inside(c, t->first_start, t->first_length)) return HOOKBARLEY_PARTITION;
+    for (size_t i = 0; i < t->count; i++)
+        if (!inside(c, t->token_starts[i], t->token_lengths[i])) return HOOKBARLEY_PARTITION;
+    if (t->at < 2 || t->at > t->first_length + 2 || t->range < 128 || t->range > 255 || t->shifts > 7) return HOOKBARLEY_PARTITION;
+    if (t->window > 65535 || t->window % ((size_t)1 << t->shifts)) return HOOKBARLEY_PARTITION;
+    return HOOKBARLEY_WHOLE;
 }
+
+/* Whether a call leaves a picture. */
+static int has_picture(uint32_t number) {
+    return number == HOOKBARLEY_WHOLE || number == HOOKBARLEY_NO_MODES || number == HOOKBARLEY_NO_TOKENS;
+}
+
+static size_t blocks_of(const struct call *c) { return (c->tile.width / 16) * (c->tile.height / 16); }
 
 /* The macroblocks of row r among the first k. */
 static size_t done(size_t columns, size_t r, size_t k) {
@@ -175,10 +126,10 @@ static size_t done(size_t columns, size_t r, size_t k) {
     return k <= before ? 0 : k - before >= columns ? columns : k - before;
 }
 
-static void plane_rest(const char *name, const uint8_t *p, size_t w, size_t h, size_t side, size_t k) {
+static void plane_rest(const char *name, const char *when, const uint8_t *p, size_t w, size_t h, size_t side, size_t k) {
     for (size_t y = 0; y < h; y++) {
         size_t f = side * done(w / side, y / side, k);
-        if (!all(p + y * w + f, w - f, 128)) fail("%s: a sample of an unfinished macroblock is not 128 (row %zu)", name, y);
+        if (!all(p + y * w + f, w - f, 128)) fail("%s%s: a sample of an unfinished macroblock is not 128 (row %zu)", name, when, y);
     }
 }
 
@@ -188,38 +139,56 @@ static void plane_same(const char *name, const uint8_t *p, const uint8_t *q, siz
             fail("%s: a sample of a finished macroblock differs (row %zu)", name, y);
 }
 
+/* The same of the three planes: the samples of unfinished macroblocks, or of finished ones beside another result's. */
+static void planes_rest(const struct call *c, const struct result *r, const char *when) {
+    for (int b = Y; b <= V; b++) {
+        size_t half = b == Y ? 1 : 2;
+        plane_rest(buffers[b].name, when, r->mem[b], c->tile.width / half, c->tile.height / half, 16 / half, r->k);
+    }
+}
+
 /* The first k macroblocks agree. */
 static void same(const struct call *c, const struct result *a, const struct result *b, size_t k) {
-    plane_same("y", a->mem[Y], b->mem[Y], c->w, c->h, 16, k);
-    plane_same("u", a->mem[U], b->mem[U], c->w / 2, c->h / 2, 8, k);
-    plane_same("v", a->mem[V], b->mem[V], c->w / 2, c->h / 2, 8, k);
-    if (memcmp(a->mem[MODES], b->mem[MODES], 20 * k)) fail("modes of finished macroblocks differ");
-    if (memcmp(a->mem[STRENGTHS], b->mem[STRENGTHS], 6 * k)) fail("strengths of finished macroblocks differ");
+    for (int m = Y; m <= V; m++) {
+        size_t half = m == Y ? 1 : 2;
+        plane_same(buffers[m].name, a->mem[m], b->mem[m], c->tile.width / half, c->tile.height / half, 16 / half, k);
+    }
+    if (memcmp(a->mem[MODES], b->mem[MODES], HOOKBARLEY_MODE_BYTES * k)) fail("modes of finished macroblocks differ");
+    if (memcmp(a->mem[STRENGTHS], b->mem[STRENGTHS], HOOKBARLEY_STRENGTH_BYTES * k)) fail("strengths of finished macroblocks differ");
+}
+
+static void refused_soundly(const struct call *c, const struct result *r, uint32_t want, int poison) {
+    if (r->number != want || r->k != 0) fail("answer %u %zu, should be %u 0", r->number, r->k, want);
+    if (r->first || r->tokens) fail("refused with %u, and symbols are counted", want);
+    for (int b = 0; b < LENT; b++)
+        if (!all(r->mem[b], c->lent[b], poison)) fail("refused with %u, and %s was written", want, buffers[b].name);
+}
+
+/* The records of unfinished macroblocks are 0, and each strength record has its mode record's segment and small. */
+static void records_sound(const struct result *r, size_t blocks) {
+    for (size_t i = 0; i < blocks; i++) {
+        const uint8_t *t = r->mem[STRENGTHS] + HOOKBARLEY_STRENGTH_BYTES * i, *m = r->mem[MODES] + HOOKBARLEY_MODE_BYTES * i;
+        if (i >= r->k && !all(m, HOOKBARLEY_MODE_BYTES, 0)) fail("modes of unfinished macroblocks are not 0");
+        if (i >= r->k && !all(t, HOOKBARLEY_STRENGTH_BYTES, 0)) fail("strengths of unfinished macroblocks are not 0");
+        if (t[HOOKBARLEY_STRENGTH_SEGMENT] != m[HOOKBARLEY_MODE_SEGMENT] || t[HOOKBARLEY_STRENGTH_SMALL] != m[HOOKBARLEY_MODE_SMALL])
+            fail("strengths of macroblock %zu have another segment or kind than its modes", i);
+    }
 }
 
 /* What holds of one answer. */
 static void sound(const struct call *c, const struct result *r, uint32_t want, int poison) {
     if (want) {
-        if (r->number != want || r->k != 0) fail("answer %u %zu, should be %u 0", r->number, r->k, want);
-        if (r->first || r->tokens) fail("refused with %u, and symbols are counted", want);
-        for (int b = 0; b < LENT; b++)
-            if (!all(r->mem[b], c->lent[b], poison)) fail("refused with %u, and %s was written", want, names[b]);
+        refused_soundly(c, r, want, poison);
         return;
     }
-    size_t blocks = (c->w / 16) * (c->h / 16), k = r->k;
-    if (r->number != 0 && r->number != 6 && r->number != 7) fail("answer %u, should be 0, 6 or 7", r->number);
-    if (r->number == 0 ? k != blocks : k >= blocks) fail("answer %u with %zu of %zu macroblocks", r->number, k, blocks);
-    uint64_t asked = k + (r->number != 0);
-    if (r->first > asked * HOOKBARLEY_FIRST_MOST || r->tokens > asked * HOOKBARLEY_TOKEN_MOST) fail("more symbols than %zu macroblocks can read", (size_t)asked);
-    plane_rest("y", r->mem[Y], c->w, c->h, 16, k);
-    plane_rest("u", r->mem[U], c->w / 2, c->h / 2, 8, k);
-    plane_rest("v", r->mem[V], c->w / 2, c->h / 2, 8, k);
-    if (!all(r->mem[MODES] + 20 * k, 20 * (blocks - k), 0)) fail("modes of unfinished macroblocks are not 0");
-    if (!all(r->mem[STRENGTHS] + 6 * k, 6 * (blocks - k), 0)) fail("strengths of unfinished macroblocks are not 0");
-    for (size_t i = 0; i < blocks; i++) {
-        const uint8_t *t = r->mem[STRENGTHS] + 6 * i, *m = r->mem[MODES] + 20 * i;
-        if (t[4] != m[0] || t[5] != m[2]) fail("strengths of macroblock %zu have another segment or kind than its modes", i);
-    }
+    size_t blocks = blocks_of(c), k = r->k;
+    if (!has_picture(r->number)) fail("answer %u, should be 0, 6 or 7", r->number);
+    if (r->number == HOOKBARLEY_WHOLE ? k != blocks : k >= blocks) fail("answer %u with %zu of %zu macroblocks", r->number, k, blocks);
+    uint64_t asked = k + (r->number != HOOKBARLEY_WHOLE);
+    if (r->first > asked * HOOKBARLEY_FIRST_MOST || r->tokens > asked * HOOKBARLEY_TOKEN_MOST)
+        fail("more symbols than %zu macroblocks can read", (size_t)asked);
+    planes_rest(c, r, "");
+    records_sound(r, blocks);
 }
 
 static size_t answers[10], calls;
@@ -235,21 +204,10 @@ static uint32_t both(const struct call *c, struct result *r, struct result *spar
     if (r->number != spare->number || r->k != spare->k) fail("answers %u %zu and %u %zu", r->number, r->k, spare->number, spare->k);
     if (r->first != spare->first || r->tokens != spare->tokens) fail("the symbols read differ");
     for (int b = 0; want == 0 && b < LENT; b++)
-        if (memcmp(r->mem[b], spare->mem[b], c->lent[b])) fail("%s depends on what it held", names[b]);
+        if (memcmp(r->mem[b], spare->mem[b], c->lent[b])) fail("%s depends on what it held", buffers[b].name);
     answers[r->number]++;
     return want;
 }
-
-static uint64_t state;
-
-static uint64_t draw(void) {
-    uint64_t z = state += 0x9e3779b97f4a7c15ull;
-    z = (z ^ z >> 30) * 0xbf58476d1ce4e5b9ull;
-    z = (z ^ z >> 27) * 0x94d049bb133111ebull;
-    return z ^ z >> 31;
-}
-
-static size_t below(size_t n) { return n ? draw() % n : 0; }
 
 /* Deblocking, by a plain filter of this file (RFC 6386, section 15, on signed samples). */
 static int s8(int x) { return x < -128 ? -128 : x > 127 ? 127 : x; }
@@ -281,96 +239,83 @@ static void position(uint8_t *p, ptrdiff_t d, int simple, int outer, int limit, 
     p[-2 * d] = (uint8_t)(s8(x[2] + f) + 128);
 }
 
+/* The edge at `e` of the macroblock whose first sample is p[0]: a vertical one (way 0) or a horizontal one. */
+static void plain_edge(uint8_t *p, size_t w, size_t side, int way, size_t e, int simple, const uint8_t *t) {
+    ptrdiff_t across = way ? (ptrdiff_t)w : 1, along = way ? 1 : (ptrdiff_t)w;
+    int limit = t[HOOKBARLEY_STRENGTH_LIMIT] + (e ? 0 : 4);
+    for (size_t i = 0; i < side; i++)
+        position(p + (ptrdiff_t)e * across + (ptrdiff_t)i * along, across, simple, !e, limit, t[HOOKBARLEY_STRENGTH_INNER],
+                 t[HOOKBARLEY_STRENGTH_THRESHOLD]);
+}
+
 static void plain_plane(uint8_t *p, size_t w, size_t h, size_t side, int simple, const uint8_t *t) {
     for (size_t row = 0; row < h / side; row++)
-        for (size_t column = 0; column < w / side; column++, t += 6)
-            for (int way = 0; t[0] && way < 2; way++)
-                for (size_t e = 0; e < side; e += 4) {
-                    if (e ? t[3] != 1 : !(way ? row : column)) continue;
-                    for (size_t i = 0; i < side; i++)
-                        position(p + (row * side + (way ? e : i)) * w + column * side + (way ? i : e), way ? (ptrdiff_t)w : 1, simple, !e, t[0] + 4 * !e, t[1], t[2]);
-                }
+        for (size_t column = 0; column < w / side; column++, t += HOOKBARLEY_STRENGTH_BYTES)
+            for (int way = 0; t[HOOKBARLEY_STRENGTH_LIMIT] && way < 2; way++)
+                for (size_t e = 0; e < side; e += 4)
+                    if (e ? t[HOOKBARLEY_STRENGTH_INSIDE] == 1 : (way ? row : column) > 0)
+                        plain_edge(p + row * side * w + column * side, w, side, way, e, simple, t);
 }
 
 static size_t deblockings[12];
 
-/* The call on planes and strengths of these lengths, at both guards; r's planes become what it leaves, which must be what `want` says. */
-static void deblocking(struct result *r, const size_t *lent, const uint8_t *strengths, size_t strengths_len, size_t w, size_t h, int simple, uint32_t want) {
+/* What deblocking is given besides planes, and what it must answer. */
+struct deblock_call { size_t w, h, lent[3]; const uint8_t *strengths; size_t strengths_len; int simple; uint32_t want; };
+
+/* The call at one guard: the planes become `plain`. */
+static void deblock_at(const struct deblock_call *d, const struct result *r, uint8_t plain[3][1 << 18], int end) {
+    uint8_t *m[3];
+    for (int b = Y; b <= V; b++) {
+        m[b] = poisoned(&buffers[b], d->lent[b], end, 0, SLACK);
+        memcpy(m[b], r->mem[b], d->lent[b]);
+    }
+    const uint8_t *t = lay(&buffers[BYTES], d->strengths, d->strengths_len, end);
+    uint32_t number = hookbarley_deblock(m[Y], d->lent[Y], m[U], d->lent[U], m[V], d->lent[V], t, d->strengths_len, d->w, d->h,
+                                         d->simple ? 1u << draw() % 32 : 0);
+    if (number != d->want) fail("deblocking answers %u, should be %u", number, d->want);
+    for (int b = Y; b <= V; b++) {
+        if (memcmp(m[b], plain[b], d->lent[b]))
+            fail("%s deblocked with answer %u is not as the plain filter leaves it", buffers[b].name, d->want);
+        untouched(&buffers[b], d->lent[b], end, 0, SLACK);
+    }
+}
+
+/* The call at both guards; r's planes become what it leaves: what the plain filter leaves, or after a refusal what they were. */
+static void deblocking(struct result *r, const struct deblock_call *d) {
     static uint8_t plain[3][1 << 18];
-    size_t size;
-    for (int b = Y; b <= V; b++) memcpy(plain[b], r->mem[b], lent[b]);
-    if (!want) {
-        plain_plane(plain[Y], w, h, 16, simple, strengths);
-        for (int b = U; b <= V && !simple; b++) plain_plane(plain[b], w / 2, h / 2, 8, 0, strengths);
+    for (int b = Y; b <= V; b++) memcpy(plain[b], r->mem[b], d->lent[b]);
+    if (!d->want) {
+        plain_plane(plain[Y], d->w, d->h, 16, d->simple, d->strengths);
+        for (int b = U; b <= V && !d->simple; b++) plain_plane(plain[b], d->w / 2, d->h / 2, 8, 0, d->strengths);
     }
-    for (int end = 0; end < 2; end++) {
-        uint8_t *m[3];
-        for (int b = Y; b <= V; b++) {
-            m[b] = buffers[b].seen + offset(b, lent[b], end);
-            memcpy(m[b], r->mem[b], lent[b]);
-            uint8_t *beside = slack(b, lent[b], end, &size);
-            memset(beside, 0x3C, size);
-        }
-        const uint8_t *t = lay(BYTES, strengths, strengths_len, end);
-        uint32_t number = hookbarley_deblock(m[Y], lent[Y], m[U], lent[U], m[V], lent[V], t, strengths_len, w, h, simple ? 1u << draw() % 32 : 0);
-        if (number != want) fail("deblocking answers %u, should be %u", number, want);
-        for (int b = Y; b <= V; b++) {
-            if (memcmp(m[b], plain[b], lent[b])) fail("%s deblocked with answer %u is not as the plain filter leaves it", names[b], want);
-            const uint8_t *beside = slack(b, lent[b], end, &size);
-            if (!all(beside, size, 0x3C)) fail("deblocking: a byte beside %s was written", names[b]);
-        }
-    }
-    for (int b = Y; b <= V; b++) memcpy(r->mem[b], plain[b], lent[b]);
-    deblockings[want]++;
+    for (int end = 0; end < 2; end++) deblock_at(d, r, plain, end);
+    for (int b = Y; b <= V; b++) memcpy(r->mem[b], plain[b], d->lent[b]);
+    deblockings[d->want]++;
 }
 
 /* Deblocks what a call left. */
 static void deblocked(const struct call *c, struct result *r, int simple) {
-    if (r->number != 0 && r->number != 6 && r->number != 7) return;
-    deblocking(r, c->lent, r->mem[STRENGTHS], c->lent[STRENGTHS], c->w, c->h, simple, 0);
-    plane_rest("y deblocked", r->mem[Y], c->w, c->h, 16, r->k);
-    plane_rest("u deblocked", r->mem[U], c->w / 2, c->h / 2, 8, r->k);
-    plane_rest("v deblocked", r->mem[V], c->w / 2, c->h / 2, 8, r->k);
+    if (!has_picture(r->number)) return;
+    deblocking(r, &(struct deblock_call){c->tile.width, c->tile.height, {c->lent[Y], c->lent[U], c->lent[V]}, r->mem[STRENGTHS],
+                                         c->lent[STRENGTHS], simple, HOOKBARLEY_WHOLE});
+    planes_rest(c, r, " deblocked");
 }
 
-static size_t be(const uint8_t *p, int n) {
-    size_t x = 0;
-    while (n--) x = x << 8 | *p++;
-    return x;
-}
-
-/* The window that a partition is opened with: two bytes, zero past its end. */
-static uint32_t opened(const uint8_t *p, size_t n) {
-    return (n > 0 ? p[0] * 256u : 0) + (n > 1 ? p[1] : 0);
-}
-
+/* A case file; what is damaged is its partitions, so the bytes before them are left out. */
 static int load(const char *path, struct call *c) {
-    static uint8_t file[1 << 17];
-    FILE *f = fopen(path, "rb");
-    if (!f) return 0;
-    size_t n = fread(file, 1, sizeof file, f), count = n > 9 ? file[9] : 0, places = 2206 + 4 * count;
-    fclose(f);
-    if (n < places || file[0] != 1 || count < 1 || count > 8) return 0;
+    static struct case_file f;
+    if (!case_read(path, &f) || f.tile.count < 1 || f.tile.count > 8 || f.tile.width * f.tile.height > buffers[Y].capacity) return 0;
     memset(c, 0, sizeof *c);
-    c->n = n - places;
-    memcpy(c->bytes, file + places, c->n);
-    c->w = be(file + 5, 2);
-    c->h = be(file + 7, 2);
-    c->count = count;
-    for (int i = 0; i < 1096; i++) c->header[i] = (int16_t)be(file + 10 + 2 * i, 2);
-    c->header_len = 1096;
-    c->starts_len = c->lengths_len = 8;
-    c->first_length = be(file + 2202, 4);
-    size_t at = c->first_length;
-    for (size_t i = 0; i < count; i++) {
-        c->starts[i] = at;
-        at += c->lengths[i] = be(file + 2206 + 4 * i, 4);
-    }
-    if (at != c->n || c->w * c->h > capacities[Y]) return 0;
-    c->at = 2;
-    c->range = 255;
-    c->window = opened(c->bytes, c->first_length);
-    lengths_of(c->w, c->h, c->lent);
+    c->n = f.length - f.places;
+    if (c->n > sizeof c->bytes) return 0;
+    memcpy(c->bytes, f.bytes + f.places, c->n);
+    memcpy(c->header, f.header, sizeof f.header);
+    c->header_len = HOOKBARLEY_ENTRIES;
+    c->tile = f.tile;
+    c->tile_len = HOOKBARLEY_TILE_NUMBERS;
+    c->tile.first_start -= f.places;
+    for (size_t i = 0; i < c->tile.count; i++) c->tile.token_starts[i] -= f.places;
+    lengths_of(c->tile.width, c->tile.height, c->lent);
     return 1;
 }
 
@@ -412,7 +357,7 @@ static void whole(const char *dir, struct result *r, struct result *spare) {
     char line[512], got[512];
     FILE *f = expected(dir, "expected-memory-m102.txt"), *counts = expected(dir, "expected-counts-m102.txt");
     for (size_t t = 0; t < tiles_len; t++) {
-        snprintf(where, sizeof where, "whole, tile %04zu", t);
+        trying("whole, tile %04zu", t);
         struct call *c = &tiles[t];
         both(c, r, spare);
         int n = sprintf(got, "%u %zu", r->number, r->k);
@@ -427,15 +372,15 @@ static void whole(const char *dir, struct result *r, struct result *spare) {
 }
 
 /* Column memory after each macroblock row: that of the tile with fewer rows. Empty before the first. */
-static uint8_t after_rows[65][4 * 64];
+static uint8_t after_rows[65][HOOKBARLEY_COLUMN_BYTES * 64];
 
 static void learn_columns(const struct call *tile, struct result *r, struct result *spare) {
     static struct call c;
     c = *tile;
     memset(after_rows, 0, sizeof after_rows);
-    for (size_t row = 1; row <= tile->h / 16; row++) {
-        c.h = 16 * row;
-        lengths_of(c.w, c.h, c.lent);
+    for (size_t row = 1; row <= tile->tile.height / 16; row++) {
+        c.tile.height = 16 * row;
+        lengths_of(c.tile.width, c.tile.height, c.lent);
         both(&c, r, spare);
         memcpy(after_rows[row], r->mem[COLUMNS], c.lent[COLUMNS]);
     }
@@ -443,7 +388,7 @@ static void learn_columns(const struct call *tile, struct result *r, struct resu
 
 /* A column is four modes below 10 in four bits each, nine flags in one bit each, and zeros. */
 static void column_bits(const uint8_t *c, size_t columns) {
-    for (size_t x = 0; x < columns; x++, c += 4) {
+    for (size_t x = 0; x < columns; x++, c += HOOKBARLEY_COLUMN_BYTES) {
         for (int i = 0; i < 2; i++)
             if (c[i] % 16 > 9 || c[i] / 16 > 9) fail("column %zu has a mode above 9", x);
         if (c[2] > 1) fail("column %zu has a bit above its flags", x);
@@ -452,11 +397,31 @@ static void column_bits(const uint8_t *c, size_t columns) {
 
 /* Column memory is as after macroblock k - 1. */
 static void columns_after(const struct call *c, const struct result *r) {
-    size_t columns = c->w / 16, row = r->k / columns, in = r->k % columns;
-    column_bits(r->mem[COLUMNS], columns);
-    if (memcmp(r->mem[COLUMNS], after_rows[row + (in > 0)], 4 * in) ||
-        memcmp(r->mem[COLUMNS] + 4 * in, after_rows[row] + 4 * in, 4 * (columns - in)))
+    size_t columns = c->tile.width / 16, row = r->k / columns, done = HOOKBARLEY_COLUMN_BYTES * (r->k % columns);
+    const uint8_t *got = r->mem[COLUMNS];
+    column_bits(got, columns);
+    if (memcmp(got, after_rows[row + (done > 0)], done) || memcmp(got + done, after_rows[row] + done, c->lent[COLUMNS] - done))
         fail("column memory is not as after %zu macroblocks", r->k);
+}
+
+/* Partition p of tile t cut to every shorter length. Returns how many cuts were tried. */
+static size_t cut_partition(size_t t, struct call *c, size_t p, struct result *r, struct result *spare, const struct result *full) {
+    size_t *length = p ? &c->tile.token_lengths[p - 1] : &c->tile.first_length, from = *length, last = 0;
+    uint64_t first = 0, tokens = 0;
+    for (size_t n = 0; n < from; n++) {
+        trying("cut, tile %04zu, partition %zu, length %zu", t, p, n);
+        *length = n;
+        if (both(c, r, spare)) continue;
+        same(c, r, full, r->k);
+        columns_after(c, r);
+        if (r->k > full->k || r->k < last) fail("k %zu after %zu, whole %zu", r->k, last, full->k);
+        if (r->first > full->first || r->first < first || r->tokens > full->tokens || r->tokens < tokens)
+            fail("a shorter partition reads more symbols");
+        last = r->k, first = r->first, tokens = r->tokens;
+        if (n % 8 == 0) deblocked(c, r, n % 16 == 0);
+    }
+    *length = from;
+    return from;
 }
 
 static void cut(struct result *r, struct result *spare, struct result *full) {
@@ -464,25 +429,10 @@ static void cut(struct result *r, struct result *spare, struct result *full) {
     size_t cuts = 0;
     for (size_t t = 0; t < tiles_len; t++) {
         c = tiles[t];
-        snprintf(where, sizeof where, "cut, tile %04zu whole", t);
-        if (both(&c, full, spare) || c.w > 1024 || c.h > 1024) continue;
+        trying("cut, tile %04zu whole", t);
+        if (both(&c, full, spare) || c.tile.width > 1024 || c.tile.height > 1024) continue;
         learn_columns(&c, r, spare);
-        for (size_t p = 0; p <= c.count; p++) {
-            size_t *length = p ? &c.lengths[p - 1] : &c.first_length, from = *length, last = 0;
-            uint64_t first = 0, tokens = 0;
-            for (size_t n = 0; n < from; n++, cuts++) {
-                snprintf(where, sizeof where, "cut, tile %04zu, partition %zu, length %zu", t, p, n);
-                *length = n;
-                if (both(&c, r, spare)) continue;
-                same(&c, r, full, r->k);
-                columns_after(&c, r);
-                if (r->k > full->k || r->k < last) fail("k %zu after %zu, whole %zu", r->k, last, full->k);
-                if (r->first > full->first || r->first < first || r->tokens > full->tokens || r->tokens < tokens) fail("a shorter partition reads more symbols");
-                last = r->k, first = r->first, tokens = r->tokens;
-                if (cuts % 8 == 0) deblocked(&c, r, cuts % 16 == 0);
-            }
-            *length = from;
-        }
+        for (size_t p = 0; p <= c.tile.count; p++) cuts += cut_partition(t, &c, p, r, spare, full);
     }
     printf("cut: %zu cuts of %zu tiles\n", cuts, tiles_len);
 }
@@ -498,11 +448,12 @@ static void fill(uint8_t *p, size_t n) {
 
 /* Token partition p has bytes and shares none with another that is read. */
 static int alone(const struct call *c, size_t p) {
-    size_t a = c->starts[p], b = a + c->lengths[p];
+    const struct hookbarley_tile *t = &c->tile;
+    size_t a = t->token_starts[p], b = a + t->token_lengths[p];
     if (a == b) return 0;
-    if (c->first_start < b && a < c->first_start + c->first_length) return 0;
-    for (size_t i = 0; i < c->count; i++)
-        if (i != p && c->starts[i] < b && a < c->starts[i] + c->lengths[i]) return 0;
+    if (t->first_start < b && a < t->first_start + t->first_length) return 0;
+    for (size_t i = 0; i < t->count; i++)
+        if (i != p && t->token_starts[i] < b && a < t->token_starts[i] + t->token_lengths[i]) return 0;
     return 1;
 }
 
@@ -518,27 +469,29 @@ static void after_apart(const struct call *c, size_t p, const struct result *bef
         deblocked(c, to[i], simple);
     }
     for (int m = Y; m <= V; m++) {
-        size_t side = m == Y ? 16 : 8, w = c->w * side / 16, h = c->h * side / 16, rows = p * side < 3 ? 0 : p * side - 3;
-        if (p * side >= h) rows = h;
-        if (memcmp(a.mem[m], b.mem[m], w * rows)) fail("partition %zu: %s deblocked differs above the lowest three rows", p, names[m]);
+        size_t side = m == Y ? 16 : 8, w = c->tile.width * side / 16, h = c->tile.height * side / 16;
+        size_t rows = p * side >= h ? h : p * side < 3 ? 0 : p * side - 3;
+        if (memcmp(a.mem[m], b.mem[m], w * rows))
+            fail("partition %zu: %s deblocked differs above the lowest three rows", p, buffers[m].name);
     }
 }
 
 /* Another content of partition p leaves the macroblock rows above row p alone. */
 static void apart(struct call *c, size_t p, const struct result *before, struct result *r, struct result *spare) {
     static uint8_t old[1 << 17];
-    size_t n = c->lengths[p], above = p * (c->w / 16), blocks = (c->w / 16) * (c->h / 16);
-    memcpy(old, c->bytes + c->starts[p], n);
-    if (below(3)) fill(c->bytes + c->starts[p], n);
-    else c->bytes[c->starts[p] + below(n)] ^= (uint8_t)(1 + below(255));
+    uint8_t *partition = c->bytes + c->tile.token_starts[p];
+    size_t n = c->tile.token_lengths[p], above = p * (c->tile.width / 16), blocks = blocks_of(c);
+    memcpy(old, partition, n);
+    if (below(3)) fill(partition, n);
+    else partition[below(n)] ^= (uint8_t)(1 + below(255));
     both(c, r, spare);
-    memcpy(c->bytes + c->starts[p], old, n);
+    memcpy(partition, old, n);
     if (above > blocks) above = blocks;
     size_t k = before->k < above ? before->k : above, l = r->k < above ? r->k : above;
     if (k != l) fail("above partition %zu: %zu and %zu macroblocks", p, k, l);
     same(c, before, r, k);
     size_t both_k = before->k < r->k ? before->k : r->k;
-    if (memcmp(before->mem[MODES], r->mem[MODES], 20 * both_k)) fail("modes depend on token partition %zu", p);
+    if (memcmp(before->mem[MODES], r->mem[MODES], HOOKBARLEY_MODE_BYTES * both_k)) fail("modes depend on token partition %zu", p);
     for (int simple = 0; simple < 2; simple++) after_apart(c, p, before, r, simple);
     if (above == blocks && (before->number != r->number || memcmp(before->mem[COLUMNS], r->mem[COLUMNS], c->lent[COLUMNS])))
         fail("partition %zu is not read, and the answer differs", p);
@@ -550,9 +503,9 @@ static void all_apart(struct result *r, struct result *spare, struct result *ful
         struct call *c = &tiles[t];
         if (refusal(c)) continue;
         run(c, 1, 0xA5, full);
-        for (size_t p = 0; c->count > 1 && p < c->count; p++)
-            for (int i = 0; c->lengths[p] && i < 8; i++, pairs++) {
-                snprintf(where, sizeof where, "apart, tile %04zu, partition %zu, change %d", t, p, i);
+        for (size_t p = 0; c->tile.count > 1 && p < c->tile.count; p++)
+            for (int i = 0; c->tile.token_lengths[p] && i < 8; i++, pairs++) {
+                trying("apart, tile %04zu, partition %zu, change %d", t, p, i);
                 apart(c, p, full, r, spare);
             }
     }
@@ -561,121 +514,142 @@ static void all_apart(struct result *r, struct result *spare, struct result *ful
 
 /* A valid call with random content. */
 static void invent(struct call *c) {
-    c->count = 1 + below(8);
-    c->first_start = below(4);
-    c->first_length = below(62);
-    size_t at = c->first_start + c->first_length;
+    struct hookbarley_tile *t = &c->tile;
+    t->count = 1 + below(8);
+    t->first_start = below(4);
+    t->first_length = below(62);
+    size_t at = t->first_start + t->first_length;
     for (size_t i = 0; i < 8; i++) {
-        c->starts[i] = at;
-        at += c->lengths[i] = below(below(4) ? 42 : 402);
+        t->token_starts[i] = at;
+        at += t->token_lengths[i] = below(below(4) ? 42 : 402);
     }
     c->n = at + below(4);
     fill(c->bytes, c->n);
-    c->w = 16 * (1 + below(below(4) ? 2 : 4));
-    c->h = 16 * (1 + below(below(4) ? 2 : 4));
-    lengths_of(c->w, c->h, c->lent);
+    t->width = 16 * (1 + below(below(4) ? 2 : 4));
+    t->height = 16 * (1 + below(below(4) ? 2 : 4));
+    t->true_width = draw(), t->true_height = draw(), t->simple = draw(); /* not looked at */
+    lengths_of(t->width, t->height, c->lent);
     int legal = (int)below(2);
-    for (int i = 0; i < 1096; i++) c->header[i] = legal ? (i >= 14 && i < 17) || i >= 38 ? (int)below(256) : (int)below(64) * !below(3) : (int)below(511) - 255;
-    c->header_len = 1096;
-    c->starts_len = c->lengths_len = 8;
-    c->at = 2;
-    c->range = 255;
-    c->shifts = 0;
-    c->window = opened(c->bytes + c->first_start, c->first_length);
+    for (int i = 0; i < HOOKBARLEY_ENTRIES; i++) {
+        int of_map = i >= HOOKBARLEY_HEADER_MAP_PROBABILITY && i < HOOKBARLEY_HEADER_MAP_PROBABILITY + 3;
+        int probability = of_map || i >= HOOKBARLEY_HEADER_COEFFICIENTS;
+        c->header[i] = !legal ? (int)below(511) - 255 : probability ? (int)below(256) : (int)below(64) * !below(3);
+    }
+    c->header_len = HOOKBARLEY_ENTRIES;
+    c->tile_len = HOOKBARLEY_TILE_NUMBERS;
+    case_open(c->bytes, t);
 }
 
 static size_t wild(size_t n) {
-    size_t w[] = {0, 1, 2, 3, n, n - 1, n + 1, n / 2, SIZE_MAX, SIZE_MAX - 1, SIZE_MAX - n, SIZE_MAX - n + 1, (size_t)1 << 63, (size_t)1 << 32, below(n + 1), below(n + 1)};
-    return w[below(sizeof w / sizeof *w)];
+    size_t top = SIZE_MAX, w[] = {0, 1, 2, 3, n, n - 1, n + 1, n / 2, top, top - 1, top - n, top - n + 1, (size_t)1 << 63, (size_t)1 << 32};
+    size_t i = below(sizeof w / sizeof *w + 2);
+    return i < sizeof w / sizeof *w ? w[i] : below(n + 1);
 }
 
 static void resize(struct call *c) {
-    static const size_t absurd[] = {0, 1, 15, 17, 24, 16385, 16400, 65536, (size_t)1 << 32, ((size_t)1 << 32) + 16, SIZE_MAX, SIZE_MAX - 15, (size_t)1 << 60};
+    static const size_t two32 = (size_t)1 << 32;
+    const size_t absurd[] = {0, 1, 15, 17, 24, 16385, 16400, 65536, two32, two32 + 16, SIZE_MAX, SIZE_MAX - 15, (size_t)1 << 60};
+    struct hookbarley_tile *t = &c->tile;
     if (below(3) == 0) {
-        *(below(2) ? &c->w : &c->h) = absurd[below(sizeof absurd / sizeof *absurd)];
+        *(below(2) ? &t->width : &t->height) = absurd[below(sizeof absurd / sizeof *absurd)];
         return;
     }
-    c->w = 16 * (1 + below(5));
-    c->h = 16 * (1 + below(5));
-    if (below(500) == 0) { c->w = 16384; c->h = 16; }
-    if (below(500) == 0) { c->w = 16; c->h = 16384; }
-    if (below(10)) lengths_of(c->w, c->h, c->lent);
+    t->width = 16 * (1 + below(5));
+    t->height = 16 * (1 + below(5));
+    if (below(500) == 0) { t->width = 16384; t->height = 16; }
+    if (below(500) == 0) { t->width = 16; t->height = 16384; }
+    if (below(10)) lengths_of(t->width, t->height, c->lent);
 }
 
-static void damage(struct call *c) {
-    size_t i = below(8), j = below(8), x;
-    switch (below(24)) {
-    case 0: case 1: case 2: case 3:
-        for (x = 1 + below(16); x--;) c->bytes[below(c->n)] ^= (uint8_t)(1 << below(8));
-        break;
-    case 4: case 5:
-        for (x = 1 + below(16); x--;) c->bytes[below(c->n)] = (uint8_t)draw();
-        break;
-    case 6:
-        i %= c->count ? c->count : 1; j %= c->count ? c->count : 1; i &= 7; j &= 7;
-        x = c->starts[i]; c->starts[i] = c->starts[j]; c->starts[j] = x;
-        x = c->lengths[i]; c->lengths[i] = c->lengths[j]; c->lengths[j] = x;
-        break;
-    case 7: case 8:
-        c->starts[i] = below(c->n);
-        c->lengths[i] = below(c->n - c->starts[i] + 1);
-        break;
-    case 9:
-        c->first_start = below(c->n);
-        c->first_length = below(c->n - c->first_start + 1);
-        break;
-    case 10: case 11:
-        for (x = 1 + below(30); x--;) c->header[below(1096)] = (int)below(511) - 255;
-        break;
-    case 12: {
-        static const int32_t out[] = {256, -256, INT32_MAX, INT32_MIN, 1000, -32768, 65536};
-        c->header[below(1096)] = out[below(7)];
-        break;
+/* A reader out of range; half of them would be in range if only their lower 32 bits counted. */
+static void spoil_reader(struct hookbarley_tile *t) {
+    static const size_t two32 = (size_t)1 << 32;
+    switch (below(7)) {
+    case 0: t->at = wild(t->first_length); break;
+    case 1: t->range = below(2) ? below(128) : 256 + below(1000); break;
+    case 2: t->shifts = below(2) ? 8 + below(30) : draw(); break;
+    case 3: t->window = below(2) ? (uint32_t)draw() : draw(); break;
+    case 4: t->range += two32 * (1 + below(two32 - 1)); break;
+    case 5: t->shifts += two32 * (1 + below(two32 - 1)); break;
+    default: t->window += two32 * (1 + below(two32 - 1));
     }
-    case 13:
-        for (x = 0; x < 1096; x++) c->header[x] = (int)below(511) - 255;
+}
+
+static void damage_bytes(struct call *c) {
+    for (size_t x = 1 + below(16); x--;)
+        if (below(3)) c->bytes[below(c->n)] ^= (uint8_t)(1 << below(8));
+        else c->bytes[below(c->n)] = (uint8_t)draw();
+}
+
+static void damage_header(struct call *c) {
+    static const int32_t out[] = {256, -256, INT32_MAX, INT32_MIN, 1000, -32768, 65536};
+    switch (below(4)) {
+    case 0: c->header[below(HOOKBARLEY_ENTRIES)] = out[below(7)]; break;
+    case 1:
+        for (size_t i = 0; i < HOOKBARLEY_ENTRIES; i++) c->header[i] = (int)below(511) - 255;
         break;
-    case 14: resize(c); break;
-    case 15: c->count = below(4) ? 1 + below(8) : wild(8); break;
-    case 16: case 17:
-        c->at = 2 + below(c->first_length + 1);
-        c->range = 128 + (uint32_t)below(128);
-        c->shifts = (uint32_t)below(8);
-        c->window = (uint32_t)below(65536) >> c->shifts << c->shifts;
+    default:
+        for (size_t x = 1 + below(30); x--;) c->header[below(HOOKBARLEY_ENTRIES)] = (int)below(511) - 255;
+    }
+}
+
+static void damage_partitions(struct call *c) {
+    struct hookbarley_tile *t = &c->tile;
+    size_t i = below(8), j = below(8), x, used = t->count && t->count < 8 ? t->count : 8;
+    switch (below(6)) {
+    case 0:
+        i %= used, j %= used;
+        x = t->token_starts[i], t->token_starts[i] = t->token_starts[j], t->token_starts[j] = x;
+        x = t->token_lengths[i], t->token_lengths[i] = t->token_lengths[j], t->token_lengths[j] = x;
         break;
-    case 18:
-        switch (below(4)) {
-        case 0: c->at = wild(c->first_length); break;
-        case 1: c->range = (uint32_t)(below(2) ? below(128) : 256 + below(1000)); break;
-        case 2: c->shifts = (uint32_t)(below(2) ? 8 + below(30) : draw()); break;
-        default: c->window = (uint32_t)draw();
-        }
+    case 1: case 2:
+        t->token_starts[i] = below(c->n);
+        t->token_lengths[i] = below(c->n - t->token_starts[i] + 1);
         break;
-    case 19:
-        i = below(LENT);
-        switch (below(4)) {
-        case 0: c->lent[i] = 0; break;
-        case 1: c->lent[i] -= c->lent[i] > 0; break;
-        case 2: if (c->lent[i] < capacities[i]) c->lent[i]++; break;
-        default: if (c->lent[i] * 2 <= capacities[i]) c->lent[i] *= 2;
-        }
+    case 3:
+        t->first_start = below(c->n);
+        t->first_length = below(c->n - t->first_start + 1);
         break;
-    case 20:
-        c->header_len = (size_t[]){0, 1, 1095, 1097, 1200}[below(5)];
-        break;
-    case 21:
-        *(below(2) ? &c->starts_len : &c->lengths_len) = below(10);
-        break;
-    case 22:
-        if (below(2)) *(below(2) ? &c->first_start : &c->first_length) = wild(c->n);
-        else (below(2) ? c->starts : c->lengths)[i] = wild(c->n);
+    case 4:
+        if (below(2)) *(below(2) ? &t->first_start : &t->first_length) = wild(c->n);
+        else (below(2) ? t->token_starts : t->token_lengths)[i] = wild(c->n);
         break;
     default:
         if (below(3) == 0) c->n = below(c->n + 1);
-        else if (below(2)) c->lengths[i] = below(c->lengths[i] + 1);
-        else c->first_length = below(c->first_length + 1);
+        else if (below(2)) t->token_lengths[i] = below(t->token_lengths[i] + 1);
+        else t->first_length = below(t->first_length + 1);
     }
     if (c->n == 0) c->n = 1;
+}
+
+static void damage_lengths(struct call *c) {
+    static const size_t entries[] = {0, 1, HOOKBARLEY_ENTRIES - 1, HOOKBARLEY_ENTRIES + 1, 1200};
+    size_t i = below(LENT), *n = &c->lent[i];
+    switch (below(12)) {
+    case 0: *n = 0; break;
+    case 1: *n -= *n > 0; break;
+    case 2: *n += *n < buffers[i].capacity; break;
+    case 3: *n *= *n * 2 <= buffers[i].capacity ? 2 : 1; break;
+    case 4: case 5: case 6: case 7: c->header_len = entries[below(5)]; break;
+    default: c->tile_len = below(sizeof c->numbers / sizeof *c->numbers + 1);
+    }
+}
+
+static void damage(struct call *c) {
+    struct hookbarley_tile *t = &c->tile;
+    size_t kind = below(24);
+    if (kind < 6) damage_bytes(c);
+    else if (kind < 12) damage_partitions(c);
+    else if (kind < 16) damage_header(c);
+    else if (kind < 17) resize(c);
+    else if (kind < 18) t->count = below(4) ? 1 + below(8) : wild(8);
+    else if (kind < 20) {
+        t->at = 2 + below(t->first_length + 1);
+        t->range = 128 + below(128);
+        t->shifts = below(8);
+        t->window = below(65536) >> t->shifts << t->shifts;
+    } else if (kind < 21) spoil_reader(t);
+    else damage_lengths(c);
 }
 
 /* Any tile, most often the smallest of four. */
@@ -683,7 +657,7 @@ static const struct call *small_tile(void) {
     const struct call *c = &tiles[below(tiles_len)];
     for (size_t i = below(8) ? 3 : 0; i--;) {
         const struct call *d = &tiles[below(tiles_len)];
-        if (d->w * d->h < c->w * c->h) c = d;
+        if (d->tile.width * d->tile.height < c->tile.width * c->tile.height) c = d;
     }
     return c;
 }
@@ -698,13 +672,13 @@ static void random_calls(size_t times, struct result *r, struct result *spare, s
     static struct call c;
     size_t further = 0, pairs = 0;
     for (size_t t = 0; t < times; t++) {
-        snprintf(where, sizeof where, "random %zu", t);
+        trying("random %zu", t);
         if (below(3)) copy(&c, small_tile());
         else invent(&c);
         for (size_t d = below(4); d--;) damage(&c);
         if (both(&c, full, spare)) continue;
         if (below(4) == 0) {
-            size_t p = below(c.count + 1), *length = p ? &c.lengths[p - 1] : &c.first_length, from = *length;
+            size_t p = below(c.tile.count + 1), *length = p ? &c.tile.token_lengths[p - 1] : &c.tile.first_length, from = *length;
             *length = below(from + 1);
             if (both(&c, r, spare) == 0) {
                 if (r->k > full->k) fail("a cut finishes more, %zu and %zu", r->k, full->k);
@@ -713,58 +687,90 @@ static void random_calls(size_t times, struct result *r, struct result *spare, s
             }
             *length = from;
         }
-        size_t p = below(c.count);
+        size_t p = below(c.tile.count);
         if (below(8) == 0 && alone(&c, p)) { apart(&c, p, full, r, spare); pairs++; }
     }
     printf("random: %zu inputs, %zu cut further, %zu pairs\n", times, further, pairs);
 }
 
-/* Every set of reasons to refuse: the least number is answered. */
+/* Every set of reasons to refuse: the first check's number is answered. */
 static void refused(size_t times, struct result *r, struct result *spare) {
     static struct call c;
-    static const size_t sides[] = {0, 17, 16400, SIZE_MAX, ((size_t)1 << 32) + 16}, counts[] = {0, 9, 16, SIZE_MAX, ((size_t)1 << 32) + 1};
+    static const size_t two32 = (size_t)1 << 32;
+    const size_t sides[] = {0, 17, 16400, SIZE_MAX, two32 + 16}, counts[] = {0, 9, 16, SIZE_MAX, two32 + 1};
+    const size_t ranges[] = {0, 127, 256, SIZE_MAX, two32 + 255};
+    const int32_t entries[] = {256, -256, INT32_MIN, INT32_MAX, 32767};
     for (size_t t = 0; t < times; t++) {
         size_t why = t % 128, i = below(5);
-        snprintf(where, sizeof where, "refused %zu", t);
+        trying("refused %zu", t);
         copy(&c, small_tile());
-        if (why & 1) *(below(2) ? &c.w : &c.h) = sides[i];
-        if (why & 2) c.count = counts[i];
-        if (why & 4) c.header[below(1096)] = (int32_t[]){256, -256, INT32_MIN, INT32_MAX, 32767}[i];
+        if (why & 1) *(below(2) ? &c.tile.width : &c.tile.height) = sides[i];
+        if (why & 2) c.tile.count = counts[i];
+        if (why & 4) c.header[below(HOOKBARLEY_ENTRIES)] = entries[i];
         if (why & 8) { if (i) c.lent[below(LENT)] ^= 1; else c.header_len++; }
-        if (why & 16) c.first_start = below(2) ? c.n + 1 + below(100) : SIZE_MAX - below(100);
-        if (why & 32) c.range = (uint32_t[]){0, 127, 256, 1u << 31, UINT32_MAX}[i];
-        if (why & 64) *(below(2) ? &c.starts_len : &c.lengths_len) = below(2) ? 7 : 9;
+        if (why & 16) c.tile.first_start = below(2) ? c.n + 1 + below(100) : SIZE_MAX - below(100);
+        if (why & 32) c.tile.range = ranges[i];
+        if (why & 64) c.tile_len = below(2) ? HOOKBARLEY_TILE_NUMBERS - 1 : HOOKBARLEY_TILE_NUMBERS + 1;
         if (both(&c, r, spare) == 0 && why) fail("reasons %zu, and not refused", why);
     }
     printf("refused: %zu inputs with every set of seven reasons\n", times);
 }
 
 /* Drawn planes and strengths; wrong sizes, lengths and limits. */
+static void deblock_drawn(struct result *r, uint8_t *strengths) {
+    static const size_t sides[] = {0, 8, 17, 16400, SIZE_MAX, SIZE_MAX - 15, ((size_t)1 << 32) + 16, (size_t)1 << 60};
+    size_t w = 16 * (1 + below(5)), h = 16 * (1 + below(5)), lent[LENT], spread = 1 + below(below(3) ? 20 : 256);
+    lengths_of(w, h, lent);
+    size_t tops[HOOKBARLEY_STRENGTH_BYTES] = {below(4) ? 190 : 60, below(2) ? 64 : 256, below(2) ? 3 : 256, below(4) ? 2 : 256, 256, 256};
+    for (size_t i = 0; i < lent[STRENGTHS]; i++) strengths[i] = (uint8_t)below(tops[i % HOOKBARLEY_STRENGTH_BYTES]);
+    for (int b = Y; b <= V; b++) {
+        uint8_t base = (uint8_t)draw();
+        for (size_t i = 0; i < lent[b]; i++) r->mem[b][i] = (uint8_t)(base + below(spread));
+    }
+    size_t why = below(3) ? 0 : below(8);
+    struct deblock_call d = {w, h, {lent[Y], lent[U], lent[V]}, strengths, lent[STRENGTHS], (int)below(2), 0};
+    d.want = why & 1 ? HOOKBARLEY_SIZE : why & 2 ? HOOKBARLEY_LENGTH : why & 4 ? HOOKBARLEY_LIMIT : HOOKBARLEY_WHOLE;
+    if (why & 4) {
+        size_t block = below(lent[STRENGTHS] / HOOKBARLEY_STRENGTH_BYTES);
+        strengths[HOOKBARLEY_STRENGTH_BYTES * block + HOOKBARLEY_STRENGTH_LIMIT] = (uint8_t)(190 + below(66));
+    }
+    if (why & 2) {
+        size_t *length = (size_t *[]){&d.lent[Y], &d.lent[U], &d.lent[V], &d.strengths_len}[below(4)];
+        *length = below(3) ? *length - 1 : below(2) ? 0 : *length + 1;
+    }
+    if (why & 1) *(below(2) ? &d.w : &d.h) = sides[below(sizeof sides / sizeof *sides)];
+    deblocking(r, &d);
+}
+
 static void deblocks(size_t times, struct result *r) {
     static uint8_t strengths[1 << 12];
-    static const size_t sides[] = {0, 8, 17, 16400, SIZE_MAX, SIZE_MAX - 15, ((size_t)1 << 32) + 16, (size_t)1 << 60};
     for (size_t t = 0; t < times; t++) {
-        snprintf(where, sizeof where, "deblock %zu", t);
-        size_t w = 16 * (1 + below(5)), h = 16 * (1 + below(5)), lent[LENT], spread = 1 + below(below(3) ? 20 : 256);
-        lengths_of(w, h, lent);
-        size_t blocks = lent[STRENGTHS] / 6;
-        size_t tops[] = {below(4) ? 190 : 60, below(2) ? 64 : 256, below(2) ? 3 : 256, below(4) ? 2 : 256, 256, 256};
-        for (size_t i = 0; i < lent[STRENGTHS]; i++) strengths[i] = (uint8_t)below(tops[i % 6]);
-        for (int b = Y; b <= V; b++) {
-            uint8_t base = (uint8_t)draw();
-            for (size_t i = 0; i < lent[b]; i++) r->mem[b][i] = (uint8_t)(base + below(spread));
-        }
-        size_t why = below(3) ? 0 : below(8), strengths_len = lent[STRENGTHS];
-        uint32_t want = why & 1 ? 1 : why & 2 ? 4 : why & 4 ? 11 : 0;
-        if (why & 4) strengths[6 * below(blocks)] = (uint8_t)(190 + below(66));
-        if (why & 2) {
-            size_t *length = (size_t *[]){&lent[Y], &lent[U], &lent[V], &strengths_len}[below(4)];
-            *length = below(3) ? *length - 1 : below(2) ? 0 : *length + 1;
-        }
-        if (why & 1) *(below(2) ? &w : &h) = sides[below(sizeof sides / sizeof *sides)];
-        deblocking(r, lent, strengths, strengths_len, w, h, (int)below(2), want);
+        trying("deblock %zu", t);
+        deblock_drawn(r, strengths);
     }
-    printf("deblock: %zu deblocked, refused with 1: %zu, 4: %zu, 11: %zu\n", deblockings[0], deblockings[1], deblockings[4], deblockings[11]);
+    printf("deblock: %zu deblocked, refused with 1: %zu, 4: %zu, 11: %zu\n", deblockings[HOOKBARLEY_WHOLE], deblockings[HOOKBARLEY_SIZE],
+           deblockings[HOOKBARLEY_LENGTH], deblockings[HOOKBARLEY_LIMIT]);
+}
+
+/* One edge drawn, of eight samples or of another number, at both guards. */
+static void kernel_drawn(void) {
+    uint8_t e[20], once[20], simple = (uint8_t)draw(), edge = (uint8_t)draw(), base = (uint8_t)draw();
+    uint8_t limit = (uint8_t)draw(), inner = (uint8_t)draw(), threshold = (uint8_t)draw();
+    size_t n = below(4) ? 8 : below(17), spread = 1 + below(below(2) ? 12 : 256);
+    if (below(2)) simple = 0;
+    if (below(2)) edge = 0;
+    for (size_t i = 0; i < n; i++) e[i] = (uint8_t)(base + below(spread));
+    for (int end = 0; end < 2; end++) {
+        uint8_t *s = poisoned(&buffers[Y], n, end, 0, SLACK);
+        memcpy(s, e, n);
+        uint32_t number = hookbarley_filter(s, n, simple, edge, limit, inner, threshold);
+        if (number != (n == 8 ? HOOKBARLEY_WHOLE : HOOKBARLEY_ARGUMENT)) fail("kernel answers %u for %zu samples", number, n);
+        if (n != 8 && memcmp(s, e, n)) fail("kernel refuses and writes");
+        if (n == 8 && (s[0] != e[0] || s[7] != e[7])) fail("kernel changes sample 0 or 7");
+        if (end && memcmp(s, once, n)) fail("kernel answers differ");
+        untouched(&buffers[Y], n, end, 0, SLACK);
+        memcpy(once, s, n);
+    }
 }
 
 static void kernel(size_t times) {
@@ -772,49 +778,21 @@ static void kernel(size_t times) {
     static const struct { uint8_t simple, edge, limit, to[8]; } worked[] = {
         {0, 1, 24, {100, 100, 100, 100, 110, 110, 110, 110}}, {0, 1, 25, {100, 101, 103, 104, 106, 107, 109, 110}},
         {0, 0, 25, {100, 100, 102, 104, 106, 108, 110, 110}}, {1, 0, 25, {100, 100, 100, 102, 107, 110, 110, 110}}};
-    snprintf(where, sizeof where, "kernel");
+    trying("kernel");
     for (int i = 0; i < 4; i++) {
-        uint8_t *s = buffers[Y].seen + capacities[Y] - 8;
-        memcpy(s, flat, 8);
+        uint8_t *s = memcpy(place(&buffers[Y], 8, 1), flat, 8);
         uint32_t n = hookbarley_filter(s, 8, worked[i].simple, worked[i].edge, worked[i].limit, 0, 0);
         if (n || memcmp(s, worked[i].to, 8)) fail("worked numbers, line %d", i);
     }
-    for (size_t t = 0; t < times; t++) {
-        uint8_t e[20], once[20], simple = (uint8_t)draw(), edge = (uint8_t)draw(), limit = (uint8_t)draw(), inner = (uint8_t)draw(), threshold = (uint8_t)draw();
-        size_t n = below(4) ? 8 : below(17);
-        uint8_t base = (uint8_t)draw();
-        int spread = 1 + (int)below(below(2) ? 12 : 256);
-        if (below(2)) simple = 0;
-        if (below(2)) edge = 0;
-        for (size_t i = 0; i < n; i++) e[i] = (uint8_t)(base + below((size_t)spread));
-        for (int end = 0; end < 2; end++) {
-            uint8_t *s = buffers[Y].seen + offset(Y, n, end);
-            memcpy(s, e, n);
-            uint32_t number = hookbarley_filter(s, n, simple, edge, limit, inner, threshold);
-            if (number != (n == 8 ? 0 : 9)) fail("kernel answers %u for %zu samples", number, n);
-            if (n != 8 && memcmp(s, e, n)) fail("kernel refuses and writes");
-            if (n == 8 && (s[0] != e[0] || s[7] != e[7])) fail("kernel changes sample 0 or 7");
-            if (end && memcmp(s, once, n)) fail("kernel answers differ");
-            memcpy(once, s, n);
-        }
-    }
+    for (size_t t = 0; t < times; t++) kernel_drawn();
     printf("kernel: 4 worked edges, %zu random\n", times);
 }
 
 int main(int argc, char **argv) {
     if (argc < 4) { fprintf(stderr, "usage: %s DIR N SEED [random]\n", argv[0]); return 2; }
-    setvbuf(stdout, NULL, _IOLBF, 0);
     size_t times = strtoull(argv[2], NULL, 10);
-    state = strtoull(argv[3], NULL, 10);
+    begin(argv[3], buffers, BUFFERS);
     printf("seed: %s\n", argv[3]);
-    struct sigaction a = {0};
-    a.sa_sigaction = fault;
-    a.sa_flags = SA_SIGINFO;
-    sigaction(SIGSEGV, &a, NULL);
-    sigaction(SIGBUS, &a, NULL);
-    sigaction(SIGILL, &a, NULL);
-    sigaction(SIGFPE, &a, NULL);
-    make_buffers();
     load_all(argv[1]);
     struct result r = new_result(), spare = new_result(), full = new_result();
     whole(argv[1], &r, &spare);

@@ -1,72 +1,25 @@
-/* Explanations from outside: explain N SEED.
+/* Explanations from outside, between guard pages (guard.h): explain N SEED.
  *
- * Every buffer stands between pages that may not be touched: once ending at the page behind it, once starting at the page before it. The
- * samples are lent through a view that may only be read. `reason` and `stepped` below say what must come out; they were written from
- * RFC 6386, section 15, on signed samples, apart from the library. Run here:
+ * `reason` and `stepped` below say what must come out; they were written from RFC 6386, section 15, on signed samples, apart from the
+ * library. Run here:
  *   told    N edges made from SEED, of all kinds of strengths: rule, pair, steps and samples after are as worked out here, the samples
  *           after are hookbarley_filter's, and each is its sample with its step added, clipped; every rule and every pair is reached;
  *   deblock the macroblock's edges again through hookbarley_deblock, sixteen to a picture of 32 by 16: its samples are those told;
- *   refused every set of lengths of 0 to 16 of which one is not eight: 9, both numbers 0, nothing written.
- * A fault or a difference ends the run with status 1 and says where. */
-#define _GNU_SOURCE
-#include "hookbarley.h"
-#include <signal.h>
-#include <stdarg.h>
-#include <stdio.h>
-#include <stdlib.h>
-#include <string.h>
-#include <sys/mman.h>
-#include <unistd.h>
+ *   refused every set of lengths of 0 to 16 of which one is not eight: 9, both numbers 0, nothing written. */
+#include "guard.h"
 
 enum { SAMPLES, AFTER, STEPS, RULE, PAIR, BUFFERS };
-enum { GUARD = 1 << 20, CAPACITY = 1 << 12 };
-static const char *const names[] = {"samples", "after", "steps", "rule", "pair"};
+enum { CAPACITY = 1 << 12 };
+static struct guarded buffers[BUFFERS] = {
+    [SAMPLES] = {.name = "samples", .capacity = CAPACITY, .input = 1},
+    [AFTER] = {.name = "after", .capacity = CAPACITY},
+    [STEPS] = {.name = "steps", .capacity = CAPACITY},
+    [RULE] = {.name = "rule", .capacity = CAPACITY},
+    [PAIR] = {.name = "pair", .capacity = CAPACITY},
+};
 
-static char where[256] = "start";
-
-static void fail(const char *format, ...) {
-    va_list a;
-    va_start(a, format);
-    fprintf(stderr, "FAILED at %s: ", where);
-    vfprintf(stderr, format, a);
-    fprintf(stderr, "\n");
-    va_end(a);
-    exit(1);
-}
-
-static void fault(int s, siginfo_t *i, void *c) {
-    (void)c;
-    char t[400];
-    int n = snprintf(t, sizeof t, "FAILED at %s: signal %d at %p\n", where, s, i->si_addr);
-    if (write(2, t, (size_t)n) < 0) _exit(3);
-    _exit(1);
-}
-
-static struct { uint8_t *seen, *ours; } buffers[BUFFERS];
-
-static void make_buffers(void) {
-    for (int b = 0; b < BUFFERS; b++) {
-        int input = b == SAMPLES, fd = memfd_create(names[b], 0);
-        if (fd < 0 || ftruncate(fd, CAPACITY)) { perror("memfd"); exit(2); }
-        uint8_t *p = mmap(NULL, CAPACITY + 2 * GUARD, PROT_NONE, MAP_PRIVATE | MAP_ANONYMOUS | MAP_NORESERVE, -1, 0);
-        if (p == MAP_FAILED) { perror("mmap"); exit(2); }
-        buffers[b].seen = mmap(p + GUARD, CAPACITY, input ? PROT_READ : PROT_READ | PROT_WRITE, MAP_SHARED | MAP_FIXED, fd, 0);
-        buffers[b].ours = input ? mmap(NULL, CAPACITY, PROT_READ | PROT_WRITE, MAP_SHARED, fd, 0) : buffers[b].seen;
-        if (buffers[b].seen != p + GUARD || buffers[b].ours == MAP_FAILED) { perror("mmap"); exit(2); }
-        close(fd);
-    }
-}
-
-static uint64_t state;
-
-static uint64_t draw(void) {
-    uint64_t z = state += 0x9E3779B97F4A7C15u;
-    z = (z ^ (z >> 30)) * 0xBF58476D1CE4E5B9u;
-    z = (z ^ (z >> 27)) * 0x94D049BB133111EBu;
-    return z ^ (z >> 31);
-}
-
-static int below(int n) { return (int)(draw() % (uint64_t)n); }
+/* A number of either sign to be added to others. */
+static int less(int n) { return (int)below((size_t)n); }
 
 /* One edge and its strengths; what is told of it. */
 struct edge { uint8_t s[8], simple, outer, limit, inner, threshold; };
@@ -109,22 +62,18 @@ static void stepped(const struct edge *e, uint32_t rule, int32_t *steps) {
 /* ---- the call, its buffers ending (end = 1) or starting (end = 0) at a guard */
 static void explain(const struct edge *e, const size_t *lengths, int end, int poison, struct told *t) {
     size_t sizes[BUFFERS] = {lengths[0], lengths[1], lengths[2] * sizeof(int32_t), sizeof(uint32_t), sizeof(uint32_t)};
-    uint8_t *p[BUFFERS];
-    for (int b = 0; b < BUFFERS; b++) {
-        memset(buffers[b].ours, poison, CAPACITY);
-        p[b] = buffers[b].seen + (end ? CAPACITY - sizes[b] : 0);
-    }
-    for (size_t i = 0; i < lengths[0]; i++) buffers[SAMPLES].ours[(end ? CAPACITY - sizes[0] : 0) + i] = e->s[i % 8];
-    t->number = hookbarley_explain(p[SAMPLES], lengths[0], e->simple, e->outer, e->limit, e->inner, e->threshold, p[AFTER], lengths[1],
-                                   (int32_t *)p[STEPS], lengths[2], (uint32_t *)p[RULE], (uint32_t *)p[PAIR]);
+    uint8_t given[16];
+    void *p[BUFFERS];
+    for (size_t i = 0; i < lengths[0]; i++) given[i] = e->s[i % 8];
+    const uint8_t *samples = lay(&buffers[SAMPLES], given, lengths[0], end);
+    for (int b = AFTER; b < BUFFERS; b++) p[b] = poisoned(&buffers[b], sizes[b], end, poison, REST);
+    t->number = hookbarley_explain(samples, lengths[0], e->simple, e->outer, e->limit, e->inner, e->threshold, p[AFTER], lengths[1],
+                                   p[STEPS], lengths[2], p[RULE], p[PAIR]);
     memcpy(&t->rule, p[RULE], sizeof t->rule);
     memcpy(&t->pair, p[PAIR], sizeof t->pair);
     memcpy(t->after, p[AFTER], sizes[AFTER]);
     memcpy(t->steps, p[STEPS], sizes[STEPS]);
-    for (int b = AFTER; b < BUFFERS; b++)
-        for (size_t i = 0; i < CAPACITY; i++)
-            if ((buffers[b].seen + i < p[b] || buffers[b].seen + i >= p[b] + sizes[b]) && buffers[b].seen[i] != poison)
-                fail("a byte beside %s was written", names[b]);
+    for (int b = AFTER; b < BUFFERS; b++) untouched(&buffers[b], sizes[b], end, poison, REST);
 }
 
 static size_t rules[7], pairs[7], clipped;
@@ -155,17 +104,17 @@ static void check(const struct edge *e, struct told *t) {
 
 static struct edge drawn(void) {
     struct edge e;
-    int base = below(320) - 32, spread = 1 + below(1 << below(8)), step = below(3) ? below(24) - 12 : below(256) - 128;
-    int cut = below(8), jump = below(2) ? 0 : below(128) - 64; /* often a jump between two neighbours on one side */
+    int base = less(320) - 32, spread = 1 + less(1 << less(8)), step = less(3) ? less(24) - 12 : less(256) - 128;
+    int cut = less(8), jump = less(2) ? 0 : less(128) - 64; /* often a jump between two neighbours on one side */
     for (int i = 0; i < 8; i++) {
-        int x = base + (i < 4 ? 0 : step) + below(spread) + ((cut < 4 ? i < cut : i > cut) ? jump : 0);
+        int x = base + (i < 4 ? 0 : step) + less(spread) + ((cut < 4 ? i < cut : i > cut) ? jump : 0);
         e.s[i] = (uint8_t)(x < 0 ? 0 : x > 255 ? 255 : x);
     }
-    e.simple = below(4) ? 0 : (uint8_t)(1 + below(255));
-    e.outer = below(2) ? 0 : (uint8_t)(1 + below(255));
-    e.limit = (uint8_t)(below(2) ? below(190) : below(256));
-    e.inner = (uint8_t)(below(2) ? below(64) : below(256));
-    e.threshold = (uint8_t)(below(4) ? below(3) : below(256));
+    e.simple = less(4) ? 0 : (uint8_t)(1 + less(255));
+    e.outer = less(2) ? 0 : (uint8_t)(1 + less(255));
+    e.limit = (uint8_t)(less(2) ? less(190) : less(256));
+    e.inner = (uint8_t)(less(2) ? less(64) : less(256));
+    e.threshold = (uint8_t)(less(4) ? less(3) : less(256));
     return e;
 }
 
@@ -173,12 +122,15 @@ static struct edge drawn(void) {
 static void through_deblock(void) {
     struct edge e = drawn();
     struct told t;
-    uint8_t y[512], u[128], v[128], want[512], strengths[12] = {0};
-    e.simple = (uint8_t)below(2);
+    uint8_t y[512], u[128], v[128], want[512];
+    uint8_t strengths[2 * HOOKBARLEY_STRENGTH_BYTES] = {0}, *right = strengths + HOOKBARLEY_STRENGTH_BYTES;
+    e.simple = (uint8_t)less(2);
     e.outer = 1;
-    uint8_t limit = (uint8_t)(1 + below(189));
+    uint8_t limit = (uint8_t)(1 + less(189));
     e.limit = limit + 4;
-    strengths[6] = limit, strengths[7] = e.inner, strengths[8] = e.threshold;
+    right[HOOKBARLEY_STRENGTH_LIMIT] = limit;
+    right[HOOKBARLEY_STRENGTH_INNER] = e.inner;
+    right[HOOKBARLEY_STRENGTH_THRESHOLD] = e.threshold;
     memset(u, 128, sizeof u);
     memset(v, 128, sizeof v);
     for (int i = 0; i < 512; i++) want[i] = y[i] = (uint8_t)draw();
@@ -190,47 +142,53 @@ static void through_deblock(void) {
         check(&e, &t);
         memcpy(want + 32 * row + 12, t.after, 8);
     }
-    if (hookbarley_deblock(y, 512, u, 128, v, 128, strengths, 12, 32, 16, e.simple)) fail("deblocking refuses");
+    if (hookbarley_deblock(y, 512, u, 128, v, 128, strengths, sizeof strengths, 32, 16, e.simple)) fail("deblocking refuses");
     if (memcmp(y, want, 512)) fail("deblocking leaves other samples than those told");
+}
+
+static void refused(const size_t *lengths) {
+    struct edge e = drawn();
+    struct told t;
+    trying("refused %zu %zu %zu", lengths[0], lengths[1], lengths[2]);
+    for (int end = 0; end < 2; end++) {
+        explain(&e, lengths, end, 0xA5, &t);
+        if (t.number != HOOKBARLEY_ARGUMENT || t.rule || t.pair) fail("answer %u %u %u, should be 9 0 0", t.number, t.rule, t.pair);
+        if (!all(t.after, lengths[1], 0xA5)) fail("refused, and after was written");
+        if (!all((uint8_t *)t.steps, lengths[2] * sizeof *t.steps, 0xA5)) fail("refused, and steps was written");
+    }
+}
+
+static void print_told(size_t n) {
+    printf("told %zu edges: edge failed %zu, rough %zu (", n, rules[HOOKBARLEY_EDGE_FAILED], rules[HOOKBARLEY_ROUGH]);
+    for (int i = HOOKBARLEY_P3_P2; i <= HOOKBARLEY_Q1_Q0; i++) printf("%zu%s", pairs[i], i < HOOKBARLEY_Q1_Q0 ? " " : ")");
+    printf(", simple %zu, high variance %zu", rules[HOOKBARLEY_SIMPLE], rules[HOOKBARLEY_HIGH_VARIANCE]);
+    printf(", macroblock %zu, inner %zu", rules[HOOKBARLEY_MACROBLOCK_EDGE], rules[HOOKBARLEY_INNER_EDGE]);
+    printf("; %zu sums clipped\n", clipped / 2);
 }
 
 int main(int argc, char **argv) {
     if (argc != 3) { fprintf(stderr, "explain N SEED\n"); return 2; }
-    size_t n = strtoull(argv[1], NULL, 10), refused = 0;
-    state = strtoull(argv[2], NULL, 10);
-    struct sigaction a = {.sa_sigaction = fault, .sa_flags = SA_SIGINFO};
-    sigaction(SIGSEGV, &a, NULL);
-    sigaction(SIGBUS, &a, NULL);
-    make_buffers();
+    size_t n = strtoull(argv[1], NULL, 10), sets = 0;
     struct told t;
+    begin(argv[2], buffers, BUFFERS);
     for (size_t i = 0; i < n; i++) {
-        snprintf(where, sizeof where, "told %zu", i);
+        trying("told %zu", i);
         struct edge e = drawn();
         check(&e, &t);
     }
     for (int i = 1; i < 7; i++)
         if (n >= 2000 && (!rules[i] || !pairs[i])) fail("rule or pair %d was never reached", i);
-    printf("told %zu edges: edge failed %zu, rough %zu (%zu %zu %zu %zu %zu %zu), simple %zu, high variance %zu, macroblock %zu, inner %zu; %zu sums clipped\n", n,
-           rules[1], rules[2], pairs[1], pairs[2], pairs[3], pairs[4], pairs[5], pairs[6], rules[3], rules[4], rules[5], rules[6], clipped / 2);
+    print_told(n);
     for (size_t i = 0; i < n / 16; i++) {
-        snprintf(where, sizeof where, "deblock %zu", i);
+        trying("deblock %zu", i);
         through_deblock();
     }
     for (size_t i = 0; i < 17 * 17 * 17; i++) {
         size_t lengths[] = {i % 17, i / 17 % 17, i / 289};
         if (lengths[0] == 8 && lengths[1] == 8 && lengths[2] == 8) continue;
-        snprintf(where, sizeof where, "refused %zu %zu %zu", lengths[0], lengths[1], lengths[2]);
-        struct edge e = drawn();
-        for (int end = 0; end < 2; end++) {
-            explain(&e, lengths, end, 0xA5, &t);
-            if (t.number != 9 || t.rule || t.pair) fail("answer %u %u %u, should be 9 0 0", t.number, t.rule, t.pair);
-            for (size_t k = 0; k < lengths[1]; k++)
-                if (t.after[k] != 0xA5) fail("refused, and after was written");
-            for (size_t k = 0; k < lengths[2]; k++)
-                if ((uint32_t)t.steps[k] != 0xA5A5A5A5u) fail("refused, and steps was written");
-        }
-        refused++;
+        refused(lengths);
+        sets++;
     }
-    printf("%zu edges told, %zu pictures deblocked, %zu sets of lengths refused\n", n, n / 16, refused);
+    printf("%zu edges told, %zu pictures deblocked, %zu sets of lengths refused\n", n, n / 16, sets);
     return 0;
 }

@@ -2,19 +2,11 @@
  *                              explain_tiles -t X Y KIND FILE   pixel (X, Y) in words; KIND is normal or simple
  *                              explain_tiles -p KIND FILE, -s KIND FILE   the coloured tile as PPM, as SVG
  *
- * Of every sample of luma, U and V: the first edge finds the sample as it was decoded, every further edge what the edge before it left, and the
- * last leaves what hookbarley_deblock leaves (a sample that no edge looked at is as it was decoded); edges come in the order of
+ * Of every sample of luma, U and V: the first edge finds the sample as it was decoded, every further edge what the edge before it left, and
+ * the last leaves what hookbarley_deblock leaves (a sample that no edge looked at is as it was decoded); edges come in the order of
  * hookbarley_deblock; each step is told before clipping. A difference ends the run with status 1 and says where. */
 #include "../../cli/explain.h"
-#include "hookbarley.h"
-#include <stdlib.h>
-#include <string.h>
-
-static size_t be(const uint8_t *p, int n) {
-    size_t x = 0;
-    while (n--) x = x << 8 | *p++;
-    return x;
-}
+#include "../../examples/c/case_file.h"
 
 static void *lent(size_t n) {
     void *p = malloc(n ? n : 1);
@@ -27,31 +19,18 @@ static void fail(const char *file, const char *what, size_t i) {
     exit(1);
 }
 
-/* Decodes a case file (examples/c/decode_case.c has the layout); 0 where nothing is decoded. */
+/* Decodes a case file; 0 where nothing is decoded. */
 static int decoded(const char *name, struct explain_tile *t) {
-    static uint8_t file[1 << 22];
-    static int32_t header[1096];
-    FILE *f = fopen(name, "rb");
-    if (!f) { perror(name); exit(2); }
-    size_t n = fread(file, 1, sizeof file, f);
-    fclose(f);
-    if (n < 2206 || file[0] != 1 || be(file + 1, 4) + 5 != n) return 0;
-    size_t w = be(file + 5, 2), h = be(file + 7, 2), count = file[9], places = 2206 + 4 * count, first = be(file + 2202, 4), at = places + first;
-    size_t starts[8] = {0}, lengths[8] = {0}, k = 0;
+    static struct case_file c;
+    struct hookbarley_memory m;
+    size_t finished;
     uint64_t first_reads, token_reads;
-    if (n < places || w > 2048 || h > 2048) return 0;
-    for (int i = 0; i < 1096; i++) header[i] = (int16_t)be(file + 10 + 2 * i, 2);
-    for (size_t i = 0; i < count && i < 8; at += lengths[i++]) starts[i] = at, lengths[i] = be(file + 2206 + 4 * i, 4);
-    size_t luma = w * h, chroma = (w / 2) * (h / 2), blocks = (w / 16) * (h / 16);
-    uint8_t *y = lent(luma), *u = lent(chroma), *v = lent(chroma), *columns = lent(4 * (w / 16)), *modes = lent(20 * blocks), *strengths = lent(6 * blocks);
-    uint32_t window = (first > 0 ? file[places] * 256u : 0) + (first > 1 ? file[places + 1] : 0);
-    uint32_t number = hookbarley_decode(file, n, places, first, starts, 8, lengths, 8, 2, 255, 0, window, count, header, 1096, w, h,
-                                        y, luma, u, chroma, v, chroma, columns, 4 * (w / 16), modes, 20 * blocks, strengths, 6 * blocks,
-                                        &k, &first_reads, &token_reads);
-    *t = (struct explain_tile){w, h, w, h, y, u, v, strengths, 6 * blocks, 0};
-    free(columns);
-    free(modes);
-    return number == 0 || number == 6 || number == 7;
+    if (!case_read(name, &c) || !case_side(c.tile.width) || !case_side(c.tile.height)) return 0;
+    hookbarley_lend(&c.tile, lent(hookbarley_room(&c.tile)), &m);
+    uint32_t number = hookbarley_picture(c.bytes, c.length, c.header, &c.tile, &m, &finished, &first_reads, &token_reads);
+    *t = (struct explain_tile){c.tile.width, c.tile.height, c.tile.width, c.tile.height,
+                               m.y, m.u, m.v, m.strengths, hookbarley_lengths_of(&c.tile).strengths, 0};
+    return number == HOOKBARLEY_WHOLE || number == HOOKBARLEY_NO_MODES || number == HOOKBARLEY_NO_TOKENS;
 }
 
 /* Where an edge comes in the order of hookbarley_deblock. */
@@ -61,7 +40,8 @@ static size_t order(const struct explain_tile *t, const struct explain_touch *e)
 
 static size_t told, moved, stopped, rules[7];
 
-static void check_sample(const char *file, const struct explain_tile *t, const struct explain_sample *s, uint8_t before, uint8_t after, size_t i) {
+static void check_sample(const char *file, const struct explain_tile *t, const struct explain_sample *s, uint8_t before, uint8_t after,
+                         size_t i) {
     uint8_t now = before;
     for (int k = 0; k < s->touches; k++) {
         const struct explain_touch *e = &s->touch[k];
@@ -84,7 +64,8 @@ static void check_tile(const char *file, struct explain_tile *t) {
     uint8_t *after[3];
     struct explain_sample *s = lent(luma * sizeof *s);
     for (int p = 0; p < 3; p++) after[p] = memcpy(lent(sizes[p]), before[p], sizes[p]);
-    if (hookbarley_deblock(after[0], luma, after[1], luma / 4, after[2], luma / 4, t->strengths, t->strengths_len, t->width, t->height, (uint32_t)t->simple))
+    if (hookbarley_deblock(after[0], sizes[0], after[1], sizes[1], after[2], sizes[2], t->strengths, t->strengths_len, t->width, t->height,
+                           (uint32_t)t->simple))
         fail(file, "deblocking refuses", 0);
     for (int p = 0; p < 3; p++) {
         size_t half = p ? 2 : 1;
@@ -115,7 +96,10 @@ int main(int argc, char **argv) {
         for (t.simple = 0; t.simple < 2; t.simple++) check_tile(argv[i], &t);
         files++;
     }
-    printf("%zu tiles in both kinds: %zu samples told, the last value of each is deblocking's; %zu moves, %zu sums clipped; edge failed %zu, rough %zu, simple %zu, high variance %zu, macroblock %zu, inner %zu\n",
-           files, told, moved, stopped, rules[1], rules[2], rules[3], rules[4], rules[5], rules[6]);
+    printf("%zu tiles in both kinds: %zu samples told, the last value of each is deblocking's; %zu moves, %zu sums clipped; ", files, told,
+           moved, stopped);
+    printf("edge failed %zu, rough %zu, simple %zu", rules[HOOKBARLEY_EDGE_FAILED], rules[HOOKBARLEY_ROUGH], rules[HOOKBARLEY_SIMPLE]);
+    printf(", high variance %zu, macroblock %zu, inner %zu\n", rules[HOOKBARLEY_HIGH_VARIANCE], rules[HOOKBARLEY_MACROBLOCK_EDGE],
+           rules[HOOKBARLEY_INNER_EDGE]);
     return files ? 0 : 2;
 }

@@ -1,8 +1,7 @@
 #!/usr/bin/env bash
 # The tests from outside, through the archive: tests/outside/run.sh [ARCHIVE]. Builds the archive where it is not there
 # (`rt staticlib hookbarley`), installs what is missing (Debian packages, as root), runs on x86-64 and, by emulation, on Arm:
-# the C example on the case files, the symbols read counted again, damaged inputs between guard pages, faults that these must find, the WebP calls, explanations, the call on
-# a frame's header, the Rust wrapper's tests; and a look at the machine code of the transform's products.
+# the parts below, which README.md describes.
 # Settings: N (damaged inputs, 20000), SEED (of these; else drawn from the clock and printed).
 set -u
 cd "$(dirname "$0")/../.." || exit 1
@@ -13,6 +12,7 @@ out=target/outside
 cases=crates/replay/data
 mkdir -p $out
 . tools/outside-env.sh
+export PYTHONDONTWRITEBYTECODE=1
 failed=0
 say() { printf '%-10s %s\n' "$1" "$2"; }
 bad() { say "$1" "FAILED: $2"; failed=1; }
@@ -22,105 +22,139 @@ least() { # least PART WHAT COUNT LEAST: a part that tried fewer than it should 
 counted() { # counted LOG PATTERN: the first number in the first line of LOG that matches
     sed -n "s/$2.*/\\1/p" "$1" | head -n 1
 }
+compile() { $X86CC -std=gnu11 -O2 -Wall -Wextra -Werror -Iinclude "$@"; }
 build() { # build NAME SOURCES..
     local name=$1
     shift
-    $X86CC -std=gnu11 -O2 -Wall -Wextra -Iinclude -o "$out/$name" "$@" "$ARCHIVE"
+    compile -o "$out/$name" "$@" "$ARCHIVE"
 }
+run_test() { # run_test PART SOURCE ARGUMENTS..: builds the part's program and runs it; its output stands in PART.log
+    local part=$1 source=$2
+    shift 2
+    : >"$out/$part.log"
+    if build "$part" "$source" && $X86RUN "$out/$part" "$@" >"$out/$part.log" 2>&1; then
+        sed 's/^/           /' "$out/$part.log"
+        say "$part" "$(tail -n 1 "$out/$part.log")"
+    else
+        tail -n 5 "$out/$part.log"
+        bad "$part" "N $N, seed $SEED"
+    fi
+}
+plainly() { $X86RUN "$@"; }
+# faults PART TEST MUTANTS NUMBERS RUN..: the program TEST with each fault of MUTANTS before the archive's calls, given to the command RUN; it
+# must end with status 1 and say where it failed, and without a fault (0) with status 0.
+faults() {
+    local part=$1 test=$2 mutants=$3 numbers=$4 name=faults-$1 fault log status found=0 all=0 wraps
+    shift 4
+    wraps=$(sed -n 's/^uint32_t __wrap_\(hookbarley_[a-z_]*\)(.*;$/-Wl,--wrap=\1/p' "$mutants")
+    compile -c -o "$out/$name.o" "$test" || { bad "$part" "$test does not build"; return; }
+    for fault in 0 $numbers; do
+        log=$out/$name-$fault.log
+        # shellcheck disable=SC2086
+        build "$name" -DFAULT="$fault" $wraps "$out/$name.o" "$mutants" || { bad "$part" "fault $fault does not build"; continue; }
+        "$1" "$out/$name" "${@:2}" >"$log" 2>&1
+        status=$?
+        if [ "$fault" -eq 0 ]; then
+            [ $status -eq 0 ] || bad "$part" "the calls without a fault fail"
+            continue
+        fi
+        all=$((all + 1))
+        if [ $status -eq 1 ] && grep -q '^FAILED at' "$log"; then
+            found=$((found + 1))
+        else
+            bad "$part" "fault $fault was not found (status $status)"
+        fi
+    done
+    least "$part" "faults" $all 1
+    say "$part" "$found of $all faults found"
+}
+upto() { seq -s ' ' 1 "$1"; }
 need python3 python3 || exit 1
 echo "archive $ARCHIVE, seed $SEED, $(uname -m)"
-
-wrapped="-Wl,--wrap=hookbarley_decode,--wrap=hookbarley_deblock"
+mutants=tests/outside/mutants.c
 small="tests/outside/webp/even.webp tests/outside/webp/odd.webp"
 webps=$(echo tests/outside/webp/*.webp)
 
-# The C example: the worked tile, every case that is not beyond the case program's limits, the bench tiles.
+# The calls are one set: in the archive, the header, the crates, what is proved, and Rust.
+part_calls() {
+    local nm=${X86CC%gcc}nm line
+    need "$nm" binutils || { bad calls "no $nm"; return; }
+    if line=$(tools/calls.py "$ARCHIVE" "$nm"); then say calls "$line"; else bad calls "$line"; fi
+}
+
+# held PART SET OPTION EXPECTED LEFT-OUT..: every case of the set but those left out gives its line of EXPECTED; adds to `tried`.
+held() {
+    local part=$1 set=$2 option=$3 expected=$4 i=-1 want line file
+    shift 4
+    while read -r want; do
+        i=$((i + 1))
+        case " $* " in *" $set/$i "*) continue ;; esac
+        [ "$set/$i" = named/13 ] && want="1 0 0 0 0" # the case program refuses its side before
+        file=$(printf '%s/%s/%04d.case' $cases "$set" $i)
+        # shellcheck disable=SC2086
+        line=$($X86RUN $out/decode_case $option "$file")
+        # of a malformed file what is expected deblocked has no sums
+        [ "$line" = "$want" ] || [ "$line" = "$want 0 0 0" ] || bad "$part" "$file gives $line, should be $want"
+        tried=$((tried + 1))
+    done <"$cases/$set/$expected"
+}
+
+# The C example: the worked tile, every case that is not beyond the case program's limits (64 KiB, a side of 64), the bench tiles; then
+# deblocked, both kinds, every set: sums and hashes.
 part_example() {
-    if build decode_case examples/c/decode_case.c; then
-        line=$($X86RUN $out/decode_case $cases/named/0000.case $out/worked)
-        [ "$line" = "0 1 32960 8192 8192" ] || bad example "the worked tile gives: $line"
-        [ "$(head -c 9 $out/worked-y.pgm | tr '\n' ' ')" = "P5 16 16 " ] || bad example "no PGM picture"
-        tried=0
-        for set in named real; do
-            i=0
-            while read -r want; do
-                f=$(printf '%s/%s/%04d.case' $cases $set $i)
-                i=$((i + 1))
-                case $set/$((i - 1)) in named/14 | named/15 | named/35) continue ;; esac # over 64 KiB or a side over 64
-                if [ "$want" = "10 0 0 0 0" ] && [ $set/$((i - 1)) = named/13 ]; then want="1 0 0 0 0"; fi
-                line=$($X86RUN $out/decode_case "$f")
-                [ "$line" = "$want" ] || bad example "$f gives $line, should be $want"
-                tried=$((tried + 1))
-            done <$cases/$set/expected-m102.txt
-        done
-        while read -r name want; do
-            line=$($X86RUN $out/decode_case bench/"$name".case)
-            [ "$line" = "$want" ] || bad example "$name gives $line, should be $want"
-            tried=$((tried + 1))
-        done <<END
+    local line set kind name want tried=0 beyond="named/14 named/15 named/35"
+    build decode_case examples/c/decode_case.c || { bad example "does not build"; return; }
+    line=$($X86RUN $out/decode_case $cases/named/0000.case $out/worked)
+    [ "$line" = "0 1 32960 8192 8192" ] || bad example "the worked tile gives: $line"
+    [ "$(head -c 9 $out/worked-y.pgm | tr '\n' ' ')" = "P5 16 16 " ] || bad example "no PGM picture"
+    for set in named real; do held example $set '' expected-m102.txt $beyond; done
+    while read -r name want; do
+        line=$($X86RUN $out/decode_case bench/"$name".case)
+        [ "$line" = "$want" ] || bad example "$name gives $line, should be $want"
+        tried=$((tried + 1))
+    done <<END
 tile-q50 0 256 7864495 1869616 2222832
 tile-q75 0 256 7862718 1870044 2222860
 tile-q90 0 256 7861994 1870584 2223410
 END
-        least example "case files" $tried 87
-        [ $failed -eq 0 ] && say example "$tried case files as expected, the worked tile: 0 1 32960 8192 8192"
-        # deblocked, both kinds, every set: sums and hashes; a malformed file is 10 0
-        tried=0
-        for set in named real fuzz; do
-            for kind in d: s:-simple; do
-                i=0
-                while read -r want; do
-                    f=$(printf '%s/%s/%04d.case' $cases $set $i)
-                    i=$((i + 1))
-                    case $set/$((i - 1)) in named/13 | named/14 | named/15 | named/35) continue ;; esac # beyond the case program's limits
-                    line=$($X86RUN $out/decode_case -${kind%:*} "$f")
-                    [ "$line" = "$want" ] || [ "$line" = "$want 0 0 0" ] || bad deblocked "$f gives $line, should be $want"
-                    tried=$((tried + 1))
-                done <$cases/$set/expected-deblocked${kind#*:}-m102.txt
-            done
-        done
-        least deblocked "case files" $tried 294
-        [ $failed -eq 0 ] && say deblocked "$tried case files as expected, both kinds"
-    else
-        bad example "does not build"
-    fi
+    least example "case files" $tried 87
+    [ $failed -eq 0 ] && say example "$tried case files as expected, the worked tile: 0 1 32960 8192 8192"
+    tried=0
+    for set in named real fuzz; do
+        for kind in d: s:-simple; do held deblocked $set "-${kind%:*}" "expected-deblocked${kind#*:}-m102.txt" named/13 $beyond; done
+    done
+    least deblocked "case files" $tried 294
+    [ $failed -eq 0 ] && say deblocked "$tried case files as expected, both kinds"
 }
 
-# The symbols read: every case file and six copies of each with a partition cut, against tools/counts.py, which reads them in its own way; that
-# against what is expected; and faults that this must find.
+# The symbols read: every case file and six copies of each with a partition cut, against tests/model/counts.py, which reads them in its own
+# way; that against what is expected; and faults that this must find.
+recount() { # recount PROGRAM: its lines over the copies, the first that differs told
+    local i=0 want line
+    while read -r want; do
+        line=$($X86RUN "$1" -c "$(printf '%s/%04d.case' $out/counts $i)")
+        [ "$line" = "$want" ] || { echo "FAILED at copy $i: gives $line, should be $want"; return 1; }
+        i=$((i + 1))
+    done <$out/counts.txt
+    echo $i
+}
 part_counts() {
-    copies=$out/counts
-    recount() { # recount PROGRAM: its lines over the copies, the first that differs told
-        local i=0
-        while read -r want; do
-            line=$($X86RUN "$1" -c "$(printf '%s/%04d.case' $copies $i)")
-            [ "$line" = "$want" ] || { echo "copy $i gives $line, should be $want"; return 1; }
-            i=$((i + 1))
-        done <$out/counts.txt
-        echo $i
-    }
-    rm -rf $copies
-    mkdir $copies
-    if export PYTHONDONTWRITEBYTECODE=1 && python3 tools/counts.py $copies "$SEED" 6 $cases/*/*.case >$out/counts.txt; then
-        for set in named real fuzz; do
-            beyond= # the case program's limits
-            [ $set = named ] && beyond='14,16d;36d'
-            python3 tools/counts.py $cases/$set/*.case | sed "$beyond" | diff - <(sed "$beyond" $cases/$set/expected-counts-m102.txt) >$out/counts.diff ||
-                bad counts "tools/counts.py and what is expected of $set: $(sed -n 2p $out/counts.diff)"
-        done
-        if build counts-case examples/c/decode_case.c && told=$(recount $out/counts-case); then
-            least counts "case files" "$told" 900
-            found=0
-            for fault in 17 21 22; do
-                build counts-mutant -DFAULT=$fault $wrapped examples/c/decode_case.c tests/outside/mutants.c || { bad counts "fault $fault does not build"; continue; }
-                if recount $out/counts-mutant >$out/counts-mutant-$fault.log; then bad counts "fault $fault was not found"; else found=$((found + 1)); fi
-            done
-            say counts "$told case files read as many symbols as tools/counts.py counts; $found of 3 faults found"
-        else
-            bad counts "seed $SEED: $told"
-        fi
+    local model=tests/model/counts.py set beyond told
+    rm -rf $out/counts
+    mkdir $out/counts
+    python3 $model $out/counts "$SEED" 6 $cases/*/*.case >$out/counts.txt || { bad counts "$model"; return; }
+    for set in named real fuzz; do
+        beyond= # the case program's limits
+        [ $set = named ] && beyond='14,16d;36d'
+        python3 $model $cases/$set/*.case | sed "$beyond" | diff - <(sed "$beyond" $cases/$set/expected-counts-m102.txt) >$out/counts.diff ||
+            bad counts "$model and what is expected of $set: $(sed -n 2p $out/counts.diff)"
+    done
+    if build counts-case examples/c/decode_case.c && told=$(recount $out/counts-case); then
+        least counts "case files" "$told" 900
+        say counts "$told case files read as many symbols as $model counts"
+        faults counts examples/c/decode_case.c $mutants '17 21 22' recount
     else
-        bad counts "tools/counts.py"
+        bad counts "seed $SEED: $told"
     fi
 }
 
@@ -129,71 +163,53 @@ part_readme() {
     {
         echo '#include "hookbarley.h"'
         echo 'uint8_t *room_of(size_t);'
-        echo 'void draw(const struct hookbarley_tile *, const uint8_t *, const uint8_t *, const uint8_t *);'
+        echo 'void draw(const struct hookbarley_tile *, const struct hookbarley_memory *);'
         echo 'uint32_t show(const uint8_t *frame, size_t length);'
         echo 'uint32_t show(const uint8_t *frame, size_t length) {'
         awk '/^```c$/ {on = 1; next} /^```$/ {if (on) exit} on' README.md
         echo 'return number; }'
     } >$out/readme.c
     grep -q hookbarley_picture $out/readme.c || bad readme "it shows no call"
-    $X86CC -std=gnu11 -Wall -Wextra -Werror -Iinclude -c -o $out/readme.o $out/readme.c || bad readme "its call does not compile"
+    compile -c -o $out/readme.o $out/readme.c || bad readme "its call does not compile"
 }
 
 # Damaged inputs between guard pages.
 part_damaged() {
-    if build damaged tests/outside/damaged.c && $X86RUN $out/damaged $cases/real "$N" "$SEED" >$out/damaged.log 2>&1; then
-        sed 's/^/           /' $out/damaged.log
-        least damaged "tiles" "$(counted $out/damaged.log '^whole: \([0-9]*\) tiles')" 40
-        least damaged "cuts" "$(counted $out/damaged.log '^cut: \([0-9]*\) cuts')" 23706
-        least damaged "pairs" "$(counted $out/damaged.log '^apart: \([0-9]*\) pairs')" 720
-        least damaged "random inputs" "$(counted $out/damaged.log '^random: \([0-9]*\) inputs')" "$N"
-        say damaged "$(tail -n 1 $out/damaged.log)"
-    else
-        tail -n 5 $out/damaged.log
-        bad damaged "N $N, seed $SEED"
-    fi
+    run_test damaged tests/outside/damaged.c $cases/real "$N" "$SEED"
+    least damaged "tiles" "$(counted $out/damaged.log '^whole: \([0-9]*\) tiles')" 40
+    least damaged "cuts" "$(counted $out/damaged.log '^cut: \([0-9]*\) cuts')" 23706
+    least damaged "pairs" "$(counted $out/damaged.log '^apart: \([0-9]*\) pairs')" 720
+    least damaged "random inputs" "$(counted $out/damaged.log '^random: \([0-9]*\) inputs')" "$N"
 }
 
 # The faults that the test must find, on four small tiles of several partitions.
 part_faults() {
-    found=0
-    few=$out/few
+    local few=$out/few i=0 t what
     rm -rf $few
     mkdir $few
-    i=0
     for t in 3 10 15 26; do
         cp "$(printf '%s/real/%04d.case' $cases $t)" "$(printf '%s/%04d.case' $few $i)"
         for what in memory counts; do sed -n "$((t + 1))p" $cases/real/expected-$what-m102.txt >>$few/expected-$what-m102.txt; done
         i=$((i + 1))
     done
-    for fault in 0 1 2 3 4 5 6 7 8 9 10 11 12 13 14 15 16 17 18 19 20 23; do
-        build mutant -DFAULT=$fault $wrapped tests/outside/damaged.c tests/outside/mutants.c || { bad faults "fault $fault does not build"; continue; }
-        $X86RUN $out/mutant $few 300 1 >$out/mutant-$fault.log 2>&1
-        status=$?
-        if [ $fault -eq 0 ]; then
-            [ $status -eq 0 ] || bad faults "the calls without a fault fail"
-        elif [ $status -eq 1 ] && grep -q '^FAILED at' $out/mutant-$fault.log; then
-            found=$((found + 1))
-        else
-            bad faults "fault $fault was not found (status $status)"
-        fi
-    done
-    least faults "faults found" $found 21
-    say faults "$found of 21 found"
+    faults faults tests/outside/damaged.c $mutants "$(upto 20) 23 24 25" plainly $few 300 1
+}
+
+# NULL with length 0 in every call, and faults that look behind it.
+part_nothing() {
+    local which
+    run_test nothing tests/outside/nothing.c
+    least nothing "calls" "$(counted $out/nothing.log '^ok: \([0-9]*\) calls')" 552
+    for which in '' explain_ frame_ webp_; do faults nothing tests/outside/nothing.c tests/outside/${which}mutants.c 1 plainly; done
 }
 
 # The WebP calls between guard pages, on files of encoders and damaged ones; the faults that the test must find.
 # shellcheck disable=SC2086
 part_webp() {
-    if build webp tests/outside/webp.c && $X86RUN $out/webp "$N" "$SEED" $webps bench/*.webp >$out/webp.log 2>&1; then
-        sed 's/^/           /' $out/webp.log
-        least webp "files" "$(grep -c '^file ' $out/webp.log)" 7
-        least webp "random inputs" "$(counted $out/webp.log '^random: \([0-9]*\) inputs')" "$N"
-        say webp "$(tail -n 1 $out/webp.log)"
-    else
-        tail -n 5 $out/webp.log
-        bad webp "N $N, seed $SEED"
-    fi
+    local name want
+    run_test webp tests/outside/webp.c "$N" "$SEED" $webps bench/*.webp
+    least webp "files" "$(grep -c '^file ' $out/webp.log)" 7
+    least webp "random inputs" "$(counted $out/webp.log '^random: \([0-9]*\) inputs')" "$N"
     while read -r name want; do
         grep -q "^file tests/outside/webp/$name, .*: $want\$" $out/webp.log || bad webp "$name does not give $want"
     done <<END
@@ -202,50 +218,18 @@ odd.webp 0 20 155
 lossless.webp 19 0 0
 extended.webp 19 0 0
 END
-    found=0
-    for fault in 0 1 2 3 4 5 6 7 8 9 10 11 12 13 14; do
-        build webp-mutant -DFAULT=$fault -Wl,--wrap=hookbarley_webp_find -Wl,--wrap=hookbarley_webp_wrap tests/outside/webp.c tests/outside/webp_mutants.c || { bad webp "fault $fault does not build"; continue; }
-        $X86RUN $out/webp-mutant 2000 1 $webps >$out/webp-mutant-$fault.log 2>&1
-        status=$?
-        if [ $fault -eq 0 ]; then
-            [ $status -eq 0 ] || bad webp "the calls without a fault fail"
-        elif [ $status -eq 1 ] && grep -q '^FAILED at' $out/webp-mutant-$fault.log; then
-            found=$((found + 1))
-        else
-            bad webp "fault $fault was not found (status $status)"
-        fi
-    done
-    least webp "faults found" $found 14
-    say webp "$found of 14 faults found"
+    faults webp tests/outside/webp.c tests/outside/webp_mutants.c "$(upto 14)" plainly 2000 1 $webps
 }
 
-# Explanations between guard pages; the faults that the test must find.
+# Explanations between guard pages; the faults that the test must find; whole tiles replayed by what the program's `explain` uses: the last value
+# told of every sample is deblocking's.
 part_explain() {
-    if build explain tests/outside/explain.c && $X86RUN $out/explain "$N" "$SEED" >$out/explain.log 2>&1; then
-        sed 's/^/           /' $out/explain.log
-        least explain "edges" "$(counted $out/explain.log '^\([0-9]*\) edges told')" "$N"
-        say explain "$(tail -n 1 $out/explain.log)"
-    else
-        tail -n 5 $out/explain.log
-        bad explain "N $N, seed $SEED"
-    fi
-    found=0
-    for fault in 0 1 2 3 4 5 6 7 8 9 10; do
-        build explain-mutant -DFAULT=$fault -Wl,--wrap=hookbarley_explain tests/outside/explain.c tests/outside/explain_mutants.c || { bad explain "fault $fault does not build"; continue; }
-        $X86RUN $out/explain-mutant 2000 1 >$out/explain-mutant-$fault.log 2>&1
-        status=$?
-        if [ $fault -eq 0 ]; then
-            [ $status -eq 0 ] || bad explain "the call without a fault fails"
-        elif [ $status -eq 1 ] && grep -q '^FAILED at' $out/explain-mutant-$fault.log; then
-            found=$((found + 1))
-        else
-            bad explain "fault $fault was not found (status $status)"
-        fi
-    done
-    least explain "faults found" $found 10
-    say explain "$found of 10 faults found"
-    # whole tiles replayed by what the program's `explain` uses: the last value told of every sample is deblocking's
-    if build explain-tiles tests/outside/explain_tiles.c cli/explain.c && line=$($X86RUN $out/explain-tiles $cases/real/*.case bench/*.case 2>&1); then
+    local line
+    run_test explain tests/outside/explain.c "$N" "$SEED"
+    least explain "edges" "$(counted $out/explain.log '^\([0-9]*\) edges told')" "$N"
+    faults explain tests/outside/explain.c tests/outside/explain_mutants.c "$(upto 10)" plainly 2000 1
+    if build explain-tiles tests/outside/explain_tiles.c cli/explain.c &&
+        line=$($X86RUN $out/explain-tiles $cases/real/*.case bench/*.case 2>&1); then
         least explain "tiles" "${line%% *}" 43
         say explain "${line%%;*}"
     else
@@ -256,36 +240,17 @@ part_explain() {
 # The call on a key frame's header between guard pages, on frames of encoders and damaged ones; the faults that the test must find.
 # shellcheck disable=SC2086
 part_frame() {
-    if build frame tests/outside/frame.c && $X86RUN $out/frame "$N" "$SEED" $small bench/*.webp >$out/frame.log 2>&1; then
-        sed 's/^/           /' $out/frame.log
-        say frame "$(tail -n 1 $out/frame.log)"
-        least frame "calls" "$(counted $out/frame.log '^ok: \([0-9]*\) calls')" 55000
-    else
-        tail -n 5 $out/frame.log
-        bad frame "N $N, seed $SEED"
-    fi
-    found=0
-    for fault in 0 1 2 3 4 5 6 7 8 9 10 11 12 13 14; do
-        build frame-mutant -DFAULT=$fault -Wl,--wrap=hookbarley_frame tests/outside/frame.c tests/outside/frame_mutants.c || { bad frame "fault $fault does not build"; continue; }
-        $X86RUN $out/frame-mutant 2000 1 $small >$out/frame-mutant-$fault.log 2>&1
-        status=$?
-        if [ $fault -eq 0 ]; then
-            [ $status -eq 0 ] || bad frame "the call without a fault fails"
-        elif [ $status -eq 1 ] && grep -q '^FAILED at' $out/frame-mutant-$fault.log; then
-            found=$((found + 1))
-        else
-            bad frame "fault $fault was not found (status $status)"
-        fi
-    done
-    least frame "faults found" $found 14
-    say frame "$found of 14 faults found"
+    run_test frame tests/outside/frame.c "$N" "$SEED" $small bench/*.webp
+    least frame "calls" "$(counted $out/frame.log '^ok: \([0-9]*\) calls')" 55000
+    faults frame tests/outside/frame.c tests/outside/frame_mutants.c "$(upto 14)" plainly 2000 1 $small
 }
 
 # The Rust wrapper.
 part_rust() {
+    local passed
     if tests/outside/rust.sh "$ARCHIVE" >$out/rust.log 2>&1; then
         passed=$(grep '^test result' $out/rust.log | awk '{s += $4} END {print s + 0}')
-        least rust "tests" "$passed" 19
+        least rust "tests" "$passed" 23
         say rust "$passed tests passed"
     else
         tail -n 20 $out/rust.log
@@ -295,6 +260,7 @@ part_rust() {
 
 # The machine code of the transform's products.
 part_products() {
+    local line
     if line=$(tests/outside/products.sh "$ARCHIVE" 2>$out/products.log); then
         say products "$line"
     else
@@ -305,10 +271,10 @@ part_products() {
 
 # As many parts at a time as there are processors, the longest first; what they say is printed in the order above. A part that does not come to
 # its end leaves no status, and has not passed.
-parts="example counts readme damaged faults webp explain frame rust products"
+parts="calls example counts readme damaged faults nothing webp explain frame rust products"
 for part in $parts; do rm -f $out/part-$part.txt $out/part-$part.status; done
 running=0
-for part in frame webp damaged faults counts example explain rust products readme; do
+for part in frame webp damaged faults counts example explain rust nothing products readme calls; do
     if [ $running -ge "$(nproc)" ]; then
         wait -n
         running=$((running - 1))

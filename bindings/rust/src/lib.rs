@@ -1,16 +1,11 @@
-//! Safe calls of libhookbarley.a. The borrow rules give what the library supposes of its caller: memory that is there, and lent
-//! memory that does not overlap.
+//! Safe calls of libhookbarley.a. References give what the library supposes of its caller (include/hookbarley.h): memory that is there,
+//! aligned and written, of which nothing that is lent to be written overlaps.
 
 extern "C" {
     fn hookbarley_decode(
         bytes: *const u8, bytes_len: usize,
-        first_start: usize, first_length: usize,
-        token_starts: *const usize, token_starts_len: usize,
-        token_lengths: *const usize, token_lengths_len: usize,
-        at: usize, range: u32, shifts: u32, window: u32,
-        count: usize,
         header: *const i32, header_len: usize,
-        width: usize, height: usize,
+        tile: *const usize, tile_len: usize,
         y: *mut u8, y_len: usize,
         u: *mut u8, u_len: usize,
         v: *mut u8, v_len: usize,
@@ -39,102 +34,143 @@ extern "C" {
     fn hookbarley_webp_wrap(frame: *const u8, frame_length: usize, out: *mut u8, room: usize, written: *mut usize) -> u32;
 }
 
-/// The boolean reader in the first partition, behind the coded frame header.
-#[derive(Clone, Copy, Debug, PartialEq, Eq)]
-pub struct Reader {
-    pub at: usize,
-    pub range: u32,
-    pub shifts: u32,
-    pub window: u32,
+/// What the calls answer. include/hookbarley.h says when.
+pub mod answer {
+    pub const WHOLE: u32 = 0;
+    pub const SIZE: u32 = 1;
+    pub const COUNT: u32 = 2;
+    pub const ENTRY: u32 = 3;
+    pub const LENGTH: u32 = 4;
+    pub const PARTITION: u32 = 5;
+    pub const NO_MODES: u32 = 6;
+    pub const NO_TOKENS: u32 = 7;
+    pub const ARGUMENT: u32 = 9;
+    pub const LIMIT: u32 = 11;
+    pub const NO_KEY_FRAME: u32 = 12;
+    pub const PAST_END: u32 = 13;
+    pub const NO_HEADER: u32 = 14;
+    pub const ROOM: u32 = 16;
+    pub const MARKS: u32 = 17;
+    pub const SIZES: u32 = 18;
+    pub const KIND: u32 = 19;
 }
 
-impl Reader {
-    /// A partition opened afresh: two bytes in the window, zero past its end.
-    pub fn open(partition: &[u8]) -> Reader {
-        let byte = |i: usize| partition.get(i).map_or(0, |&b| b as u32);
-        let window = byte(0) * 256 + byte(1);
-        Reader { at: 2, range: 255, shifts: 0, window }
-    }
+/// The entries of a header.
+pub const ENTRIES: usize = 1096;
+/// The numbers of a tile.
+pub const TILE_NUMBERS: usize = 28;
+/// Token partitions, at most.
+pub const PARTITIONS: usize = 8;
+/// Column memory, for each macroblock column.
+pub const COLUMN_BYTES: usize = 4;
+/// Mode memory, for each macroblock.
+pub const MODE_BYTES: usize = 20;
+/// Strength memory, for each macroblock.
+pub const STRENGTH_BYTES: usize = 6;
+
+/// The entries of a header that are looked at. include/hookbarley.h says what each is.
+pub mod header {
+    pub const SEGMENTS: usize = 2;
+    pub const MAP: usize = 3;
+    pub const ABSOLUTE: usize = 5;
+    pub const SEGMENT_QUANTIZER: usize = 6;
+    pub const SEGMENT_LEVEL: usize = 10;
+    pub const MAP_PROBABILITY: usize = 14;
+    pub const LEVEL: usize = 18;
+    pub const SHARPNESS: usize = 19;
+    pub const DELTAS: usize = 20;
+    pub const INTRA_DELTA: usize = 22;
+    pub const SMALL_DELTA: usize = 26;
+    pub const QUANTIZER: usize = 31;
+    pub const QUANTIZER_DELTA: usize = 32;
+    pub const COEFFICIENTS: usize = 38;
+    pub const SKIPPING: usize = 1094;
+    pub const SKIP_PROBABILITY: usize = 1095;
 }
 
-/// What a picture is decoded from. Token partitions from `count` on are not looked at.
-#[derive(Clone, Copy, Debug)]
-pub struct Tile<'a> {
-    pub bytes: &'a [u8],
-    pub first_start: usize,
-    pub first_length: usize,
-    pub token_starts: [usize; 8],
-    pub token_lengths: [usize; 8],
-    pub reader: Reader,
-    pub count: usize,
-    pub header: &'a [i32],
-    pub width: usize,
-    pub height: usize,
+/// The bytes of a mode record.
+pub mod mode {
+    pub const SEGMENT: usize = 0;
+    pub const SKIP: usize = 1;
+    pub const SMALL: usize = 2;
+    /// Sixteen.
+    pub const LUMA: usize = 3;
+    pub const CHROMA: usize = 19;
 }
 
-/// A key frame's own header, as `Frame::take` takes it: what a picture is decoded from besides the frame's bytes.
-#[derive(Clone, Debug, PartialEq, Eq)]
-pub struct Frame {
+/// The bytes of a strength record.
+pub mod strength {
+    pub const LIMIT: usize = 0;
+    pub const INNER: usize = 1;
+    pub const THRESHOLD: usize = 2;
+    pub const INSIDE: usize = 3;
+    pub const SEGMENT: usize = 4;
+    pub const SMALL: usize = 5;
+}
+
+/// A key frame's tile, as the library takes it: 28 numbers.
+#[repr(C)]
+#[derive(Clone, Copy, Debug, Default, PartialEq, Eq)]
+pub struct Tile {
     /// The sides of the planes: the true sizes rounded up to 16.
     pub width: usize,
     pub height: usize,
     /// What of the planes is the picture.
     pub true_width: usize,
     pub true_height: usize,
-    /// The simple loop filter.
-    pub simple: bool,
+    /// 1: the simple loop filter, else 0.
+    pub simple: usize,
+    /// Token partitions; from there on their starts and lengths are not looked at.
     pub count: usize,
     pub first_start: usize,
     pub first_length: usize,
+    // A plain 8: with `PARTITIONS` here rustc 1.95 fails on a closure that captures a part of a tile.
     pub token_starts: [usize; 8],
     pub token_lengths: [usize; 8],
-    /// The reader behind the coded header.
+    /// The boolean reader in the first partition, behind the coded header.
     pub reader: Reader,
-    /// 1096 entries.
-    pub header: Vec<i32>,
 }
 
-impl Frame {
-    /// Takes the header of a key frame, which is all of `bytes` (RFC 6386, sections 9 and 19.2), or gives the number of the refusal: 12 no key
-    /// frame, 13 a partition past the end, 14 the header ran out. `decode` never refuses what was taken.
-    pub fn take(bytes: &[u8]) -> Result<Frame, u32> {
-        let mut header = vec![0i32; 1096];
-        let mut n = [0usize; 28];
-        // Safe: a slice, and two vectors of numbers that nothing else refers to.
-        match unsafe { hookbarley_frame(bytes.as_ptr(), bytes.len(), header.as_mut_ptr(), header.len(), n.as_mut_ptr(), n.len()) } {
-            0 => {}
-            refused => return Err(refused),
-        }
-        let eight = |from: usize| std::array::from_fn(|i| n[from + i]);
-        Ok(Frame {
-            width: n[0],
-            height: n[1],
-            true_width: n[2],
-            true_height: n[3],
-            simple: n[4] != 0,
-            count: n[5],
-            first_start: n[6],
-            first_length: n[7],
-            token_starts: eight(8),
-            token_lengths: eight(16),
-            reader: Reader { at: n[24], range: n[25] as u32, shifts: n[26] as u32, window: n[27] as u32 },
-            header,
-        })
-    }
+const _: () = assert!(std::mem::size_of::<Tile>() == TILE_NUMBERS * std::mem::size_of::<usize>());
 
-    /// The same as `decode` takes it, with the frame's bytes.
-    pub fn tile<'a>(&'a self, bytes: &'a [u8]) -> Tile<'a> {
-        Tile {
-            bytes,
-            first_start: self.first_start,
-            first_length: self.first_length,
-            token_starts: self.token_starts,
-            token_lengths: self.token_lengths,
-            reader: self.reader,
-            count: self.count,
-            header: &self.header,
-            width: self.width,
-            height: self.height,
+/// A boolean reader: the place of the next byte, range, shifts since a byte came in, window.
+#[repr(C)]
+#[derive(Clone, Copy, Debug, Default, PartialEq, Eq)]
+pub struct Reader {
+    pub at: usize,
+    pub range: usize,
+    pub shifts: usize,
+    pub window: usize,
+}
+
+impl Reader {
+    /// A partition opened afresh: two bytes in the window, zero past its end.
+    pub fn open(partition: &[u8]) -> Reader {
+        let byte = |i: usize| partition.get(i).map_or(0, |&b| b as usize);
+        Reader { at: 2, range: 255, shifts: 0, window: byte(0) * 256 + byte(1) }
+    }
+}
+
+/// What a picture is decoded from: bytes that hold the partitions, the header's entries, the tile. `Frame::take` makes it of a key frame.
+#[derive(Clone, Debug, PartialEq, Eq)]
+pub struct Frame<'a> {
+    pub bytes: &'a [u8],
+    /// `ENTRIES` of them.
+    pub header: Vec<i32>,
+    pub tile: Tile,
+}
+
+impl<'a> Frame<'a> {
+    /// Takes the header of a key frame, which is all of `bytes` (RFC 6386, sections 9 and 19.2), or gives the number of the refusal: 12 no
+    /// key frame, 13 a partition past the end, 14 the header ran out. `decode` never refuses what was taken.
+    pub fn take(bytes: &'a [u8]) -> Result<Frame<'a>, u32> {
+        let mut frame = Frame { bytes, header: vec![0; ENTRIES], tile: Tile::default() };
+        let header = &mut frame.header;
+        let tile = &mut frame.tile as *mut Tile as *mut usize;
+        // Safe: a slice, a vector, and a tile, which is so many numbers (`repr(C)`); nothing else refers to the last two.
+        match unsafe { hookbarley_frame(bytes.as_ptr(), bytes.len(), header.as_mut_ptr(), header.len(), tile, TILE_NUMBERS) } {
+            answer::WHOLE => Ok(frame),
+            refused => Err(refused),
         }
     }
 }
@@ -157,9 +193,9 @@ impl Memory {
             y: vec![fill; width * height],
             u: vec![fill; (width / 2) * (height / 2)],
             v: vec![fill; (width / 2) * (height / 2)],
-            columns: vec![fill; 4 * (width / 16)],
-            modes: vec![fill; 20 * blocks],
-            strengths: vec![fill; 6 * blocks],
+            columns: vec![fill; COLUMN_BYTES * (width / 16)],
+            modes: vec![fill; MODE_BYTES * blocks],
+            strengths: vec![fill; STRENGTH_BYTES * blocks],
         }
     }
 }
@@ -177,8 +213,8 @@ pub enum Decoded {
     NoTokens(usize),
 }
 
-/// What a picture cost: the symbols read from the first partition and from token partitions, those of a macroblock that ran out too, up to the
-/// symbol that is missing. At most `MOST` of each a macroblock, over the macroblocks finished and, where a partition ran out, one more;
+/// What a picture cost: the symbols read from the first partition and from token partitions, those of a macroblock that ran out too, up to
+/// the symbol that is missing. At most `MOST` of each a macroblock, over the macroblocks finished and, where a partition ran out, one more;
 /// none where an argument was refused.
 #[derive(Clone, Copy, Debug, PartialEq, Eq)]
 pub struct Reads {
@@ -192,25 +228,21 @@ impl Reads {
 }
 
 /// Decodes a picture into lent memory, whatever it held.
-pub fn decode(tile: &Tile, mem: &mut Memory) -> Decoded {
-    decode_counted(tile, mem).0
+pub fn decode(frame: &Frame, mem: &mut Memory) -> Decoded {
+    decode_counted(frame, mem).0
 }
 
 /// The same, with what it cost.
-pub fn decode_counted(tile: &Tile, mem: &mut Memory) -> (Decoded, Reads) {
+pub fn decode_counted(frame: &Frame, mem: &mut Memory) -> (Decoded, Reads) {
     let mut k = 0usize;
     let mut reads = Reads { first: 0, tokens: 0 };
-    // Safe: each pointer and length is of a slice, the lent ones are six different vectors, and the three numbers stand alone.
+    // Safe: each pointer and length is of a slice or of the tile's numbers, the lent ones are six different vectors, and the three numbers
+    // stand alone.
     let number = unsafe {
         hookbarley_decode(
-            tile.bytes.as_ptr(), tile.bytes.len(),
-            tile.first_start, tile.first_length,
-            tile.token_starts.as_ptr(), 8,
-            tile.token_lengths.as_ptr(), 8,
-            tile.reader.at, tile.reader.range, tile.reader.shifts, tile.reader.window,
-            tile.count,
-            tile.header.as_ptr(), tile.header.len(),
-            tile.width, tile.height,
+            frame.bytes.as_ptr(), frame.bytes.len(),
+            frame.header.as_ptr(), frame.header.len(),
+            &frame.tile as *const Tile as *const usize, TILE_NUMBERS,
             mem.y.as_mut_ptr(), mem.y.len(),
             mem.u.as_mut_ptr(), mem.u.len(),
             mem.v.as_mut_ptr(), mem.v.len(),
@@ -221,9 +253,9 @@ pub fn decode_counted(tile: &Tile, mem: &mut Memory) -> (Decoded, Reads) {
         )
     };
     let answer = match number {
-        0 => Decoded::Whole(k),
-        6 => Decoded::NoModes(k),
-        7 => Decoded::NoTokens(k),
+        answer::WHOLE => Decoded::Whole(k),
+        answer::NO_MODES => Decoded::NoModes(k),
+        answer::NO_TOKENS => Decoded::NoTokens(k),
         n => Decoded::Refused(n),
     };
     (answer, reads)
@@ -238,8 +270,9 @@ pub enum Deblocked {
     Refused(u32),
 }
 
-/// Deblocks the planes in place by the strengths that `decode` left; what it left is never refused. The simple kind touches luma only.
-pub fn deblock(mem: &mut Memory, width: usize, height: usize, simple: bool) -> Deblocked {
+/// Deblocks the planes in place by the strengths that `decode` left; what it left is never refused. Of the tile its sides and its kind of
+/// filter are looked at; the simple kind touches luma only. Other decoders filter nothing where `header::LEVEL` is 0: skip the call then.
+pub fn deblock(tile: &Tile, mem: &mut Memory) -> Deblocked {
     // Safe: each pointer and length is of a slice, and the lent ones are three different vectors.
     let number = unsafe {
         hookbarley_deblock(
@@ -247,11 +280,11 @@ pub fn deblock(mem: &mut Memory, width: usize, height: usize, simple: bool) -> D
             mem.u.as_mut_ptr(), mem.u.len(),
             mem.v.as_mut_ptr(), mem.v.len(),
             mem.strengths.as_ptr(), mem.strengths.len(),
-            width, height, simple as u32,
+            tile.width, tile.height, (tile.simple != 0) as u32,
         )
     };
     match number {
-        0 => Deblocked::Done,
+        answer::WHOLE => Deblocked::Done,
         n => Deblocked::Refused(n),
     }
 }
@@ -331,7 +364,7 @@ pub fn webp_find(bytes: &[u8]) -> Result<std::ops::Range<usize>, u32> {
     let (mut start, mut len) = (0usize, 0usize);
     // Safe: a slice, and two numbers that nothing else refers to.
     match unsafe { hookbarley_webp_find(bytes.as_ptr(), bytes.len(), &mut start, &mut len) } {
-        0 => Ok(start..start + len),
+        answer::WHOLE => Ok(start..start + len),
         n => Err(n),
     }
 }
@@ -342,7 +375,7 @@ pub fn webp_wrap(frame: &[u8], out: &mut [u8]) -> Result<usize, u32> {
     let mut written = 0usize;
     // Safe: two slices that do not overlap, and a number that nothing else refers to.
     match unsafe { hookbarley_webp_wrap(frame.as_ptr(), frame.len(), out.as_mut_ptr(), out.len(), &mut written) } {
-        0 => Ok(written),
+        answer::WHOLE => Ok(written),
         n => Err(n),
     }
 }

@@ -17,11 +17,11 @@ fn from_a_file_to_its_planes() {
     for (name, sums) in [("q50", [7864495, 1869616, 2222832]), ("q75", [7862718, 1870044, 2222860]), ("q90", [7861994, 1870584, 2223410])] {
         let bytes = frame(&format!("bench/tile-{name}.webp"));
         let f = Frame::take(&bytes).unwrap();
-        let mut mem = Memory::new(f.width, f.height, 0xA5);
-        assert_eq!(decode(&f.tile(&bytes), &mut mem), Decoded::Whole(256));
+        let mut mem = Memory::new(f.tile.width, f.tile.height, 0xA5);
+        assert_eq!(decode(&f, &mut mem), Decoded::Whole(256));
         assert_eq!([sum(&mem.y), sum(&mem.u), sum(&mem.v)], sums);
-        assert_eq!(deblock(&mut mem, f.width, f.height, f.simple), Deblocked::Done);
-        assert_eq!((f.true_width, f.true_height, f.simple, f.count), (256, 256, false, 1));
+        assert_eq!(deblock(&f.tile, &mut mem), Deblocked::Done);
+        assert_eq!((f.tile.true_width, f.tile.true_height, f.tile.simple, f.tile.count), (256, 256, 0, 1));
     }
 }
 
@@ -53,9 +53,10 @@ fn every_truncation() {
         match Frame::take(&bytes[..n]) {
             Err(number) => assert_eq!(number, if n < 10 { 12 } else { 13 }, "{n}"),
             Ok(f) => {
-                assert_eq!((f.header.clone(), f.reader, f.token_starts), (whole.header.clone(), whole.reader, whole.token_starts), "{n}");
-                let mut mem = Memory::new(f.width, f.height, 0xA5);
-                assert!(!matches!(decode(&f.tile(&bytes[..n]), &mut mem), Decoded::Refused(_)), "{n}");
+                assert_eq!(f.header, whole.header, "{n}");
+                assert_eq!((f.tile.reader, f.tile.token_starts), (whole.tile.reader, whole.tile.token_starts), "{n}");
+                let mut mem = Memory::new(f.tile.width, f.tile.height, 0xA5);
+                assert!(!matches!(decode(&f, &mut mem), Decoded::Refused(_)), "{n}");
             }
         }
     }

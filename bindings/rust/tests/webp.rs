@@ -8,7 +8,8 @@ fn file(name: &str) -> Vec<u8> {
 
 #[test]
 fn files_read_and_written_back() {
-    for name in ["tests/outside/webp/even.webp", "tests/outside/webp/odd.webp", "bench/tile-q50.webp", "bench/tile-q75.webp", "bench/tile-q90.webp"] {
+    let small = ["tests/outside/webp/even.webp", "tests/outside/webp/odd.webp"];
+    for name in small.into_iter().chain(["bench/tile-q50.webp", "bench/tile-q75.webp", "bench/tile-q90.webp"]) {
         let bytes = file(name);
         let at = webp_find(&bytes).expect(name);
         assert_eq!(at.start, 20);

@@ -1,20 +1,20 @@
 -- The calls as C sees them: a number, the macroblocks finished, the symbols read, the lent memory.
 use Prim.Native.Nat.{ℕ}
-use mathlib.Core.Bool.{Bool, true, false, not, _&&_}
+use mathlib.Core.Bool.{Bool, true, false, not}
 use mathlib.Core.List.{List}
 use lib.Dec.{eqb}
-use lib.ListN.{length, getD}
+use lib.IntN.{ℤ}
+use lib.ListN.{length}
 use Rattle.filter.specs.Kernel.{filterOf}
 use Rattle.macroblock.specs.declared.arguments.SymbolCounts.{SymbolCounts}
 use Rattle.macroblock.specs.Macroblock.{Planes}
 use Rattle.deblock.specs.Deblock as Deblock
 use Rattle.deblock.specs.Deblock.{Outcome, deblockOf}
-use Rattle.numbers.specs.Lists.{listed}
-use Rattle.tile.specs.declared.Span.{Span}
 use Rattle.lent.specs.Memory.{Memory}
-use Rattle.picture.specs.Checks.{Call}
+use Rattle.picture.specs.Checks.{Call, callOf}
 use Rattle.picture.specs.Picture.{Ended, numberOf, valuesOf, pictureOf}
 use Rattle.picture.specs.Counts.{costOf}
+use Rattle.hookbarley.specs.TileNumbers.{tileOfNumbers}
 
 -- what `hookbarley_decode` leaves: its number, k, the symbols read (M-103), the lent memory
 pub record PictureCalled : Type 0 where
@@ -31,21 +31,15 @@ toPictureCalled e reads = record { number = numberOf (e .answer); finished = val
 abbrev pub calledNumbers : (number finished first tokens : ℕ) → Memory → PictureCalled
 calledNumbers number finished first tokens mem = record { number = number; finished = finished; reads = record { first = first; tokens = tokens }; mem = mem }
 
--- the spans of the eight token partitions, from their starts and lengths
-abbrev pub spanFrom : (starts lengths : List ℕ) → ℕ → Span
-spanFrom starts lengths i = record { start = getD starts i 0; len = getD lengths i 0 }
+-- the picture call that bytes, entries and the numbers of a tile make
+abbrev pub handedCall : List ℕ → List ℤ → List ℕ → Call
+handedCall bytes header tile = callOf bytes (tileOfNumbers tile) header
 
--- the eight of them
-abbrev pub spansFrom : (starts lengths : List ℕ) → List Span
-spansFrom starts lengths = listed 8 (spanFrom starts lengths)
-
--- eight starts and eight lengths, else 9
-unfoldable pub calledOf : (starts lengths : List ℕ) → Call → Memory → PictureCalled
-calledOf starts lengths c m =
-    elim (eqb (length starts) 8 && eqb (length lengths) 8) [
-      | true ↦ toPictureCalled (pictureOf c m) (costOf c m)
-      | false ↦ calledNumbers 9 0 0 0 m
-    ]
+-- `hookbarley_decode`: 28 numbers, else 9 and nothing changed
+unfoldable pub calledOf : List ℕ → List ℤ → List ℕ → Memory → PictureCalled
+calledOf bytes header tile m =
+    let c = handedCall bytes header tile in
+    elim (eqb (length tile) 28) [ true ↦ toPictureCalled (pictureOf c m) (costOf c m) | false ↦ calledNumbers 9 0 0 0 m ]
 
 -- a flag is true where its number is not 0
 abbrev pub flagOf : ℕ → Bool

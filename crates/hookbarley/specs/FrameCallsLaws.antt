@@ -1,38 +1,41 @@
 -- What the call on a key frame's header answers, as its code finds it.
 use Prim.Native.Nat.{ℕ}
-use mathlib.Core.Path.{_≡_, refl, sym, _∙_, ap}
-use mathlib.Core.Bool.{true, false}
+use mathlib.Core.Path.{_≡_, sym, _∙_, ap}
+use mathlib.Core.Logic.{⊎-elim}
 use mathlib.Core.List.{List}
+use native.Mathlib.Omega.{arith}
 use lib.IntN.{ℤ}
-use lib.ListN.{length, getD}
+use lib.ListN.{length}
 use borrow.Author.Tests.{eq-eqb, ne-eqb}
-use Rattle.numbers.specs.Lists.{listed, build-listed, built}
-use Rattle.tile.specs.declared.Span.{Span}
-use Rattle.tile.specs.declared.Tile.{Tile}
-use Rattle.tile.specs.Partitions.{noSpan}
+use Rattle.numbers.specs.Flags.{bitOf}
+use Rattle.reader.specs.Boolean.{Bytes}
 use Rattle.frame.specs.declared.take.Answer.{Answer}
-use Rattle.frame.specs.declared.take.Taken.{Taken}
-use Rattle.frame.specs.Take.{takenOf, intoOf}
-use Rattle.frame.specs.PassesLaws.{tokens-eight}
-use Rattle.hookbarley.specs.FrameCalls.{numbersOf, FrameCalled, toFrameCalled, frameCalledOf, tileOfNumbers}
+use Rattle.frame.specs.Take.{nothingTaken, takenOf, intoOf}
+use Rattle.frame.specs.PassesLaws.{tokens-eight, taken-is-fine, taken-or-refused}
+use Rattle.hookbarley.specs.FrameCalls.{numbersOf, FrameCalled, toFrameCalled, frameCalledOf}
+use Rattle.hookbarley.specs.TileNumbers.{numbersOfTile, FieldsFit, tileOfNumbers}
+use Rattle.hookbarley.specs.TileNumbersLaws.{valid-fits, tile-back}
 
 module _ (b : List ℕ) (header : List ℤ) (tile : List ℕ) where
   pub frame-refused : (length tile ≡ 28 → ⊥) → record { number = 9; header = header; tile = tile } ≡ frameCalledOf b header tile
   unfolding frameCalledOf
   frame-refused e = rw (ne-eqb _ _ e, frameCalledOf)
 
-  pub frame-called : length tile ≡ 28 → {a : Answer} {h : List ℤ} {n l : List ℕ} → record { answer = a; header = h } ≡ intoOf b header → n ≡ numbersOf a → l ≡ n
+  pub frame-called : length tile ≡ 28 → {a : Answer} {h : List ℤ} {s : ℕ} {n l : List ℕ} → record { answer = a; header = h } ≡ intoOf b header → s ≡ bitOf (a .simple) → n ≡ numbersOfTile (a .tile) (a .shown) s → l ≡ n
       → record { number = a .number; header = h; tile = l } ≡ frameCalledOf b header tile
   unfolding frameCalledOf
-  frame-called e {a} {h} f g k =
+  frame-called e {a} {h} f q g k =
       let z : frameCalledOf b header tile ≡ toFrameCalled (intoOf b header) = rw (eq-eqb _ _ e, frameCalledOf) in
-      ap (λ (l : List ℕ). record { number = a .number; header = h; tile = l }) (k ∙ g) ∙ ap toFrameCalled f ∙ sym z
+      ap (λ (l : List ℕ). record { number = a .number; header = h; tile = l }) (k ∙ g ∙ ap (numbersOfTile (a .tile) (a .shown)) q) ∙ ap toFrameCalled f ∙ sym z
 
 -- ---- THE LAW: what the call returns, hookbarley_decode takes as the same tile
-eight-spans : (l : List Span) → length l ≡ 8 → listed 8 (λ i. getD l i noSpan) ≡ l
-eight-spans l e = sym (build-listed 8 (λ i. getD l i noSpan)) ∙ sym (built l 8 (λ i. getD l i noSpan) noSpan e (λ i h. refl))
+reader-fits : (b : List ℕ) → Bytes b → let r = takenOf b .answer .tile .reader in FieldsFit (r .range) (r .shifts) (r .window)
+unfolding nothingTaken
+reader-fits b y =
+    ⊎-elim
+    (λ e. valid-fits (taken-is-fine b y e .cut .reader))
+    (λ k. let z : FieldsFit 0 0 0 = record { range = omega arith; shifts = omega arith; window = omega arith } in rw (k .zeros) z)
+    (taken-or-refused b)
 
-pub handed-over : (b : List ℕ) → tileOfNumbers (numbersOf (takenOf b .answer)) ≡ takenOf b .answer .tile
-handed-over b =
-    let t : Tile = takenOf b .answer .tile in
-    ap (λ (l : List Span). record { first = t .first; tokens = l; reader = t .reader; count = t .count; width = t .width; height = t .height }) (eight-spans (t .tokens) (tokens-eight b))
+pub handed-over : (b : List ℕ) → Bytes b → tileOfNumbers (numbersOf (takenOf b .answer)) ≡ takenOf b .answer .tile
+handed-over b y = let a : Answer = takenOf b .answer in tile-back (a .tile) (a .shown) (bitOf (a .simple)) (tokens-eight b) (reader-fits b y)

@@ -4,5 +4,7 @@ pub mod ExplainCalls
 pub mod ExplainCallsLaws
 pub mod FrameCalls
 pub mod FrameCallsLaws
+pub mod TileNumbers
+pub mod TileNumbersLaws
 pub mod WebpCalls
 pub mod WebpCallsLaws

@@ -1,6 +1,6 @@
 // Why an edge filter moved eight samples, for C.
-use super::eight_samples;
-use super::put;
+use crate::eight::eight_samples;
+use crate::eight::put_samples;
 use filter::answers::Rule;
 use filter::explain::explain;
 ghost use mathlib.Core.Path.{_≡_};
@@ -81,7 +81,7 @@ pub extern "C" fn hookbarley_explain(
     let why = x.rule;
     let moved = x.after;
     let added = x.steps;
-    put(after, moved);
+    put_samples(after, moved);
     put_steps(steps, added);
     *rule = rule_number(why);
     *pair = pair_number(why);

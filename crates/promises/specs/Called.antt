@@ -4,7 +4,8 @@ use Prim.Native.Nat.{ℕ, _+_, _*_, _/_, _≤_, _<_}
 use mathlib.Core.Path.{_≡_}
 use mathlib.Core.Logic.{_⊎_}
 use mathlib.Core.List.{List}
-use lib.ListN.{length}
+use lib.IntN.{ℤ}
+use lib.ListN.{length, getD}
 use Rattle.reader.specs.declared.boolean.Reader.{Reader}
 use Rattle.reader.specs.Boolean.{Bytes, given, missing}
 use Rattle.modes.specs.Modes.{Macroblock}
@@ -14,6 +15,7 @@ use Rattle.lent.specs.Records.{modeWidth, strengthWidth}
 use Rattle.picture.specs.Checks.{Call, Bounded, Lengths}
 use Rattle.picture.specs.Picture.{State, picturedOf, begunOf, pictureOf}
 use Rattle.picture.specs.Counts.{costOf}
+use Rattle.hookbarley.specs.TileNumbers.{FieldsFit}
 use Rattle.hookbarley.specs.Calls.{PictureCalled, calledNumbers, calledOf}
 use Rattle.promises.specs.Refusals.{Fine}
 use Rattle.promises.specs.Reached.{Reached, modesAsked, tokensAsked}
@@ -22,33 +24,31 @@ use Rattle.promises.specs.Places.{Plane, planeSide, sampleOf, modeByte, 
 use Rattle.promises.specs.Grey.{done, FinishedOrGrey}
 use Rattle.promises.specs.Isolation.{SameTokens}
 
--- eight starts and eight lengths
-pub record EightEach (starts lengths : List ℕ) : Type 0 where
-  pub first : length starts ≡ 8
-  pub second : length lengths ≡ 8
-
--- DEMAND 1, every way in which the call ends: its number, the macroblocks finished, the symbols read, the memory
-pub record CalledEnds (starts lengths : List ℕ) (c : Call) (m : Memory) : Type 0 where
-  -- 9: not eight starts and eight lengths
-  pub nine : (EightEach starts lengths → ⊥) → calledOf starts lengths c m ≡ calledNumbers 9 0 0 0 m
+-- DEMAND 1, every way in which the call ends: its number, the macroblocks finished, the symbols read, the memory. `c` is the picture call that
+-- the numbers of the tile make
+pub record CalledEnds (bytes : List ℕ) (header : List ℤ) (tile : List ℕ) (c : Call) (m : Memory) : Type 0 where
+  -- 9: not 28 numbers
+  pub nine : (length tile ≡ 28 → ⊥) → calledOf bytes header tile m ≡ calledNumbers 9 0 0 0 m
   -- 1 to 5: the first check that fails; none finished, no symbol read, and nothing changed
-  pub one : EightEach starts lengths → (Sides (c .tile .width) (c .tile .height) → ⊥) → calledOf starts lengths c m ≡ calledNumbers 1 0 0 0 m
-  pub two : EightEach starts lengths → Sides (c .tile .width) (c .tile .height) → (Counted (c .tile .count) → ⊥) → calledOf starts lengths c m ≡ calledNumbers 2 0 0 0 m
-  pub three : EightEach starts lengths → Sides (c .tile .width) (c .tile .height) → Counted (c .tile .count) → (Bounded (c .header) → ⊥) → calledOf starts lengths c m ≡ calledNumbers 3 0 0 0 m
-  pub four : EightEach starts lengths → Sides (c .tile .width) (c .tile .height) → Counted (c .tile .count) → Bounded (c .header) → (Lengths c (sizesOf m) → ⊥) → calledOf starts lengths c m ≡ calledNumbers 4 0 0 0 m
-  pub five : EightEach starts lengths → Sides (c .tile .width) (c .tile .height) → Counted (c .tile .count) → Bounded (c .header) → Lengths c (sizesOf m) → (Cut (c .bytes) (c .tile) → ⊥)
-      → calledOf starts lengths c m ≡ calledNumbers 5 0 0 0 m
+  pub one : length tile ≡ 28 → (Sides (c .tile .width) (c .tile .height) → ⊥) → calledOf bytes header tile m ≡ calledNumbers 1 0 0 0 m
+  pub two : length tile ≡ 28 → Sides (c .tile .width) (c .tile .height) → (Counted (c .tile .count) → ⊥) → calledOf bytes header tile m ≡ calledNumbers 2 0 0 0 m
+  pub three : length tile ≡ 28 → Sides (c .tile .width) (c .tile .height) → Counted (c .tile .count) → (Bounded (c .header) → ⊥) → calledOf bytes header tile m ≡ calledNumbers 3 0 0 0 m
+  pub four : length tile ≡ 28 → Sides (c .tile .width) (c .tile .height) → Counted (c .tile .count) → Bounded (c .header) → (Lengths c (sizesOf m) → ⊥) → calledOf bytes header tile m ≡ calledNumbers 4 0 0 0 m
+  pub five : length tile ≡ 28 → Sides (c .tile .width) (c .tile .height) → Counted (c .tile .count) → Bounded (c .header) → Lengths c (sizesOf m) → (Cut (c .bytes) (c .tile) → ⊥)
+      → calledOf bytes header tile m ≡ calledNumbers 5 0 0 0 m
+  -- check 5 passes only where the reader's range, shifts and window fit their fields: a number too large is a bad starting reader
+  pub fields : Cut (c .bytes) (c .tile) → FieldsFit (getD tile 25 0) (getD tile 26 0) (getD tile 27 0)
   -- 0, 6 or 7 where none fails, and each where it must be: all are finished; the modes of macroblock k ask for what the first partition lacks; its
   -- modes are there, and its tokens ask for what its token partition lacks. Memory is as the last one that is finished left it
-  pub ends : EightEach starts lengths → Fine c m → (calledOf starts lengths c m .number ≡ 0) ⊎ (calledOf starts lengths c m .number ≡ 6) ⊎ (calledOf starts lengths c m .number ≡ 7)
-  pub whole : EightEach starts lengths → Fine c m → {S : State} → Reached (picturedOf c) (begunOf c m) (macroblocks c) S → calledOf starts lengths c m ≡ calledNumbers 0 (macroblocks c) (costOf c m .first) (costOf c m .tokens) (S .mem)
-  pub modes : EightEach starts lengths → Fine c m → {k : ℕ} {S : State} → k < macroblocks c → Reached (picturedOf c) (begunOf c m) k S → modesAsked (picturedOf c) k S ≡ missing
-      → calledOf starts lengths c m ≡ calledNumbers 6 k (costOf c m .first) (costOf c m .tokens) (S .mem)
-  pub tokens : EightEach starts lengths → Fine c m → {k : ℕ} {S : State} {x : Macroblock} {r : Reader} → k < macroblocks c → Reached (picturedOf c) (begunOf c m) k S
-      → modesAsked (picturedOf c) k S ≡ given x r → tokensAsked (picturedOf c) k S x ≡ missing → calledOf starts lengths c m ≡ calledNumbers 7 k (costOf c m .first) (costOf c m .tokens) (S .mem)
+  pub ends : length tile ≡ 28 → Fine c m → (calledOf bytes header tile m .number ≡ 0) ⊎ (calledOf bytes header tile m .number ≡ 6) ⊎ (calledOf bytes header tile m .number ≡ 7)
+  pub whole : length tile ≡ 28 → Fine c m → {S : State} → Reached (picturedOf c) (begunOf c m) (macroblocks c) S → calledOf bytes header tile m ≡ calledNumbers 0 (macroblocks c) (costOf c m .first) (costOf c m .tokens) (S .mem)
+  pub modes : length tile ≡ 28 → Fine c m → {k : ℕ} {S : State} → k < macroblocks c → Reached (picturedOf c) (begunOf c m) k S → modesAsked (picturedOf c) k S ≡ missing
+      → calledOf bytes header tile m ≡ calledNumbers 6 k (costOf c m .first) (costOf c m .tokens) (S .mem)
+  pub tokens : length tile ≡ 28 → Fine c m → {k : ℕ} {S : State} {x : Macroblock} {r : Reader} → k < macroblocks c → Reached (picturedOf c) (begunOf c m) k S
+      → modesAsked (picturedOf c) k S ≡ given x r → tokensAsked (picturedOf c) k S x ≡ missing → calledOf bytes header tile m ≡ calledNumbers 7 k (costOf c m .first) (costOf c m .tokens) (S .mem)
   -- what it finished and what it left is the picture call's, of which `FinishedOrGrey` tells every sample and byte
-  pub finished : EightEach starts lengths → calledOf starts lengths c m .finished ≡ done c m
-  pub memory : EightEach starts lengths → calledOf starts lengths c m .mem ≡ pictureOf c m .mem
+  pub finished : length tile ≡ 28 → calledOf bytes header tile m .finished ≡ done c m
+  pub memory : length tile ≡ 28 → calledOf bytes header tile m .mem ≡ pictureOf c m .mem
   pub grey : Bytes (c .bytes) → Fine c m → FinishedOrGrey c m
 
 -- DEMAND 3, of what two calls leave for tiles alike in all but the bytes of token partition p, `wide` macroblocks to a row: a field for each sentence

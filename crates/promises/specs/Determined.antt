@@ -59,7 +59,7 @@ use Rattle.picture.specs.Checks.{callOf}
 use Rattle.lent.specs.Memory.{memoryOf, filled, blankOf}
 use Rattle.casefile.specs.Run.{ranOf}
 use Rattle.deblock.specs.Deblock.{deblockOf}
-use Rattle.hookbarley.specs.Calls.{spansFrom, calledOf, deblockCalledOf, filteredOf}
+use Rattle.hookbarley.specs.Calls.{calledOf, deblockCalledOf, filteredOf}
 use Rattle.hookbarley.specs.ExplainCalls.{explainCalledOf}
 use Rattle.picture.specs.declared.rows.Decoded.{Decoded}
 use Rattle.picture.specs.Picture.{numberOf, pictureOf, valuesOf}
@@ -499,26 +499,15 @@ pub webp-wrap : (frame out : List ℕ) → One (λ o. o ≡ wrapOf frame out)
 webp-wrap frame out = determined (wrapOf frame out)
 
 -- ---- hookbarley
--- hookbarley::hookbarley_decode
-pub hookbarley-decode : (bytes : List ℕ) (start len : ℕ) (starts lengths : List ℕ) (at range shifts window count : ℕ) (header : List ℤ) (width height : ℕ)
-    (y u v columns modes strengths : List ℕ)
-    → One (λ o. o ≡ calledOf starts lengths
-    (callOf bytes (record {
-      first = record { start = start; len = len };
-      tokens = spansFrom starts lengths;
-      reader = record { at = at; range = range; shifts = shifts; window = window };
-      count = count;
-      width = width;
-      height = height;
-    }) header)
-    (memoryOf y u v columns modes strengths))
-hookbarley-decode bytes start len starts lengths at range shifts window count header width height y u v columns modes strengths = determined (calledOf _ _ _ _)
+-- hookbarley::decoding::hookbarley_decode
+pub hookbarley-decode : (bytes : List ℕ) (header : List ℤ) (tile y u v columns modes strengths : List ℕ) → One (λ o. o ≡ calledOf bytes header tile (memoryOf y u v columns modes strengths))
+hookbarley-decode bytes header tile y u v columns modes strengths = determined (calledOf bytes header tile (memoryOf y u v columns modes strengths))
 
 -- hookbarley::deblocking::hookbarley_deblock
 pub hookbarley-deblock : (y u v strengths : List ℕ) (width height simple : ℕ) → One (λ o. o ≡ deblockCalledOf (planesOf y u v) strengths width height simple)
 hookbarley-deblock y u v strengths width height simple = determined (deblockCalledOf (planesOf y u v) strengths width height simple)
 
--- hookbarley::hookbarley_filter
+-- hookbarley::filtering::hookbarley_filter
 pub hookbarley-filter : (samples : List ℕ) (simple edge limit inner threshold : ℕ) → One (λ o. o ≡ filteredOf samples simple edge limit inner threshold)
 hookbarley-filter samples simple edge limit inner threshold = determined (filteredOf samples simple edge limit inner threshold)
 
@@ -528,7 +517,7 @@ pub hookbarley-explain : (samples : List ℕ) (simple edge limit inner threshold
 hookbarley-explain samples simple edge limit inner threshold after steps =
     determined (explainCalledOf samples simple edge limit inner threshold after steps)
 
--- hookbarley::key_frame::hookbarley_frame
+-- hookbarley::frame_header::hookbarley_frame
 pub hookbarley-frame : (bytes : List ℕ) (header : List ℤ) (tile : List ℕ) → One (λ o. o ≡ frameCalledOf bytes header tile)
 hookbarley-frame bytes header tile = determined (frameCalledOf bytes header tile)
 

@@ -242,7 +242,7 @@ pub record Numbers : Type 0 where
   pub webp-find : (s : List ℕ) → FindNumbers s
   pub webp-wrap : (frame out : List ℕ) → WrapNumbers frame out
   -- ---- hookbarley: the calls from C, whose number is what they return. `hookbarley_decode` is in Called
-  -- hookbarley::hookbarley_filter: 9 where there are not eight samples
+  -- hookbarley::filtering::hookbarley_filter: 9 where there are not eight samples
   pub c-filter : (e : List ℕ) (simple edge limit inner threshold : ℕ)
       → let c = filteredOf e simple edge limit inner threshold in
       Checked 9 (eqb (length e) 8) (c .number) (c .samples) e (filterOf e (flagOf simple) (flagOf edge) limit inner threshold)
@@ -252,7 +252,7 @@ pub record Numbers : Type 0 where
       let x = explainOf e (flagOf simple) (flagOf edge) limit inner threshold in
       Checked {X = (ℕ × ℕ) × List ℕ × List ℤ} 9 (eqb (length e) 8 && eqb (length after) 8 && eqb (length steps) 8) (c .number) ((c .rule, c .pair), c .after, c .steps)
       ((0, 0), after, steps) ((ruleNumberOf (x .rule), pairNumberOf (x .rule)), x .after, x .steps)
-  -- hookbarley::key_frame::hookbarley_frame: 9 and nothing changed where there are not 28 numbers, else the number of `take_into`
+  -- hookbarley::frame_header::hookbarley_frame: 9 and nothing changed where there are not 28 numbers, else the number of `take_into`
   pub c-frame-room : (b : List ℕ) (header : List ℤ) (tile : List ℕ) → eqb (length tile) 28 ≡ false
       → frameCalledOf b header tile ≡ record { number = 9; header = header; tile = tile }
   pub c-frame : (b : List ℕ) (header : List ℤ) (tile : List ℕ) → eqb (length tile) 28 ≡ true

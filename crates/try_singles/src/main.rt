@@ -1,6 +1,6 @@
 // Decodes single macroblocks and prints what each gives: the answer's number, the sums of the three planes, the strengths, the
 // modes, what is left for the macroblocks around it, and where the readers stand. Standard input is a header and a list of cases;
-// tools/singles.py, which also made the expected lines, says how.
+// tests/model/singles.py, which also made the expected lines, says how.
 use coefficients::block::probabilities;
 use filter::strengths::Strength;
 use header::entries::ENTRY_COUNT;

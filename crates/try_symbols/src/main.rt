@@ -1,6 +1,6 @@
 // Runs the reader on a list of byte strings and prints what each gives: bits, or the leaf of a tree, or a number, and the reader
 // after it. `m` is a missing byte, 9 a refusal. The list is standard input, 64 bytes a case
-// (tools/symbols.py, which also made the expected lines, says how).
+// (tests/model/symbols.py, which also made the expected lines, says how).
 use reader::boolean::Reader;
 use reader::boolean::Symbol;
 use reader::boolean::open;

@@ -17,7 +17,7 @@ returns-4 c =
     let p = c .before .before .before .before .before .before .before in
     let x = p .before .before .before .before in
     explain-called _ _ _ _ _ _ _ _ (search needs) (search needs) (search needs) (x .before .before .eight-samples .ensures) (x .explain .ensures)
-    (c .before .rule-number .ensures) (c .pair-number .ensures) (p .put .ensures) (c .before .before .before .put-steps .ensures)
+    (c .before .rule-number .ensures) (c .pair-number .ensures) (p .put-samples .ensures) (c .before .before .before .put-steps .ensures)
 
 pub hookbarley-explain-spec : {M : Type 1} → statement M
 hookbarley-explain-spec =

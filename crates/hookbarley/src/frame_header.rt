@@ -1,0 +1,31 @@
+// The call on a key frame's own header.
+use crate::tile_numbers::TILE_NUMBERS;
+use crate::tile_numbers::numbers;
+use crate::tile_numbers::put_numbers;
+use frame::into::take_into;
+ghost use mathlib.Core.Path.{_≡_};
+ghost use Rattle.numbers.specs.Flags.{bitOf};
+ghost use Rattle.hookbarley.specs.FrameCalls.{FrameCalled, frameCalledOf};
+
+fn flag(on: bool) -> usize
+    ensures { λ r. ⌜ r ≡ bitOf on ⌝ }
+{
+    if on { 1 } else { 0 }
+}
+
+// Takes a key frame's own header: the entries into `header`, what else the picture call takes into `tile`, 28 numbers (else 9). After a
+// refusal those are zero, and the entries as they were.
+#[no_mangle]
+pub extern "C" fn hookbarley_frame(bytes: &[u8], header: &mut [i32], tile: &mut [usize]) -> u32
+    ensures { λ r. ⌜ _≡_ {A = FrameCalled} (record { number = r; header = now (header .exit); tile = now (tile .exit) })
+        (frameCalledOf (now (bytes .entry)) (now (header .entry)) (now (tile .entry))) ⌝ }
+{
+    if tile.len() != TILE_NUMBERS {
+        return 9;
+    }
+    let a = take_into(bytes, header);
+    let taken = a.tile;
+    let shown = a.shown;
+    put_numbers(tile, numbers(taken, shown, flag(a.simple)));
+    a.number
+}

@@ -1,0 +1,101 @@
+/* NULL with length 0 for each slice of each call, alone and with every set of the others: the answer is the one that include/hookbarley.h
+ * gives, and nothing behind NULL is touched. The compiler checks that the places of a tile's numbers are those of its struct. */
+#include "guard.h"
+
+#define AT(member, place) _Static_assert(offsetof(struct hookbarley_tile, member) == (place) * sizeof(size_t), #member)
+AT(width, HOOKBARLEY_TILE_WIDTH);
+AT(height, HOOKBARLEY_TILE_HEIGHT);
+AT(true_width, HOOKBARLEY_TILE_TRUE_WIDTH);
+AT(true_height, HOOKBARLEY_TILE_TRUE_HEIGHT);
+AT(simple, HOOKBARLEY_TILE_SIMPLE);
+AT(count, HOOKBARLEY_TILE_COUNT);
+AT(first_start, HOOKBARLEY_TILE_FIRST_START);
+AT(first_length, HOOKBARLEY_TILE_FIRST_LENGTH);
+AT(token_starts, HOOKBARLEY_TILE_TOKEN_STARTS);
+AT(token_lengths, HOOKBARLEY_TILE_TOKEN_LENGTHS);
+AT(at, HOOKBARLEY_TILE_AT);
+AT(range, HOOKBARLEY_TILE_RANGE);
+AT(shifts, HOOKBARLEY_TILE_SHIFTS);
+AT(window, HOOKBARLEY_TILE_WINDOW);
+_Static_assert(sizeof(struct hookbarley_tile) == HOOKBARLEY_TILE_NUMBERS * sizeof(size_t), "a tile is its numbers");
+
+/* One macroblock and its partitions, which have no bytes. */
+static const struct hookbarley_tile tile = {.width = 16, .height = 16, .count = 1, .at = 2, .range = 255};
+static int32_t header[HOOKBARLEY_ENTRIES];
+static uint8_t bytes[64], room[1024];
+static size_t calls;
+
+/* The i-th slice of a call is left out where bit i of `out` is set. */
+#define GIVEN(i, from, count) (out >> (i) & 1 ? NULL : (from)), (out >> (i) & 1 ? 0 : (count))
+
+static void must_be(uint32_t got, uint32_t want) {
+    if (got != want) fail("answer %u, should be %u", got, want);
+    calls++;
+}
+
+static void decoding(unsigned out) {
+    struct hookbarley_lengths n = hookbarley_lengths_of(&tile);
+    struct hookbarley_memory m;
+    size_t finished;
+    uint64_t first_reads, token_reads;
+    trying("decode without %#x", out);
+    memset(room, 0xA5, sizeof room);
+    hookbarley_lend(&tile, room, &m);
+    uint32_t want = out & 4 ? HOOKBARLEY_ARGUMENT : out & ~1u ? HOOKBARLEY_LENGTH : HOOKBARLEY_NO_MODES;
+    must_be(hookbarley_decode(GIVEN(0, bytes, sizeof bytes), GIVEN(1, header, HOOKBARLEY_ENTRIES),
+                              GIVEN(2, (const size_t *)&tile, HOOKBARLEY_TILE_NUMBERS), GIVEN(3, m.y, n.y), GIVEN(4, m.u, n.u),
+                              GIVEN(5, m.v, n.v), GIVEN(6, m.columns, n.columns), GIVEN(7, m.modes, n.modes),
+                              GIVEN(8, m.strengths, n.strengths), &finished, &first_reads, &token_reads), want);
+    if (finished || first_reads || token_reads) fail("something was read");
+    if (!all(room, n.y + n.u + n.v, want == HOOKBARLEY_NO_MODES ? 128 : 0xA5)) fail("other planes");
+}
+
+static void deblocking(unsigned out) {
+    struct hookbarley_lengths n = hookbarley_lengths_of(&tile);
+    struct hookbarley_memory m;
+    trying("deblock without %#x", out);
+    hookbarley_lend(&tile, memset(room, 0, sizeof room), &m);
+    must_be(hookbarley_deblock(GIVEN(0, m.y, n.y), GIVEN(1, m.u, n.u), GIVEN(2, m.v, n.v), GIVEN(3, m.strengths, n.strengths), 16, 16, 0),
+            out ? HOOKBARLEY_LENGTH : HOOKBARLEY_WHOLE);
+}
+
+static void taking(unsigned out) {
+    struct hookbarley_tile taken;
+    int32_t entries[HOOKBARLEY_ENTRIES];
+    trying("frame without %#x", out);
+    must_be(hookbarley_frame(GIVEN(0, bytes, sizeof bytes), GIVEN(1, entries, HOOKBARLEY_ENTRIES),
+                             GIVEN(2, (size_t *)&taken, HOOKBARLEY_TILE_NUMBERS)), out & 6 ? HOOKBARLEY_ARGUMENT : HOOKBARLEY_NO_KEY_FRAME);
+}
+
+static void explaining(unsigned out) {
+    uint8_t samples[8] = {0}, after[8];
+    int32_t steps[8];
+    uint32_t rule, pair;
+    trying("explain without %#x", out);
+    must_be(hookbarley_explain(GIVEN(0, samples, 8), 0, 0, 0, 0, 0, GIVEN(1, after, 8), GIVEN(2, steps, 8), &rule, &pair),
+            out ? HOOKBARLEY_ARGUMENT : HOOKBARLEY_WHOLE);
+}
+
+static void wrapping(unsigned out) {
+    size_t start, length, written;
+    trying("wrap without %#x", out);
+    must_be(hookbarley_webp_wrap(GIVEN(0, bytes, 1), GIVEN(1, room, sizeof room), &written), out & 2 ? HOOKBARLEY_ROOM : HOOKBARLEY_WHOLE);
+    if (out & 2) return;
+    must_be(hookbarley_webp_find(room, written, &start, &length), HOOKBARLEY_WHOLE);
+    if (start != 20 || length != !(out & 1)) fail("a frame of %zu bytes was written", length);
+}
+
+int main(void) {
+    size_t start, length;
+    begin("0", NULL, 0);
+    for (unsigned out = 0; out < 512; out++) decoding(out);
+    for (unsigned out = 0; out < 16; out++) deblocking(out);
+    for (unsigned out = 0; out < 8; out++) taking(out);
+    for (unsigned out = 0; out < 8; out++) explaining(out);
+    for (unsigned out = 0; out < 4; out++) wrapping(out);
+    trying("find and filter");
+    must_be(hookbarley_webp_find(NULL, 0, &start, &length), HOOKBARLEY_MARKS);
+    must_be(hookbarley_filter(NULL, 0, 0, 0, 0, 0, 0), HOOKBARLEY_ARGUMENT);
+    printf("ok: %zu calls with NULL for every set of slices\n", calls);
+    return 0;
+}
