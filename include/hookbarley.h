@@ -159,12 +159,47 @@ uint32_t hookbarley_decode(const uint8_t *bytes, size_t bytes_len,
                            uint8_t *strengths, size_t strengths_len,
                            size_t *finished, uint64_t *first_reads, uint64_t *token_reads);
 
-/* Deblocks a picture in place (RFC 6386, section 15): macroblocks in raster order, in each the left edge unless column 0, inner vertical
- * edges, the top edge unless row 0, inner horizontal edges. What hookbarley_decode left is never refused. Checks are made in this
- * order, and after a refusal nothing has changed: 1 width or height, 4 a length, 11 a limit above 189 in any record. After a decoding
- * that stopped (6, 7) no sample of an unfinished macroblock moves: grey stays grey.
+/* What a macroblock of hookbarley_rescue is made of. */
+enum hookbarley_mark {
+    HOOKBARLEY_MARK_WHOLE = 0, /* modes and tokens: hookbarley_decode finishes it too */
+    HOOKBARLEY_MARK_MODES = 1, /* modes alone: it is predicted, nothing is added */
+    HOOKBARLEY_MARK_GREY = 2   /* neither: 128 */
+};
+
+/* Decodes one picture and rescues what a cut one still tells. As hookbarley_decode, but where a token partition runs out in a macroblock,
+ * this one and all later ones are rebuilt from their modes, as if they had no coefficients; token partitions are not looked at any more.
+ * Where the first partition runs out, the rest is grey as after 6. So the answer is never 6 or 7: it is 0 or a refusal.
  *
- * y, u, v          lent: as hookbarley_decode left them
+ * The checks are those of hookbarley_decode, in its order; 4 covers the marks too. After 9 and 1 to 5 nothing lent has changed, marks
+ * included, and *kept is 0. After 0 the macroblocks marked 0 have the samples, modes and strengths of hookbarley_decode; where that does
+ * not answer 7, all memory is as it leaves it. Those marked 1 have their modes, and strengths that filter inside only where modes are
+ * small. Those marked 2 have samples of 128, modes and strengths of 0. hookbarley_deblock never refuses what is left, and grey stays grey.
+ * What the lent memory and the marks held before never matters.
+ *
+ * bytes .. tile    as of hookbarley_decode
+ * y .. strengths   lent: as of hookbarley_decode; columns are left as after the last macroblock that is not grey, where those marked 1
+ *                  have set all nine flags to 0
+ * marks            lent: a byte a macroblock, enum hookbarley_mark. First stand those marked 0, then those marked 1, then those marked 2
+ * kept             the macroblocks marked 0 or 1
+ */
+uint32_t hookbarley_rescue(const uint8_t *bytes, size_t bytes_len,
+                           const int32_t *header, size_t header_len,
+                           const size_t *tile, size_t tile_len,
+                           uint8_t *y, size_t y_len,
+                           uint8_t *u, size_t u_len,
+                           uint8_t *v, size_t v_len,
+                           uint8_t *columns, size_t columns_len,
+                           uint8_t *modes, size_t modes_len,
+                           uint8_t *strengths, size_t strengths_len,
+                           uint8_t *marks, size_t marks_len,
+                           size_t *kept);
+
+/* Deblocks a picture in place (RFC 6386, section 15): macroblocks in raster order, in each the left edge unless column 0, inner vertical
+ * edges, the top edge unless row 0, inner horizontal edges. What hookbarley_decode or hookbarley_rescue left is never refused. Checks
+ * are made in this order, and after a refusal nothing has changed: 1 width or height, 4 a length, 11 a limit above 189 in any record. After
+ * a decoding that stopped (6, 7) no sample of an unfinished macroblock moves: grey stays grey.
+ *
+ * y, u, v          lent: as hookbarley_decode or hookbarley_rescue left them
  * strengths        HOOKBARLEY_STRENGTH_BYTES a macroblock: segment and small are not looked at. Only read
  * width, height    in samples, multiples of 16
  * simple           not 0: the simple filter, which touches luma only. The frame header's filter_type says which
@@ -300,6 +335,16 @@ static inline uint32_t hookbarley_picture(const uint8_t *frame, size_t length, c
     return hookbarley_decode(frame, length, header, HOOKBARLEY_ENTRIES, (const size_t *)t, HOOKBARLEY_TILE_NUMBERS,
                              m->y, n.y, m->u, n.u, m->v, n.v, m->columns, n.columns, m->modes, n.modes, m->strengths, n.strengths,
                              finished, first_reads, token_reads);
+}
+
+/* hookbarley_rescue of what was taken; the marks are a byte a macroblock, hookbarley_blocks of them. */
+static inline uint32_t hookbarley_rescue_picture(const uint8_t *frame, size_t length, const int32_t *header,
+                                                 const struct hookbarley_tile *t, const struct hookbarley_memory *m,
+                                                 uint8_t *marks, size_t *kept) {
+    struct hookbarley_lengths n = hookbarley_lengths_of(t);
+    return hookbarley_rescue(frame, length, header, HOOKBARLEY_ENTRIES, (const size_t *)t, HOOKBARLEY_TILE_NUMBERS,
+                             m->y, n.y, m->u, n.u, m->v, n.v, m->columns, n.columns, m->modes, n.modes, m->strengths, n.strengths,
+                             marks, hookbarley_blocks(t), kept);
 }
 
 /* hookbarley_deblock of what was decoded. */

@@ -31,10 +31,11 @@ CHAPTERS = [
      ["filter/Strengths", "filter/Kernel", "filter/Straight", "filter/Rfc15", "filter/Source", "filter/Explain", "filter/Moves", "deblock/Deblock", "deblock/Moves"]),
     ("Lent memory", "", ["lent/Records", "lent/Sizes", "lent/Memory"]),
     ("One macroblock, all of them, the call", "section 2", ["macroblock/Macroblock", "macroblock/Source", "picture/Checks", "picture/Picture"]),
+    ("What a cut tile still tells", "request M-108", ["macroblock/Rebuilt", "picture/Halt", "rescue/Rescue"]),
     ("The WebP file", "RFC 9649", ["webp/Webp", "webp/Worked"]),
     ("Case files", "", ["casefile/CaseFile", "casefile/Measures", "casefile/Run"]),
     ("The calls as C sees them", "",
-     ["hookbarley/TileNumbers", "hookbarley/Calls", "hookbarley/ExplainCalls", "hookbarley/FrameCalls", "hookbarley/WebpCalls"]),
+     ["hookbarley/TileNumbers", "hookbarley/Calls", "hookbarley/ExplainCalls", "hookbarley/FrameCalls", "hookbarley/WebpCalls", "hookbarley/RescueCalls"]),
 ]
 
 # ---- the page of notation: forms of the language, then the kit's names by module

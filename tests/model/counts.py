@@ -11,7 +11,7 @@ counts one; where one is missing the picture ends.
 import random
 import sys
 
-from singles import BANDS, CODES, RFC, SMALL, TABLE, TREE
+from singles import BANDS, CODES, RFC, SMALL, TABLE, TREE, Macroblock, kind_and_first
 
 
 class Missing(Exception):
@@ -60,20 +60,20 @@ SUBBLOCK = [(SMALL.index(name), path) for name, path in CODES.items()]
 
 
 def modes(first, h, above, beside):
-    """Whether it is small and skipped; the modes above and to the left become its own."""
-    if h[3]:
-        first.code(SEGMENT, [x % 256 for x in h[14:17]])
-    skip = h[1094] and first.symbol(h[1095] % 256)
+    """The macroblock, without its numbers yet; the modes above and to the left become its own."""
+    segment = first.code(SEGMENT, [x % 256 for x in h[14:17]]) if h[3] else 0
+    skip = first.symbol(h[1095] % 256) if h[1094] else 0
     mode = first.code(LARGE, (145, 156, 163, 128))
+    luma = [] if mode is None else [mode]
     for i in range(16):
         if mode is None:
             at = 90 * RFC.index(SMALL[above[i % 4]]) + 9 * RFC.index(SMALL[beside[i // 4]])
             m = first.code(SUBBLOCK, TABLE[at:at + 9])
+            luma.append(m)
         else:
             m = mode
         above[i % 4] = beside[i // 4] = m
-    first.code(CHROMA, (142, 114, 183))
-    return mode is None, skip
+    return Macroblock(segment, skip, luma, first.code(CHROMA, (142, 114, 183)), [])
 
 
 # ---- section 13: tokens
@@ -82,35 +82,37 @@ AFTER_ZERO = [(value, path[1:]) for value, path in TOKENS[1:]]  # a zero is not 
 
 
 def block(tokens, h, kind, first, ctx):
-    """Whether it has a token before its end."""
-    codes = TOKENS
+    """Its numbers in zigzag order, from place `first` up to its end."""
+    codes, values = TOKENS, []
     for n in range(first, 16):
         p = [x % 256 for x in h[38 + ((kind * 8 + BANDS[n]) * 3 + ctx) * 11:][:11]]
         token = tokens.code(codes, p)
         if token == "end":
-            return int(n > first)
-        codes, ctx = (TOKENS, 2) if token else (AFTER_ZERO, 0)
+            break
+        codes, ctx, value = (TOKENS, 2, 0) if token else (AFTER_ZERO, 0, 0)
         if token:
             least, _, extra = token
             for prob in extra:
-                tokens.symbol(prob)
-            tokens.symbol(128)  # the sign
+                value = 2 * value + tokens.symbol(prob)
+            value = (least + value) * (-1 if tokens.symbol(128) else 1)
             ctx = 1 if least == 1 else 2
-    return 1
+        values.append(value)
+    return values
 
 
-def residual(tokens, h, small, skip, above, beside):
-    """The flags above and to the left, nine each (luma 0..3, U 4..5, V 6..7, Y2 8), become its own."""
-    if skip:
+def residual(tokens, h, mb, above, beside):
+    """Its 25 blocks of numbers; the flags above and to the left, nine each (luma 0..3, U 4..5, V 6..7, Y2 8), become its own."""
+    blocks = [[] for _ in range(25)]
+    if mb.skip:
         for flags in (above, beside):
-            flags[:8 if small else 9] = [0] * (8 if small else 9)
-        return
-    if not small:
-        above[8] = beside[8] = block(tokens, h, 1, 0, above[8] + beside[8])
-    places = [(i % 4, i // 4) for i in range(16)] + [(base + i % 2, base + i // 2) for base in (4, 6) for i in range(4)]
-    for i, (x, y) in enumerate(places):
-        kind, first = (2, 0) if i >= 16 else (3, 0) if small else (0, 1)
-        above[x] = beside[y] = block(tokens, h, kind, first, above[x] + beside[y])
+            flags[:8 if mb.small else 9] = [0] * (8 if mb.small else 9)
+        return blocks
+    places = [(8, 8)] + [(i % 4, i // 4) for i in range(16)] + [(base + i % 2, base + i // 2) for base in (4, 6) for i in range(4)]
+    for b, (x, y) in enumerate(places):
+        if b or not mb.small:
+            blocks[b] = block(tokens, h, *kind_and_first(mb, b), above[x] + beside[y])
+            above[x] = beside[y] = int(blocks[b] != [])
+    return blocks
 
 
 # ---- the picture
@@ -123,9 +125,9 @@ def picture(width, height, h, parts):
             left = ([0] * 4, [0] * 9)
             for above in columns:
                 number = 6
-                small, skip = modes(first, h, above[0], left[0])
+                mb = modes(first, h, above[0], left[0])
                 number = 7
-                residual(tokens[row % len(tokens)], h, small, skip, above[1], left[1])
+                residual(tokens[row % len(tokens)], h, mb, above[1], left[1])
                 k += 1
         number = 0
     except Missing:
@@ -148,18 +150,25 @@ def taken_apart(f):
     return be(5, 2), be(7, 2), h, parts
 
 
+def refusal(width, height, h, parts):
+    """1, 2 or 3, or 0 where the picture is begun."""
+    if any(n % 16 or not 16 <= n <= 16384 for n in (width, height)):
+        return 1
+    if not 1 <= len(parts) - 1 <= 8:
+        return 2
+    return 3 if any(not -255 <= x <= 255 for x in h) else 0
+
+
 def line(f):
     case = taken_apart(f)
-    if not case:
-        return "10 0 0 0"
-    width, height, h, parts = case
-    if any(n % 16 or not 16 <= n <= 16384 for n in (width, height)):
-        return "1 0 0 0"
-    if not 1 <= len(parts) - 1 <= 8:
-        return "2 0 0 0"
-    if any(not -255 <= x <= 255 for x in h):
-        return "3 0 0 0"
-    return picture(*case)
+    number = refusal(*case) if case else 10
+    return f"{number} 0 0 0" if number else picture(*case)
+
+
+def with_parts(f, parts):
+    """The same case with other partitions, as many as before."""
+    rest = f[5:2202] + b"".join(len(x).to_bytes(4, "big") for x in parts) + b"".join(parts)
+    return f[:1] + len(rest).to_bytes(4, "big") + rest
 
 
 def cut(f, rnd):
@@ -167,8 +176,7 @@ def cut(f, rnd):
     parts = taken_apart(f)[3]
     p = rnd.randrange(len(parts))
     parts[p] = parts[p][:rnd.randrange(len(parts[p]) + 1)]
-    rest = f[5:2202] + b"".join(len(x).to_bytes(4, "big") for x in parts) + b"".join(parts)
-    return f[:1] + len(rest).to_bytes(4, "big") + rest
+    return with_parts(f, parts)
 
 
 def main():

@@ -302,7 +302,7 @@ def strengths(h, mb, inside):
     if level == 0:
         return [0, 0, 0, 0]
     sharp = h[19]
-    inner = max(min(level >> (1 + (sharp > 4)), 9 - sharp) if sharp else level, 1)
+    inner = max(min(level >> (1 + (sharp > 4)), 9 - sharp) if sharp > 0 else level, 1)
     return [2 * level + inner, inner, (level >= 15) + (level >= 40), int(inside)]
 
 
@@ -314,22 +314,34 @@ class Macroblock:
         self.modes = modes if self.small else modes * 16
 
 
+def kind_and_first(mb, b):
+    """Block b's kind of probabilities and the place that its numbers begin at; block 0 is the second-order one."""
+    return (1, 0) if b == 0 else (2, 0) if b > 16 else (3, 0) if mb.small else (0, 1)
+
+
 def put_tokens(e, h, mb, top, left):
-    """Writes the tokens; gives the 24 residuals, whether they are empty, and the flags above and left afterwards."""
+    """Writes the tokens; gives the flags above and left afterwards."""
     top, left = list(top), list(left)
-    coefficients = [[0] * 16 for _ in range(24)]
     if mb.skip:
         keep = 8 if mb.small else 9
-        return [dct(c) for c in coefficients], True, [0] * keep + top[keep:], [0] * keep + left[keep:]
-    steps, empty = factors(h, mb.segment), True
+        return [0] * keep + top[keep:], [0] * keep + left[keep:]
     for b in range(mb.small, 25):
         i = b - 1
-        kind, first = (1, 0) if b == 0 else (2, 0) if i >= 16 else (3, 0) if mb.small else (0, 1)
+        kind, first = kind_and_first(mb, b)
         x, y = (8, 8) if b == 0 else (i % 4, i // 4) if i < 16 else (4 + (i - 16) // 4 * 2 + i % 2, 4 + (i - 16) // 4 * 2 + i // 2 % 2)
         values = mb.blocks[b][:16 - first]
         put_block(e, h, kind, first, top[x] + left[y], values)
         top[x] = left[y] = int(len(values) > 0)
-        c = [0] * 16 if b == 0 else coefficients[i]
+    return top, left
+
+
+def residuals(h, mb):
+    """The 24 residuals that a macroblock's numbers give, and whether they are empty."""
+    coefficients, steps, empty = [[0] * 16 for _ in range(24)], factors(h, mb.segment), True
+    for b in () if mb.skip else range(mb.small, 25):
+        kind, first = kind_and_first(mb, b)
+        values = mb.blocks[b][:16 - first]
+        c = [0] * 16 if b == 0 else coefficients[b - 1]
         for n, v in enumerate(values, first):
             if v:
                 c[ZIGZAG[n]] = wrapped(v * steps[kind][n > 0])
@@ -338,14 +350,25 @@ def put_tokens(e, h, mb, top, left):
                 coefficients[k][0] = v
         else:
             empty = empty and len(values) + first <= 1 and c[0] == 0
-    return [dct(c) for c in coefficients], empty, top, left
+    return [dct(c) for c in coefficients], empty
+
+
+def paint(planes, column, row, mb, residuals):
+    """Predicts and sums all of a macroblock's samples."""
+    y, u, v = planes
+    if mb.small:
+        paint_small(y, 16 * column, 16 * row, mb.modes, residuals[:16])
+    else:
+        paint_large(y, 16 * column, 16 * row, 16, mb.modes[0], residuals[:16])
+    paint_large(u, 8 * column, 8 * row, 8, mb.chroma, residuals[16:20])
+    paint_large(v, 8 * column, 8 * row, 8, mb.chroma, residuals[20:])
 
 
 def case(h, mb, column, row, seed, top, left, cut=None):
     """The bytes of a case and its line. `cut` is the partition that lacks its last byte."""
     first, tokens = Encoder(), Encoder()
     put_modes(first, h, mb, top, left)
-    residuals, empty, above, beside = put_tokens(tokens, h, mb, top[4:], left[4:])
+    above, beside = put_tokens(tokens, h, mb, top[4:], left[4:])
     s, t = first.bytes(), tokens.bytes()
     y, u, v = Plane(WIDTH, HEIGHT, seed), Plane(WIDTH // 2, HEIGHT // 2, seed + 1), Plane(WIDTH // 2, HEIGHT // 2, seed + 2)
     answer, modes, rest = 0, mb.modes, [0] * 8
@@ -354,12 +377,8 @@ def case(h, mb, column, row, seed, top, left, cut=None):
     elif cut == "tokens":
         answer, t = 7, t[:-1]
     if answer == 0:
-        if mb.small:
-            paint_small(y, 16 * column, 16 * row, mb.modes, residuals[:16])
-        else:
-            paint_large(y, 16 * column, 16 * row, 16, mb.modes[0], residuals[:16])
-        paint_large(u, 8 * column, 8 * row, 8, mb.chroma, residuals[16:20])
-        paint_large(v, 8 * column, 8 * row, 8, mb.chroma, residuals[20:])
+        added, empty = residuals(h, mb)
+        paint((y, u, v), column, row, mb, added)
         rest = strengths(h, mb, mb.small or not empty) + [mb.segment, int(mb.skip), int(mb.small), mb.chroma]
         below, right, places = modes[12:] + above, modes[3::4] + beside, [first.place(), tokens.place()]
     else:

@@ -33,21 +33,49 @@ static void must_be(uint32_t got, uint32_t want) {
     calls++;
 }
 
+/* What the calls on a tile take first, nine slices. */
+#define GIVEN_TILE                                                                                                                         \
+    GIVEN(0, bytes, sizeof bytes), GIVEN(1, header, HOOKBARLEY_ENTRIES), GIVEN(2, (const size_t *)&tile, HOOKBARLEY_TILE_NUMBERS),         \
+        GIVEN(3, m.y, n.y), GIVEN(4, m.u, n.u), GIVEN(5, m.v, n.v), GIVEN(6, m.columns, n.columns), GIVEN(7, m.modes, n.modes),            \
+        GIVEN(8, m.strengths, n.strengths)
+
+/* Their refusal without these; 0 where nothing but the bytes is left out. */
+static uint32_t refusal(unsigned out) { return out & 4 ? HOOKBARLEY_ARGUMENT : out & ~1u ? HOOKBARLEY_LENGTH : HOOKBARLEY_WHOLE; }
+
+/* The room poisoned and cut into what a tile is lent. */
+static struct hookbarley_memory lent(void) {
+    struct hookbarley_memory m;
+    hookbarley_lend(&tile, memset(room, 0xA5, sizeof room), &m);
+    return m;
+}
+
+/* The planes are grey, or after a refusal as they were. */
+static void planes_are(const struct hookbarley_lengths *n, uint32_t refused) {
+    if (!all(room, n->y + n->u + n->v, refused ? 0xA5 : 128)) fail("other planes");
+}
+
 static void decoding(unsigned out) {
     struct hookbarley_lengths n = hookbarley_lengths_of(&tile);
-    struct hookbarley_memory m;
+    struct hookbarley_memory m = lent();
     size_t finished;
     uint64_t first_reads, token_reads;
+    uint32_t refused = refusal(out);
     trying("decode without %#x", out);
-    memset(room, 0xA5, sizeof room);
-    hookbarley_lend(&tile, room, &m);
-    uint32_t want = out & 4 ? HOOKBARLEY_ARGUMENT : out & ~1u ? HOOKBARLEY_LENGTH : HOOKBARLEY_NO_MODES;
-    must_be(hookbarley_decode(GIVEN(0, bytes, sizeof bytes), GIVEN(1, header, HOOKBARLEY_ENTRIES),
-                              GIVEN(2, (const size_t *)&tile, HOOKBARLEY_TILE_NUMBERS), GIVEN(3, m.y, n.y), GIVEN(4, m.u, n.u),
-                              GIVEN(5, m.v, n.v), GIVEN(6, m.columns, n.columns), GIVEN(7, m.modes, n.modes),
-                              GIVEN(8, m.strengths, n.strengths), &finished, &first_reads, &token_reads), want);
+    must_be(hookbarley_decode(GIVEN_TILE, &finished, &first_reads, &token_reads), refused ? refused : HOOKBARLEY_NO_MODES);
     if (finished || first_reads || token_reads) fail("something was read");
-    if (!all(room, n.y + n.u + n.v, want == HOOKBARLEY_NO_MODES ? 128 : 0xA5)) fail("other planes");
+    planes_are(&n, refused);
+}
+
+static void rescuing(unsigned out) {
+    struct hookbarley_lengths n = hookbarley_lengths_of(&tile);
+    struct hookbarley_memory m = lent();
+    uint8_t marks[1] = {0xA5};
+    size_t kept;
+    uint32_t refused = refusal(out);
+    trying("rescue without %#x", out);
+    must_be(hookbarley_rescue(GIVEN_TILE, GIVEN(9, marks, sizeof marks), &kept), refused);
+    if (kept || marks[0] != (refused ? 0xA5 : HOOKBARLEY_MARK_GREY)) fail("something is kept");
+    planes_are(&n, refused);
 }
 
 static void deblocking(unsigned out) {
@@ -89,6 +117,7 @@ int main(void) {
     size_t start, length;
     begin("0", NULL, 0);
     for (unsigned out = 0; out < 512; out++) decoding(out);
+    for (unsigned out = 0; out < 1024; out++) rescuing(out);
     for (unsigned out = 0; out < 16; out++) deblocking(out);
     for (unsigned out = 0; out < 8; out++) taking(out);
     for (unsigned out = 0; out < 8; out++) explaining(out);

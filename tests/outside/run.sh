@@ -183,24 +183,95 @@ part_damaged() {
 }
 
 # The faults that the test must find, on four small tiles of several partitions.
-part_faults() {
-    local few=$out/few i=0 t what
-    rm -rf $few
-    mkdir $few
+few() { # few FOLDER: these tiles, and what is expected of them
+    local i=0 t what
+    rm -rf "$1"
+    mkdir "$1"
     for t in 3 10 15 26; do
-        cp "$(printf '%s/real/%04d.case' $cases $t)" "$(printf '%s/%04d.case' $few $i)"
-        for what in memory counts; do sed -n "$((t + 1))p" $cases/real/expected-$what-m102.txt >>$few/expected-$what-m102.txt; done
+        cp "$(printf '%s/real/%04d.case' $cases $t)" "$(printf '%s/%04d.case' "$1" $i)"
+        for what in memory counts; do sed -n "$((t + 1))p" $cases/real/expected-$what-m102.txt >>"$1"/expected-$what-m102.txt; done
         i=$((i + 1))
     done
-    faults faults tests/outside/damaged.c $mutants "$(upto 20) 23 24 25" plainly $few 300 1
+}
+part_faults() {
+    few $out/few
+    faults faults tests/outside/damaged.c $mutants "$(upto 20) 23 24 25" plainly $out/few 300 1
+}
+
+# The rescue call between guard pages, beside the picture call; the faults that the test must find.
+part_rescue() {
+    run_test rescue tests/outside/rescue.c $cases/real "$N" "$SEED"
+    least rescue "cuts" "$(counted $out/rescue.log '^cut: \([0-9]*\) cuts')" 2700
+    least rescue "pairs" "$(counted $out/rescue.log '^apart: \([0-9]*\) pairs')" 300
+    least rescue "random inputs" "$(counted $out/rescue.log '^random: \([0-9]*\) inputs')" "$N"
+    least rescue "macroblocks from modes" "$(counted $out/rescue.log '^marked: [0-9]* whole, \([0-9]*\) from modes')" 15000
+    few $out/few-rescue
+    faults rescue tests/outside/rescue.c tests/outside/rescue_mutants.c "$(upto 17)" plainly $out/few-rescue 300 1
+}
+
+# What the rescue call leaves: of every case file as expected; of real ones, a token partition cut length after length, as
+# tests/model/picture.py works it out; and faults that this must find. Tiles 31 and 37 are those where a rebuilt macroblock with small modes
+# lies below one that left its ninth flag.
+cut_tiles() { # lines of tile, partition, step
+    local tile step partitions partition
+    while read -r tile step partitions; do
+        for partition in $partitions; do echo "$tile $partition $step"; done
+    done <<END
+3 1 0 1 2
+7 61 0
+10 1 0 1 7
+15 1 0 1
+24 1 0 1
+25 1 0 1 2 3
+26 1 0 1
+31 1 0 1
+33 29 0 1
+34 1 0
+36 1 0 1 2
+37 1 0 1
+39 5 0 1 2
+END
+}
+cut_by() { # cut_by TILE PARTITION STEP COMMAND..: its lines of these cuts
+    "${@:4}" --cuts "$2" "$(printf '%s/real/%04d.case' $cases "$1")" "$3"
+}
+recut() { # recut PROGRAM: its lines beside the model's, the first that differs told
+    local tile partition step different
+    while read -r tile partition step; do
+        different=$(cut_by "$tile" "$partition" "$step" plainly "$1" | diff - $out/cuts/"$tile-$partition" | sed -n 2p)
+        [ -z "$different" ] || { echo "FAILED at tile $tile, partition $partition: $different"; return 1; }
+    done < <(cut_tiles)
+    cat $out/cuts/* | wc -l
+}
+part_rescued() {
+    local model=tests/model/picture.py tile partition step set different told tried=0
+    rm -rf $out/cuts
+    mkdir $out/cuts
+    while read -r tile partition step; do
+        cut_by "$tile" "$partition" "$step" python3 $model >$out/cuts/"$tile-$partition" || { bad rescued "$model"; return; }
+    done < <(cut_tiles)
+    build rescued tests/outside/rescue_lines.c || { bad rescued "does not build"; return; }
+    for set in named real fuzz; do
+        different=$(plainly $out/rescued $cases/$set/*.case | diff - $cases/$set/expected-rescue.txt | sed -n 2p)
+        [ -z "$different" ] || bad rescued "$set: $different"
+        tried=$((tried + $(wc -l <$cases/$set/expected-rescue.txt)))
+    done
+    least rescued "case files" $tried 151
+    if told=$(recut $out/rescued); then
+        least rescued "cuts" "$told" 1500
+        say rescued "$tried case files as expected, $told cuts as $model has them"
+        faults rescued tests/outside/rescue_lines.c tests/outside/rescue_mutants.c '4 7 18' recut
+    else
+        bad rescued "$told"
+    fi
 }
 
 # NULL with length 0 in every call, and faults that look behind it.
 part_nothing() {
     local which
     run_test nothing tests/outside/nothing.c
-    least nothing "calls" "$(counted $out/nothing.log '^ok: \([0-9]*\) calls')" 552
-    for which in '' explain_ frame_ webp_; do faults nothing tests/outside/nothing.c tests/outside/${which}mutants.c 1 plainly; done
+    least nothing "calls" "$(counted $out/nothing.log '^ok: \([0-9]*\) calls')" 1576
+    for which in '' explain_ frame_ rescue_ webp_; do faults nothing tests/outside/nothing.c tests/outside/${which}mutants.c 1 plainly; done
 }
 
 # The WebP calls between guard pages, on files of encoders and damaged ones; the faults that the test must find.
@@ -250,7 +321,7 @@ part_rust() {
     local passed
     if tests/outside/rust.sh "$ARCHIVE" >$out/rust.log 2>&1; then
         passed=$(grep '^test result' $out/rust.log | awk '{s += $4} END {print s + 0}')
-        least rust "tests" "$passed" 23
+        least rust "tests" "$passed" 27
         say rust "$passed tests passed"
     else
         tail -n 20 $out/rust.log
@@ -271,10 +342,10 @@ part_products() {
 
 # As many parts at a time as there are processors, the longest first; what they say is printed in the order above. A part that does not come to
 # its end leaves no status, and has not passed.
-parts="calls example counts readme damaged faults nothing webp explain frame rust products"
+parts="calls example counts readme damaged faults rescue rescued nothing webp explain frame rust products"
 for part in $parts; do rm -f $out/part-$part.txt $out/part-$part.status; done
 running=0
-for part in frame webp damaged faults counts example explain rust nothing products readme calls; do
+for part in frame webp damaged faults rescue counts example explain rescued rust nothing products readme calls; do
     if [ $running -ge "$(nproc)" ]; then
         wait -n
         running=$((running - 1))

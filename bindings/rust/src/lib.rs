@@ -14,6 +14,19 @@ extern "C" {
         strengths: *mut u8, strengths_len: usize,
         finished: *mut usize, first_reads: *mut u64, token_reads: *mut u64,
     ) -> u32;
+    fn hookbarley_rescue(
+        bytes: *const u8, bytes_len: usize,
+        header: *const i32, header_len: usize,
+        tile: *const usize, tile_len: usize,
+        y: *mut u8, y_len: usize,
+        u: *mut u8, u_len: usize,
+        v: *mut u8, v_len: usize,
+        columns: *mut u8, columns_len: usize,
+        modes: *mut u8, modes_len: usize,
+        strengths: *mut u8, strengths_len: usize,
+        marks: *mut u8, marks_len: usize,
+        kept: *mut usize,
+    ) -> u32;
     fn hookbarley_deblock(
         y: *mut u8, y_len: usize,
         u: *mut u8, u_len: usize,
@@ -108,6 +121,16 @@ pub mod strength {
     pub const SMALL: usize = 5;
 }
 
+/// What a macroblock that `rescue` leaves is made of.
+pub mod mark {
+    /// Modes and tokens: `decode` finishes it too.
+    pub const WHOLE: u8 = 0;
+    /// Modes alone: it is predicted, nothing is added.
+    pub const MODES: u8 = 1;
+    /// Neither: its samples are 128.
+    pub const GREY: u8 = 2;
+}
+
 /// A key frame's tile, as the library takes it: 28 numbers.
 #[repr(C)]
 #[derive(Clone, Copy, Debug, Default, PartialEq, Eq)]
@@ -129,6 +152,13 @@ pub struct Tile {
     pub token_lengths: [usize; 8],
     /// The boolean reader in the first partition, behind the coded header.
     pub reader: Reader,
+}
+
+impl Tile {
+    /// Its macroblocks; so many marks `rescue` asks for.
+    pub fn blocks(&self) -> usize {
+        (self.width / 16) * (self.height / 16)
+    }
 }
 
 const _: () = assert!(std::mem::size_of::<Tile>() == TILE_NUMBERS * std::mem::size_of::<usize>());
@@ -227,6 +257,25 @@ impl Reads {
     pub const MOST: Reads = Reads { first: 119, tokens: 7296 };
 }
 
+/// A call of the library on a frame and lent memory, and what it takes besides. Each pointer and length is of a slice or of the tile's
+/// numbers, and what is lent to be written are six different vectors.
+macro_rules! on_tile {
+    ($call:ident, $frame:expr, $mem:expr, $($besides:expr),+) => {
+        $call(
+            $frame.bytes.as_ptr(), $frame.bytes.len(),
+            $frame.header.as_ptr(), $frame.header.len(),
+            &$frame.tile as *const Tile as *const usize, TILE_NUMBERS,
+            $mem.y.as_mut_ptr(), $mem.y.len(),
+            $mem.u.as_mut_ptr(), $mem.u.len(),
+            $mem.v.as_mut_ptr(), $mem.v.len(),
+            $mem.columns.as_mut_ptr(), $mem.columns.len(),
+            $mem.modes.as_mut_ptr(), $mem.modes.len(),
+            $mem.strengths.as_mut_ptr(), $mem.strengths.len(),
+            $($besides),+
+        )
+    };
+}
+
 /// Decodes a picture into lent memory, whatever it held.
 pub fn decode(frame: &Frame, mem: &mut Memory) -> Decoded {
     decode_counted(frame, mem).0
@@ -236,22 +285,8 @@ pub fn decode(frame: &Frame, mem: &mut Memory) -> Decoded {
 pub fn decode_counted(frame: &Frame, mem: &mut Memory) -> (Decoded, Reads) {
     let mut k = 0usize;
     let mut reads = Reads { first: 0, tokens: 0 };
-    // Safe: each pointer and length is of a slice or of the tile's numbers, the lent ones are six different vectors, and the three numbers
-    // stand alone.
-    let number = unsafe {
-        hookbarley_decode(
-            frame.bytes.as_ptr(), frame.bytes.len(),
-            frame.header.as_ptr(), frame.header.len(),
-            &frame.tile as *const Tile as *const usize, TILE_NUMBERS,
-            mem.y.as_mut_ptr(), mem.y.len(),
-            mem.u.as_mut_ptr(), mem.u.len(),
-            mem.v.as_mut_ptr(), mem.v.len(),
-            mem.columns.as_mut_ptr(), mem.columns.len(),
-            mem.modes.as_mut_ptr(), mem.modes.len(),
-            mem.strengths.as_mut_ptr(), mem.strengths.len(),
-            &mut k, &mut reads.first, &mut reads.tokens,
-        )
-    };
+    // Safe: as `on_tile` says; the three numbers stand alone.
+    let number = unsafe { on_tile!(hookbarley_decode, frame, mem, &mut k, &mut reads.first, &mut reads.tokens) };
     let answer = match number {
         answer::WHOLE => Decoded::Whole(k),
         answer::NO_MODES => Decoded::NoModes(k),
@@ -259,6 +294,28 @@ pub fn decode_counted(frame: &Frame, mem: &mut Memory) -> (Decoded, Reads) {
         n => Decoded::Refused(n),
     };
     (answer, reads)
+}
+
+/// How a rescue ended.
+#[derive(Clone, Copy, Debug, PartialEq, Eq)]
+pub enum Rescued {
+    /// So many macroblocks are not grey.
+    Kept(usize),
+    /// An argument was refused, 1 to 5; nothing lent has changed, marks included.
+    Refused(u32),
+}
+
+/// Decodes a picture and rescues what a cut one still tells: where `decode` answers `NoTokens`, that macroblock and all later ones are
+/// rebuilt from their modes, until these run out. `marks`, a byte a macroblock, says what each is made of (`mark`). What memory and marks
+/// held does not matter. `deblock` never refuses what is left, and grey stays grey.
+pub fn rescue(frame: &Frame, mem: &mut Memory, marks: &mut [u8]) -> Rescued {
+    let mut kept = 0usize;
+    // Safe: as `on_tile` says; the marks are a slice that overlaps none of the vectors, and the number stands alone.
+    let number = unsafe { on_tile!(hookbarley_rescue, frame, mem, marks.as_mut_ptr(), marks.len(), &mut kept) };
+    match number {
+        answer::WHOLE => Rescued::Kept(kept),
+        n => Rescued::Refused(n),
+    }
 }
 
 /// How deblocking ended.
@@ -270,8 +327,9 @@ pub enum Deblocked {
     Refused(u32),
 }
 
-/// Deblocks the planes in place by the strengths that `decode` left; what it left is never refused. Of the tile its sides and its kind of
-/// filter are looked at; the simple kind touches luma only. Other decoders filter nothing where `header::LEVEL` is 0: skip the call then.
+/// Deblocks the planes in place by the strengths that `decode` or `rescue` left; what they left is never refused. Of the tile its sides and
+/// its kind of filter are looked at; the simple kind touches luma only. Other decoders filter nothing where `header::LEVEL` is 0: skip the
+/// call then.
 pub fn deblock(tile: &Tile, mem: &mut Memory) -> Deblocked {
     // Safe: each pointer and length is of a slice, and the lent ones are three different vectors.
     let number = unsafe {

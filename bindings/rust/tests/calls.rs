@@ -1,16 +1,9 @@
 //! The archive called from Rust: the worked tile, refusals, cut partitions, memory lent again and again.
-use hookbarley::{deblock, decode, decode_counted, filter, header, mode, strength, Deblocked, Decoded, Frame, Memory, Reader, Reads, Tile};
-use hookbarley::{ENTRIES, MODE_BYTES, STRENGTH_BYTES};
+mod common;
 
-/// The worked tile: 16 by 16, header 0 but 128 as each coefficient probability, both partitions zero bytes.
-fn worked(bytes: &[u8], first: usize, tokens: usize) -> Frame<'_> {
-    let mut tile = Tile { width: 16, height: 16, count: 1, first_length: first, reader: Reader::open(&bytes[..first]), ..Tile::default() };
-    tile.token_starts[0] = first;
-    tile.token_lengths[0] = tokens;
-    let mut header = vec![0; ENTRIES];
-    header[header::COEFFICIENTS..header::SKIPPING].fill(128);
-    Frame { bytes, header, tile }
-}
+use common::{memory_of, refused, worked, Case};
+use hookbarley::{deblock, decode, decode_counted, filter, header, mode, strength, Deblocked, Decoded, Memory, Reads, Tile};
+use hookbarley::{MODE_BYTES, STRENGTH_BYTES};
 
 fn sum(p: &[u8]) -> u32 {
     p.iter().map(|&x| x as u32).sum()
@@ -44,27 +37,7 @@ fn cut_partitions_leave_grey() {
 fn refusals_change_nothing() {
     let bytes = [0u8; 64];
     let good = worked(&bytes, 32, 32);
-    let mut bad_entry = good.header.clone();
-    bad_entry[0] = 256;
-    let of = |tile: Tile| Frame { tile, ..good.clone() };
-    let read_by = |reader: Reader| of(Tile { reader, ..good.tile });
-    let reader = good.tile.reader;
-    let wide = 1 << 32; // a number that would be in range if its upper half were cut off
-    let cases = [
-        (1, of(Tile { width: 17, ..good.tile })),
-        (1, of(Tile { width: 17, count: 9, ..good.tile })),
-        (2, of(Tile { count: 0, ..good.tile })),
-        (2, of(Tile { count: 9, ..good.tile })),
-        (3, Frame { header: bad_entry, ..good.clone() }),
-        (4, Frame { header: good.header[1..].to_vec(), ..good.clone() }),
-        (5, of(Tile { first_start: usize::MAX, ..good.tile })),
-        (5, of(Tile { first_length: usize::MAX, ..good.tile })),
-        (5, read_by(Reader { range: 127, ..reader })),
-        (5, read_by(Reader { range: wide + reader.range, ..reader })),
-        (5, read_by(Reader { shifts: wide + reader.shifts, ..reader })),
-        (5, read_by(Reader { window: wide + reader.window, ..reader })),
-    ];
-    for (number, frame) in cases {
+    for (number, frame) in refused(&good) {
         let mut mem = Memory::new(16, 16, 0xA5);
         assert_eq!(decode_counted(&frame, &mut mem), (Decoded::Refused(number), Reads { first: 0, tokens: 0 }));
         assert_eq!(mem, Memory::new(16, 16, 0xA5));
@@ -89,51 +62,6 @@ fn memory_lent_again_and_again() {
     }
 }
 
-/// A case file of the corpus, taken apart (examples/c/case_file.h has the layout); its tile is of the partitions' bytes alone.
-struct Case {
-    bytes: Vec<u8>,
-    header: Vec<i32>,
-    tile: Tile,
-}
-
-impl Case {
-    fn read(name: &str) -> Case {
-        let path = format!("{}/../../crates/replay/data/{name}.case", env!("CARGO_MANIFEST_DIR"));
-        let f = std::fs::read(&path).expect(&path);
-        let be = |at: usize, n: usize| f[at..at + n].iter().fold(0usize, |x, &b| x << 8 | b as usize);
-        let lengths = 10 + 2 * ENTRIES;
-        let mut tile = Tile { width: be(5, 2), height: be(7, 2), count: f[9] as usize, first_length: be(lengths, 4), ..Tile::default() };
-        let mut at = tile.first_length;
-        for i in 0..tile.count {
-            tile.token_starts[i] = at;
-            tile.token_lengths[i] = be(lengths + 4 * (1 + i), 4);
-            at += tile.token_lengths[i];
-        }
-        let header = (0..ENTRIES).map(|i| be(10 + 2 * i, 2) as u16 as i16 as i32).collect();
-        Case { bytes: f[lengths + 4 * (1 + tile.count)..].to_vec(), header, tile }
-    }
-
-    fn whole(&self) -> Frame<'_> {
-        self.cut(0, self.tile.first_length)
-    }
-
-    /// The tile with partition p (0 the first, then the token partitions) cut to n bytes.
-    fn cut(&self, p: usize, n: usize) -> Frame<'_> {
-        let mut tile = self.tile;
-        if p == 0 { tile.first_length = n } else { tile.token_lengths[p - 1] = n }
-        tile.reader = Reader::open(&self.bytes[..tile.first_length]);
-        Frame { bytes: &self.bytes, header: self.header.clone(), tile }
-    }
-
-    fn length(&self, p: usize) -> usize {
-        if p == 0 { self.tile.first_length } else { self.tile.token_lengths[p - 1] }
-    }
-
-    fn memory(&self, fill: u8) -> Memory {
-        Memory::new(self.tile.width, self.tile.height, fill)
-    }
-}
-
 #[test]
 fn real_tiles() {
     for (name, blocks, first, tokens, sums) in [
@@ -142,7 +70,7 @@ fn real_tiles() {
         ("real/0039", 6, 259, 5638, (171566, 55040, 55115)),
     ] {
         let c = Case::read(name);
-        let mut mem = c.memory(0xA5);
+        let mut mem = memory_of(&c.tile, 0xA5);
         assert_eq!(decode_counted(&c.whole(), &mut mem), (Decoded::Whole(blocks), Reads { first, tokens }), "{name}");
         assert_eq!((sum(&mem.y), sum(&mem.u), sum(&mem.v)), sums, "{name}");
     }
@@ -153,10 +81,10 @@ fn real_tiles() {
 #[test]
 fn real_tile_cut_everywhere() {
     let c = Case::read("real/0010");
-    let mut whole = c.memory(0);
+    let mut whole = memory_of(&c.tile, 0);
     let (answer, all) = decode_counted(&c.whole(), &mut whole);
     assert_eq!(answer, Decoded::Whole(2));
-    let mut mem = c.memory(0xA5);
+    let mut mem = memory_of(&c.tile, 0xA5);
     for p in 0..=c.tile.count {
         for n in 0..c.length(p) {
             let (answer, reads) = decode_counted(&c.cut(p, n), &mut mem);
@@ -189,12 +117,12 @@ fn real_tile_cut_everywhere() {
 #[test]
 fn partitions_apart() {
     let mut c = Case::read("real/0039");
-    let mut one = c.memory(0);
+    let mut one = memory_of(&c.tile, 0);
     decode(&c.whole(), &mut one);
     let (at, length, width) = (c.tile.token_starts[1], c.tile.token_lengths[1], c.tile.width);
     for x in 0..=255u8 {
         c.bytes[at..at + length].fill(x);
-        let mut other = c.memory(x);
+        let mut other = memory_of(&c.tile, x);
         decode(&c.whole(), &mut other);
         assert_eq!(one.y[..16 * width], other.y[..16 * width]);
         assert_eq!(one.u[..4 * width], other.u[..4 * width]);

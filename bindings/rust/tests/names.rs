@@ -1,5 +1,5 @@
 //! The numbers that this crate has beside include/hookbarley.h are the header's.
-use hookbarley::{answer, header, mode, strength, Reads, COLUMN_BYTES, ENTRIES, MODE_BYTES, PARTITIONS, STRENGTH_BYTES, TILE_NUMBERS};
+use hookbarley::{answer, header, mark, mode, strength, Reads, COLUMN_BYTES, ENTRIES, MODE_BYTES, PARTITIONS, STRENGTH_BYTES, TILE_NUMBERS};
 
 #[test]
 fn names_and_numbers_are_those_of_c() {
@@ -25,6 +25,7 @@ fn names_and_numbers_are_those_of_c() {
         ("MODE_CHROMA", mode::CHROMA),
         ("STRENGTH_LIMIT", strength::LIMIT), ("STRENGTH_INNER", strength::INNER), ("STRENGTH_THRESHOLD", strength::THRESHOLD),
         ("STRENGTH_INSIDE", strength::INSIDE), ("STRENGTH_SEGMENT", strength::SEGMENT), ("STRENGTH_SMALL", strength::SMALL),
+        ("MARK_WHOLE", mark::WHOLE as usize), ("MARK_MODES", mark::MODES as usize), ("MARK_GREY", mark::GREY as usize),
     ];
     let answers = [
         ("WHOLE", answer::WHOLE), ("SIZE", answer::SIZE), ("COUNT", answer::COUNT),

@@ -4,6 +4,8 @@ pub mod ExplainCalls
 pub mod ExplainCallsLaws
 pub mod FrameCalls
 pub mod FrameCallsLaws
+pub mod RescueCalls
+pub mod RescueCallsLaws
 pub mod TileNumbers
 pub mod TileNumbersLaws
 pub mod WebpCalls

@@ -30,7 +30,7 @@ use Rattle.macroblock.specs.Macroblock.{Planes, Step, finished, no-modes
 use Rattle.macroblock.specs.MacroblockLaws.{Laid, Ready}
 
 -- ---- levels
-levels-fact : (l : List ℕ) → length l ≡ 4 → levelsFine l ≡ true → (i : ℕ) → getD l i 0 ≤ 63
+pub levels-fact : (l : List ℕ) → length l ≡ 4 → levelsFine l ≡ true → (i : ℕ) → getD l i 0 ≤ 63
 levels-fact l n e = go
   where
     at : ℕ → Bool
@@ -49,10 +49,10 @@ levels-fact l n e = go
     go (suc (suc (suc zero))) = leb-true _ _ (both-right (at 2) (at 3) more)
     go (suc (suc (suc (suc i)))) = rw (List·getD-eq-default l 0 {n = suc (suc (suc (suc i)))} (omega arith)) (omega arith)
 
-levels-test : (l : List ℕ) → ((i : ℕ) → getD l i 0 ≤ 63) → levelsFine l ≡ true
+pub levels-test : (l : List ℕ) → ((i : ℕ) → getD l i 0 ≤ 63) → levelsFine l ≡ true
 levels-test l h = both-true (both-true (le-leb _ _ (h 0)) (le-leb _ _ (h 1))) (both-true (le-leb _ _ (h 2)) (le-leb _ _ (h 3)))
 
-levels-of : (f : Frame) → ((i : ℕ) → getD (f .large) i 0 ≤ 63) → ((i : ℕ) → getD (f .small) i 0 ≤ 63) → (small : Bool) (i : ℕ) → levelAt f small i ≤ 63
+pub levels-of : (f : Frame) → ((i : ℕ) → getD (f .large) i 0 ≤ 63) → ((i : ℕ) → getD (f .small) i 0 ≤ 63) → (small : Bool) (i : ℕ) → levelAt f small i ≤ 63
 levels-of f a b true i = b i
 levels-of f a b false i = a i
 

@@ -6,3 +6,5 @@ pub mod StepLaws
 pub mod StepRecords
 pub mod Counts
 pub mod CountsLaws
+pub mod Rebuilt
+pub mod RebuiltLaws

@@ -93,7 +93,7 @@ stepNumber (finished x) = 0
 stepNumber no-modes = 6
 stepNumber no-tokens = 7
 
-apart : {g k : Step} → g ≡ k → (stepNumber g ≡ stepNumber k → ⊥) → ⊥
+pub apart : {g k : Step} → g ≡ k → (stepNumber g ≡ stepNumber k → ⊥) → ⊥
 apart e n = n (ap stepNumber e)
 
 abbrev given-or : Finished → Step → Finished
@@ -101,12 +101,12 @@ given-or d (finished x) = x
 given-or d no-modes = d
 given-or d no-tokens = d
 
-finished-is : {x y : Finished} → finished x ≡ finished y → x ≡ y
+pub finished-is : {x y : Finished} → finished x ≡ finished y → x ≡ y
 finished-is {x} e = ap (given-or x) e
 
 -- ---- the same of the macroblock that its parts make
 module _ (f : Frame) (place : Place) (p : Planes) (m : Macroblock) (d : Model) {s tokens : List ℕ} {readers : Readers} {q u : Reader} where
-  end-ends : Sound f → Ended InRange s (readers .first) m q → Ended ModelInRange tokens (readers .token) d u → Ends s tokens readers (endOf f place p m q d u)
+  pub end-ends : Sound f → Ended InRange s (readers .first) m q → Ended ModelInRange tokens (readers .token) d u → Ends s tokens readers (endOf f place p m q d u)
   unfolding endOf
   end-ends k i e =
       let o = i .value .luma .each in
@@ -125,7 +125,7 @@ module _ (f : Frame) (place : Place) (p : Planes) (m : Macroblock) (d : Model) {
         limit = limit-most (levelAt f (m .small) (m .segment)) (f .sharp) (m .small || not (d .empty)) (k .levels (m .small) (m .segment));
       }
 
-  end-outside : Laid place p → Ended InRange s (readers .first) m q → Ended ModelInRange tokens (readers .token) d u → Elsewhere place p (endOf f place p m q d u .planes)
+  pub end-outside : Laid place p → Ended InRange s (readers .first) m q → Ended ModelInRange tokens (readers .token) d u → Elsewhere place p (endOf f place p m q d u .planes)
   unfolding endOf
   end-outside g i e = planes-kept g (painting (i .value) (e .value))
 

@@ -5,6 +5,7 @@ use crate::arguments::Readers;
 use header::entries::PROBABILITY_COUNT;
 use header::frame::Frame;
 use modes::contexts::context_fine;
+use reader::boolean::Reader;
 use reader::boolean::valid;
 ghost use mathlib.Core.Path.{_≡_};
 ghost use mathlib.Core.Bool.{_&&_};
@@ -12,6 +13,7 @@ ghost use Prim.Native.Nat.{_*_, _≤_};
 ghost use Rattle.modes.specs.Contexts.{contextFine};
 ghost use Rattle.macroblock.specs.Macroblock.{levelsFine, readyOf, placeFine};
 ghost use Rattle.macroblock.specs.DecodeLaws.{FrameSizes, AroundSizes};
+ghost use Rattle.macroblock.specs.Rebuilt.{legibleOf};
 
 fn levels_fine(levels: [u8; 4]) -> bool
     ensures { λ b. ⌜ b ≡ levelsFine levels ⌝ }
@@ -52,6 +54,13 @@ pub(crate) fn ready(
     let t = readers.token;
     (valid(first, r) & valid(tokens, t))
         & ((size == PROBABILITY_COUNT) & (around_fine(around) & frame_fine(frame)))
+}
+
+// The same of a macroblock without tokens.
+pub(crate) fn legible(first: &[u8], r: Reader, frame: Frame, around: Around) -> bool
+    ensures { λ b. ⌜ (b ≡ legibleOf (now (first .entry)) r frame around) × (FrameSizes frame × AroundSizes around) ⌝ }
+{
+    valid(first, r) & (around_fine(around) & frame_fine(frame))
 }
 
 fn area(rows: usize, width: usize) -> usize

@@ -59,14 +59,14 @@ pub struct MacroblockRead {
 }
 
 // The modes of a macroblock, the reader after them, and how many symbols they took.
-struct ModeData {
-    kinds: Kinds,
-    modes: [u8; 16],
-    next: Reader,
-    reads: u64,
+pub(crate) struct ModeData {
+    pub kinds: Kinds,
+    pub modes: [u8; 16],
+    pub next: Reader,
+    pub reads: u64,
 }
 
-fn nothing(answer: Finish) -> Outcome
+pub(crate) fn nothing(answer: Finish) -> Outcome
     ensures { λ r. ⌜ r ≡ noOutcome answer ⌝ }
 {
     Outcome {
@@ -156,7 +156,7 @@ fn strength_of(frame: Frame, kinds: Kinds, empty: bool) -> Strength
 }
 
 // The answer of a macroblock whose bytes were all there. `top` and `left` are the flags of its residual, `after` the reader behind it.
-fn ending(
+pub(crate) fn ending(
     frame: Frame,
     m: ModeData,
     after: Reader,

@@ -16,22 +16,24 @@ use Rattle.macroblock.specs.Macroblock.{Finished, Step, finished, no-modes, no-
 use Rattle.picture.specs.declared.rows.Decoded.{Decoded}
 use Rattle.picture.specs.declared.rows.Decoded.the-variants as D
 use Rattle.lent.specs.Memory.{Memory}
-use Rattle.picture.specs.Picture.{Picture, State, Ended, columnOf, rowOf, partitionOf, planesIn, stepAt, nextOf, stoppedOf, runOf}
+use Rattle.picture.specs.Picture.{Picture, State, columnOf, rowOf, partitionOf, planesIn, stepAt, nextOf, stoppedOf}
+use Rattle.picture.specs.Halt.{Halted, stateOf, haltOf}
+use Rattle.picture.specs.HaltLaws.{halt-none, halt-finished, halt-no-modes, halt-no-tokens}
 use Rattle.picture.specs.Turn.{Turned, turned}
 use Rattle.picture.specs.TurnLaws.{Ends}
 use Rattle.macroblock.specs.declared.arguments.SymbolCounts.{SymbolCounts}
 use Rattle.macroblock.specs.Counts.{noReads, AtMost}
 use Rattle.picture.specs.Counts.{plus, readsAt, readsFrom}
 use Rattle.picture.specs.CountsLaws.{reads-none, reads-finished, reads-no-modes, reads-no-tokens, reads-over}
-use Rattle.picture.specs.PictureLaws.{Shared, Live, live-next, run-none, run-finished, run-no-modes, run-no-tokens}
+use Rattle.picture.specs.PictureLaws.{Shared, Live, live-next}
 
 -- ---- how a picture ends, and all that it reads
 pub record Total : Type 0 where
-  pub ended : Ended
+  pub ended : Halted
   pub reads : SymbolCounts
 
 abbrev pub totalOf : Picture → State → Total
-totalOf P S = record { ended = runOf (P .wide * P .high) P 0 S; reads = readsFrom (P .wide * P .high) P 0 S }
+totalOf P S = record { ended = haltOf (P .wide * P .high) P 0 S; reads = readsFrom (P .wide * P .high) P 0 S }
 
 -- of a picture of at most 1024 by 1024 macroblocks
 pub total-most : {P : Picture} {S : State} → Shared P → Bytes (P .first) → ((q : ℕ) → q < P .count → Bytes (P .token q)) → Live P S → {n : ℕ} → P .wide * P .high ≤ n → AtMost n (totalOf P S .reads)
@@ -39,14 +41,14 @@ total-most {P} {S} s a b l {n} h =
     let o = reads-over P s a b (P .wide * P .high) 0 S l (omega arith) in
     record { first = omega (arith, o .upto, o .most .first); tokens = omega (arith, o .upto, o .most .tokens) }
 
-pub both-are : {e : Ended} {r : SymbolCounts} {E F : Total} → (e ≡ E .ended) × (r ≡ E .reads) → E ≡ F → (e ≡ F .ended) × (r ≡ F .reads)
+pub both-are : {e : Halted} {r : SymbolCounts} {E F : Total} → (e ≡ E .ended) × (r ≡ E .reads) → E ≡ F → (e ≡ F .ended) × (r ≡ F .reads)
 both-are h g = (h .0 ∙ ap (λ (x : Total). x .ended) g, h .1 ∙ ap (λ (x : Total). x .reads) g)
 
 -- ---- from macroblock k, with the state S and so much read, the rest of the picture gives E
 pub record Going (P : Picture) (E : Total) (k : ℕ) (S : State) (reads : SymbolCounts) : Type 0 where
   pub rest : ℕ
   pub sum : k + rest ≡ P .wide * P .high
-  pub same : runOf rest P k S ≡ E .ended
+  pub same : haltOf rest P k S ≡ E .ended
   pub paid : plus reads (readsFrom rest P k S) ≡ E .reads
   pub live : Live P S
 
@@ -78,18 +80,18 @@ module _ {P : Picture} {E : Total} {k : ℕ} {S : State} {reads : SymbolCounts} 
   module _ {n : SymbolCounts} (j : n ≡ plus reads w) where
     -- a turn that ends the picture
     pub going-refused : (T : Turned) → T ≡ turned (P .form) (S .left) k (columnOf P k) (S .mem) (stepAt P k S) → (finishNumberOf (T .answer) ≡ 0 → ⊥) → {d : Decoded} → d ≡ stoppedOf (T .answer) k
-        → (record { answer = d; mem = T .mem } ≡ E .ended) × (n ≡ E .reads)
+        → (record { answer = d; state = stateOf (S .reader) (S .readers) (S .left) (T .mem) } ≡ E .ended) × (n ≡ E .reads)
     going-refused T e z {d} q = go (g .rest) (g .sum) (g .same) (g .paid) (stepAt P k S) refl e
       where
-        at : (t : Step) → T ≡ turned (P .form) (S .left) k (columnOf P k) (S .mem) t → _≡_ {A = Ended} (record { answer = d; mem = T .mem }) (let y = turned (P .form) (S .left) k (columnOf P k) (S .mem) t in record { answer = stoppedOf (y .answer) k; mem = y .mem })
-        at t e = ap (λ (x : Decoded). record { answer = x; mem = T .mem }) q ∙ ap (λ (y : Turned). record { answer = stoppedOf (y .answer) k; mem = y .mem }) e
+        at : (t : Step) → T ≡ turned (P .form) (S .left) k (columnOf P k) (S .mem) t → _≡_ {A = Halted} (record { answer = d; state = stateOf (S .reader) (S .readers) (S .left) (T .mem) }) (let y = turned (P .form) (S .left) k (columnOf P k) (S .mem) t in record { answer = stoppedOf (y .answer) k; state = stateOf (S .reader) (S .readers) (S .left) (y .mem) })
+        at t e = ap (λ (x : Decoded). record { answer = x; state = stateOf (S .reader) (S .readers) (S .left) (T .mem) }) q ∙ ap (λ (y : Turned). record { answer = stoppedOf (y .answer) k; state = stateOf (S .reader) (S .readers) (S .left) (y .mem) }) e
 
-        go : (m : ℕ) → k + m ≡ P .wide * P .high → runOf m P k S ≡ E .ended → plus reads (readsFrom m P k S) ≡ E .reads → (t : Step) → stepAt P k S ≡ t → T ≡ turned (P .form) (S .left) k (columnOf P k) (S .mem) t
-            → (record { answer = d; mem = T .mem } ≡ E .ended) × (n ≡ E .reads)
+        go : (m : ℕ) → k + m ≡ P .wide * P .high → haltOf m P k S ≡ E .ended → plus reads (readsFrom m P k S) ≡ E .reads → (t : Step) → stepAt P k S ≡ t → T ≡ turned (P .form) (S .left) k (columnOf P k) (S .mem) t
+            → (record { answer = d; state = stateOf (S .reader) (S .readers) (S .left) (T .mem) } ≡ E .ended) × (n ≡ E .reads)
         go zero a b c t u e = absurd (omega arith)
         go (suc m) a b c (finished x) u e = absurd (z (ap (λ (y : Turned). finishNumberOf (y .answer)) e))
-        go (suc m) a b c no-modes u e = (at no-modes e ∙ sym (run-no-modes m P k S u) ∙ b, j ∙ ap (plus reads) (v ∙ sym (reads-no-modes m P k S u)) ∙ c)
-        go (suc m) a b c no-tokens u e = (at no-tokens e ∙ sym (run-no-tokens m P k S u) ∙ b, j ∙ ap (plus reads) (v ∙ sym (reads-no-tokens m P k S u)) ∙ c)
+        go (suc m) a b c no-modes u e = (at no-modes e ∙ sym (halt-no-modes m P k S u) ∙ b, j ∙ ap (plus reads) (v ∙ sym (reads-no-modes m P k S u)) ∙ c)
+        go (suc m) a b c no-tokens u e = (at no-tokens e ∙ sym (halt-no-tokens m P k S u) ∙ b, j ∙ ap (plus reads) (v ∙ sym (reads-no-tokens m P k S u)) ∙ c)
 
     -- a turn that goes on
     pub going-next : (T : Turned) → T ≡ turned (P .form) (S .left) k (columnOf P k) (S .mem) (stepAt P k S) → {r : Readers} → T .answer ≡ F.Done r
@@ -106,7 +108,7 @@ module _ {P : Picture} {E : Total} {k : ℕ} {S : State} {reads : SymbolCounts} 
         number : (u : Step) → T ≡ turned (P .form) (S .left) k (columnOf P k) (S .mem) u → 0 ≡ finishNumberOf (turned (P .form) (S .left) k (columnOf P k) (S .mem) u .answer)
         number u e = sym (ap finishNumberOf f) ∙ ap (λ (y : Turned). finishNumberOf (y .answer)) e
 
-        go : (m : ℕ) → k + m ≡ P .wide * P .high → runOf m P k S ≡ E .ended → plus reads (readsFrom m P k S) ≡ E .reads → (u : Step) → stepAt P k S ≡ u → T ≡ turned (P .form) (S .left) k (columnOf P k) (S .mem) u
+        go : (m : ℕ) → k + m ≡ P .wide * P .high → haltOf m P k S ≡ E .ended → plus reads (readsFrom m P k S) ≡ E .reads → (u : Step) → stepAt P k S ≡ u → T ≡ turned (P .form) (S .left) k (columnOf P k) (S .mem) u
             → Going P E (k + 1) (record { reader = r .first; readers = set (S .readers) p (r .token); left = T .left; mem = T .mem }) n
         go zero a b d u t e = absurd (omega arith)
         go (suc m) a b d (finished x) t e =
@@ -117,7 +119,7 @@ module _ {P : Picture} {E : Total} {k : ℕ} {S : State} {reads : SymbolCounts} 
             (record {
               rest = m;
               sum = omega arith;
-              same = sym (run-finished m P k S x t) ∙ b;
+              same = sym (halt-finished m P k S x t) ∙ b;
               paid = ap (λ (q : SymbolCounts). plus q y) j ∙ plus-plus reads w y ∙ ap (λ (q : SymbolCounts). plus reads (plus q y)) v ∙ ap (plus reads) (sym (reads-finished m P k S x t)) ∙ d;
               live = live-next P S k s (g .live) h x (z x t);
             })
@@ -125,20 +127,17 @@ module _ {P : Picture} {E : Total} {k : ℕ} {S : State} {reads : SymbolCounts} 
         go (suc m) a b d no-tokens t e = absurd (let n = number no-tokens e in omega arith)
 
 pub going-end : {P : Picture} {E : Total} {k : ℕ} {S : State} {reads : SymbolCounts} → Going P E k S reads → P .wide * P .high ≤ k → {d : Decoded} → d ≡ D.Whole (P .wide * P .high)
-    → (record { answer = d; mem = S .mem } ≡ E .ended) × (reads ≡ E .reads)
+    → (record { answer = d; state = S } ≡ E .ended) × (reads ≡ E .reads)
 going-end {P} {E} {k} {S} {reads} g h {d} q = go (g .rest) (g .sum) (g .same) (g .paid)
   where
-    go : (m : ℕ) → k + m ≡ P .wide * P .high → runOf m P k S ≡ E .ended → plus reads (readsFrom m P k S) ≡ E .reads → (record { answer = d; mem = S .mem } ≡ E .ended) × (reads ≡ E .reads)
+    go : (m : ℕ) → k + m ≡ P .wide * P .high → haltOf m P k S ≡ E .ended → plus reads (readsFrom m P k S) ≡ E .reads → (record { answer = d; state = S } ≡ E .ended) × (reads ≡ E .reads)
     go zero a b e =
         let c : P .wide * P .high ≡ k = omega arith in
         let z : reads ≡ plus reads noReads = λ i. record { first = sym (add-zero (reads .first)) i; tokens = sym (add-zero (reads .tokens)) i } in (
-          ap (λ (x : Decoded). record { answer = x; mem = S .mem }) (q ∙ ap D.Whole c) ∙ sym (run-none P k S) ∙ b,
+          ap (λ (x : Decoded). record { answer = x; state = S }) (q ∙ ap D.Whole c) ∙ sym (halt-none P k S) ∙ b,
           z ∙ ap (plus reads) (sym (reads-none P k S)) ∙ e,
         )
     go (suc m) a b e = absurd (omega arith)
-
-abbrev pub stateOf : Reader → List Reader → Context → Memory → State
-stateOf r l c m = record { reader = r; readers = l; left = c; mem = m }
 
 -- what holds where a row begins
 pub record AtRow (P : Picture) (E : Total) (k : ℕ) (answer : Decoded) (row : ℕ) (S : State) (reads : SymbolCounts) : Type 0 where

@@ -8,3 +8,5 @@ pub mod CallLaws
 pub mod FinalLaws
 pub mod Counts
 pub mod CountsLaws
+pub mod Halt
+pub mod HaltLaws

@@ -11,7 +11,7 @@ ghost use mathlib.Core.Path.{_≡_};
 ghost use Rattle.picture.specs.Checks.{callOf, refusalOf};
 
 // The number of the first check that fails, or 0. Of the lent memory only the sizes are given, since no check looks into it.
-pub(crate) fn refusal(bytes: &[u8], tile: Tile, header: &[i32], sizes: Sizes) -> u32
+pub fn refusal(bytes: &[u8], tile: Tile, header: &[i32], sizes: Sizes) -> u32
     ensures { λ r. ⌜ r ≡ refusalOf (callOf (now (bytes .entry)) tile (now (header .entry))) sizes ⌝ }
 {
     let w = tile.width;

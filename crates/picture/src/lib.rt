@@ -1,27 +1,31 @@
 // The picture: the argument checks (checks), one macroblock in its place (turn), all of them in order (rows), and the call.
-mod checks;
+pub mod checks;
 pub mod rows;
-mod turn;
+pub mod turn;
 
 use crate::checks::refusal;
 use crate::rows::Decoded;
 use crate::rows::PictureRead;
+use crate::rows::PictureStop;
 use crate::rows::rows;
 use coefficients::block::probabilities;
 use header::frame::take;
 use lent::memory::blank;
 use lent::sizes::Sizes;
 use macroblock::arguments::SymbolCounts;
+use modes::contexts::Context;
 use tile::Tile;
+use tile::partitions::openers;
 ghost use mathlib.Core.Path.{_≡_};
 ghost use Rattle.lent.specs.Memory.{memoryOf};
 ghost use Rattle.picture.specs.Checks.{callOf};
 ghost use Rattle.picture.specs.Picture.{endedOf, pictureOf};
 ghost use Rattle.picture.specs.Counts.{costOf};
+ghost use Rattle.picture.specs.Halt.{haltedAt, haltedOf};
 
-// The picture call. Lent: w*h bytes of Y, (w/2)*(h/2) of U and V, 4 bytes a macroblock column, 20 and 6 bytes a macroblock. It also says
-// how many symbols were read.
-pub fn decode(
+// The picture call, with the state that it stopped in, for a call that goes on from there. Where an argument is refused that is the state
+// before the first macroblock.
+pub fn halt(
     bytes: &[u8],
     tile: Tile,
     header: &[i32],
@@ -31,10 +35,10 @@ pub fn decode(
     columns: &mut [u8],
     modes: &mut [u8],
     strengths: &mut [u8],
-) -> PictureRead
-    ensures { λ q. ⌜ (endedOf (q .answer)
+) -> PictureStop
+    ensures { λ q. ⌜ (haltedAt (q .answer) (q .reader) (q .readers) (q .left)
         (memoryOf (now (y .exit)) (now (u .exit)) (now (v .exit)) (now (columns .exit)) (now (modes .exit)) (now (strengths .exit)))
-        ≡ pictureOf (callOf (now (bytes .entry)) tile (now (header .entry)))
+        ≡ haltedOf (callOf (now (bytes .entry)) tile (now (header .entry)))
         (memoryOf (now (y .entry)) (now (u .entry)) (now (v .entry))
         (now (columns .entry)) (now (modes .entry)) (now (strengths .entry))))
         × (q .reads ≡ costOf (callOf (now (bytes .entry)) tile (now (header .entry)))
@@ -55,12 +59,16 @@ pub fn decode(
         },
     );
     if bad != 0 {
-        return PictureRead {
+        let first = tile.reader;
+        return PictureStop {
             answer: Decoded::Refused(bad),
             reads: SymbolCounts {
                 first: 0,
                 tokens: 0,
             },
+            reader: first,
+            readers: openers(bytes, tile),
+            left: Context::empty(),
         };
     }
     blank(
@@ -87,4 +95,35 @@ pub fn decode(
         &mut modes[..],
         &mut strengths[..],
     )
+}
+
+// The picture call. Lent: w*h bytes of Y, (w/2)*(h/2) of U and V, 4 bytes a macroblock column, 20 and 6 bytes a macroblock. It also says
+// how many symbols were read.
+pub fn decode(
+    bytes: &[u8],
+    tile: Tile,
+    header: &[i32],
+    y: &mut [u8],
+    u: &mut [u8],
+    v: &mut [u8],
+    columns: &mut [u8],
+    modes: &mut [u8],
+    strengths: &mut [u8],
+) -> PictureRead
+    ensures { λ q. ⌜ (endedOf (q .answer)
+        (memoryOf (now (y .exit)) (now (u .exit)) (now (v .exit)) (now (columns .exit)) (now (modes .exit)) (now (strengths .exit)))
+        ≡ pictureOf (callOf (now (bytes .entry)) tile (now (header .entry)))
+        (memoryOf (now (y .entry)) (now (u .entry)) (now (v .entry))
+        (now (columns .entry)) (now (modes .entry)) (now (strengths .entry))))
+        × (q .reads ≡ costOf (callOf (now (bytes .entry)) tile (now (header .entry)))
+        (memoryOf (now (y .entry)) (now (u .entry)) (now (v .entry))
+        (now (columns .entry)) (now (modes .entry)) (now (strengths .entry)))) ⌝ }
+{
+    let stop = halt(bytes, tile, header, y, u, v, columns, modes, strengths);
+    let answer = stop.answer;
+    let reads = stop.reads;
+    PictureRead {
+        answer: answer,
+        reads: reads,
+    }
 }

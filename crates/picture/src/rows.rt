@@ -7,6 +7,7 @@ use macroblock::arguments::Readers;
 use macroblock::arguments::SymbolCounts;
 use macroblock::whole::Finish;
 use modes::contexts::Context;
+use reader::boolean::Reader;
 use tile::Tile;
 use tile::partitions::openers;
 use tile::partitions::part;
@@ -16,7 +17,8 @@ ghost use mathlib.Core.Path.{_≡_};
 ghost use Rattle.tile.specs.Checks.{blocksOf};
 ghost use Rattle.lent.specs.Memory.{memoryOf};
 ghost use Rattle.lent.specs.Records.{packed};
-ghost use Rattle.picture.specs.Picture.{cutOut, endedOf, numberOf, runOf, startOf, stoppedOf, valuesOf};
+ghost use Rattle.picture.specs.Picture.{cutOut, numberOf, startOf, stoppedOf, valuesOf};
+ghost use Rattle.picture.specs.Halt.{haltedAt, haltOf};
 ghost use Rattle.macroblock.specs.Counts.{AtMost};
 ghost use Rattle.picture.specs.Counts.{plus, readsFrom};
 ghost use Rattle.picture.specs.PictureLaws.{Shared, Live};
@@ -61,6 +63,16 @@ pub struct PictureRead {
     pub reads: SymbolCounts,
 }
 
+// The same, with what the macroblock found that it stopped at: the reader of the first partition, those of the token partitions, and what
+// lies to the left.
+pub struct PictureStop {
+    pub answer: Decoded,
+    pub reads: SymbolCounts,
+    pub reader: Reader,
+    pub readers: [Reader; 8],
+    pub left: Context,
+}
+
 // Two counts of a picture of at most 1024 by 1024 macroblocks.
 fn plus(a: SymbolCounts, b: SymbolCounts) -> SymbolCounts
     requires { ⌜ AtMost 1048576 (plus a b) ⌝ }
@@ -96,13 +108,13 @@ pub(crate) fn rows(
     columns: &mut [u8],
     modes: &mut [u8],
     strengths: &mut [u8],
-) -> PictureRead
+) -> PictureStop
     requires { ⌜ Shared (cutOut packed (now bytes) tile frame (now table)) ⌝ }
     requires { ⌜ Live (cutOut packed (now bytes) tile frame (now table))
         (startOf (now bytes) tile (memoryOf (now y) (now u) (now v) (now columns) (now modes) (now strengths))) ⌝ }
-    ensures { λ q. ⌜ (endedOf (q .answer)
+    ensures { λ q. ⌜ (haltedAt (q .answer) (q .reader) (q .readers) (q .left)
         (memoryOf (now (y .exit)) (now (u .exit)) (now (v .exit)) (now (columns .exit)) (now (modes .exit)) (now (strengths .exit)))
-        ≡ runOf (blocksOf (tile .width) (tile .height))
+        ≡ haltOf (blocksOf (tile .width) (tile .height))
         (cutOut packed (now (bytes .entry)) tile frame (now (table .entry))) 0
         (startOf (now (bytes .entry)) tile
         (memoryOf (now (y .entry)) (now (u .entry)) (now (v .entry))
@@ -167,8 +179,11 @@ pub(crate) fn rows(
             k = k + 1;
         }
     }
-    PictureRead {
+    PictureStop {
         answer: answer,
         reads: reads,
+        reader: r,
+        readers: readers,
+        left: left,
     }
 }

@@ -29,7 +29,7 @@ pub(crate) struct Ending {
 }
 
 // What macroblock k is decoded with: its two readers, what it shares with all, what lies to its left, its place.
-pub(crate) struct Task {
+pub struct Task {
     pub readers: Readers,
     pub frame: Frame,
     pub left: Context,
@@ -38,7 +38,7 @@ pub(crate) struct Task {
 }
 
 // At column 0 nothing lies to the left.
-fn beside(column: usize, left: Context) -> Context
+pub fn beside(column: usize, left: Context) -> Context
     ensures { λ r. ⌜ r ≡ besideOf column left ⌝ }
 {
     if column == 0 {

@@ -1,6 +1,7 @@
 -- What is promised of deblocking (request M-100): how far an edge reaches, which arguments are refused, that no sample of an unfinished
 -- macroblock moves, and demand 3: what stands in token partition p decides nothing in the macroblock rows above row p, but for the lowest
 -- three sample rows of each plane in row p-1. DeblockedLaws proves each: `edge-reaches`, `deblock-refused`, `grey-stays`, `isolated-deblocked`.
+-- The last two are said of the memory that a call has left, so that they serve the rescue call too: RescueDeblockedLaws.
 use Prim.Native.Nat.{ℕ, _+_, _*_, _/_, _≤_, _<_}
 use mathlib.Core.Bool.{Bool}
 use mathlib.Core.List.{List}
@@ -12,12 +13,12 @@ use Rattle.macroblock.specs.Macroblock.{Planes}
 use Rattle.lent.specs.Memory.{Memory}
 use Rattle.tile.specs.Checks.{Sides}
 use Rattle.picture.specs.Checks.{Call}
-use Rattle.picture.specs.Picture.{pictureOf, planesIn}
+use Rattle.picture.specs.Picture.{planesIn}
 use Rattle.deblock.specs.declared.edges.Edge.{Edge}
 use Rattle.deblock.specs.declared.Deblocked.the-variants.{Done}
 use Rattle.deblock.specs.Deblock.{sweepOf, DeblockLengths, Outcome, deblockOf, deblockNumberOf}
 use Rattle.promises.specs.Places.{Plane, luma, blue, red, planeSide, blockAt}
-use Rattle.promises.specs.Grey.{InPlane, done}
+use Rattle.promises.specs.Grey.{InPlane}
 use Rattle.promises.specs.Isolation.{SameTokens}
 
 -- ---- THE PROMISE of one edge of n positions. Sample k of position j is p3, p2, p1, p0 for k = 0 to 3 and q0, q1, q2, q3 for k = 4 to 7
@@ -49,9 +50,9 @@ pub record DeblockRefused (d : Planes) (s : List ℕ) (w h : ℕ) (simple : Bool
   pub limit : Sides w h → DeblockSized d s w h → (k : ℕ) → k < recordsIn strengthWidth s → 189 < strengthAt s k .limit → numbered d s w h simple ≡ 11
   pub none : Sides w h → DeblockSized d s w h → ((k : ℕ) → k < recordsIn strengthWidth s → strengthAt s k .limit ≤ 189) → numbered d s w h simple ≡ 0
 
--- ---- the deblocking call on what the picture call leaves
-abbrev pub deblockedOf : Call → Memory → Bool → Outcome
-deblockedOf t m simple = let d = pictureOf t m .mem in deblockOf (planesIn d) (d .strengths) (t .tile .width) (t .tile .height) simple
+-- ---- the deblocking call on the lent memory that a call for the tile has left
+abbrev pub deblockedOf : Call → (left : Memory) → Bool → Outcome
+deblockedOf t left simple = deblockOf (planesIn left) (left .strengths) (t .tile .width) (t .tile .height) simple
 
 -- one of the three
 abbrev pub plane : Plane → Planes → List ℕ
@@ -60,22 +61,22 @@ plane blue d = d .u
 plane red d = d .v
 
 -- the sample at column c of row r of a plane after it
-abbrev pub sampleAfter : Call → Memory → Bool → Plane → (c r : ℕ) → ℕ
-sampleAfter t m simple a c r = sampleAt (plane a (deblockedOf t m simple .planes)) (t .tile .width / 16 * planeSide a) c r
+abbrev pub sampleAfter : Call → (left : Memory) → Bool → Plane → (c r : ℕ) → ℕ
+sampleAfter t left simple a c r = sampleAt (plane a (deblockedOf t left simple .planes)) (t .tile .width / 16 * planeSide a) c r
 
--- THE PROMISE, after 0, 6 and 7: it is never refused; and no sample of an unfinished macroblock moves, so that grey stays grey
-pub record GreyStays (t : Call) (m : Memory) (simple : Bool) : Type 0 where
-  pub answer : deblockedOf t m simple .answer ≡ Done
-  pub grey : (a : Plane) (c r : ℕ) → InPlane t a c r → done t m ≤ blockAt (t .tile .width / 16) a c r → sampleAfter t m simple a c r ≡ 128
+-- THE PROMISE of memory whose macroblocks are grey from number k on: it is never refused; and no sample of those moves, so that grey stays grey
+pub record GreyStays (t : Call) (left : Memory) (k : ℕ) (simple : Bool) : Type 0 where
+  pub answer : deblockedOf t left simple .answer ≡ Done
+  pub grey : (a : Plane) (c r : ℕ) → InPlane t a c r → k ≤ blockAt (t .tile .width / 16) a c r → sampleAfter t left simple a c r ≡ 128
 
--- THE PROMISE, of the calls for two tiles alike in all but the bytes of token partition p
-pub record IsolatedDeblocked (p : ℕ) (t u : Call) (m n : Memory) (simple : Bool) : Type 0 where
-  -- what the picture call leaves is never refused
-  pub first : deblockedOf t m simple .answer ≡ Done
-  pub second : deblockedOf u n simple .answer ≡ Done
+-- THE PROMISE of what is left for two tiles alike in all but the bytes of token partition p
+pub record IsolatedDeblocked (p : ℕ) (t u : Call) (one two : Memory) (simple : Bool) : Type 0 where
+  -- neither is refused
+  pub first : deblockedOf t one simple .answer ≡ Done
+  pub second : deblockedOf u two simple .answer ≡ Done
   -- the same samples in all macroblock rows above row p, the lowest three sample rows excepted
-  pub samples : (a : Plane) (c r : ℕ) → c < t .tile .width / 16 * planeSide a → r + 3 < p * planeSide a → sampleAfter t m simple a c r ≡ sampleAfter u n simple a c r
+  pub samples : (a : Plane) (c r : ℕ) → c < t .tile .width / 16 * planeSide a → r + 3 < p * planeSide a → sampleAfter t one simple a c r ≡ sampleAfter u two simple a c r
   -- if no row p exists, or nothing differs, or partition p is past the count, all agree
-  pub no-row : t .tile .height / 16 ≤ p → deblockedOf t m simple ≡ deblockedOf u n simple
-  pub no-difference : SameTokens t u p → deblockedOf t m simple ≡ deblockedOf u n simple
-  pub ignored : t .tile .count ≤ p → deblockedOf t m simple ≡ deblockedOf u n simple
+  pub no-row : t .tile .height / 16 ≤ p → deblockedOf t one simple ≡ deblockedOf u two simple
+  pub no-difference : SameTokens t u p → deblockedOf t one simple ≡ deblockedOf u two simple
+  pub ignored : t .tile .count ≤ p → deblockedOf t one simple ≡ deblockedOf u two simple

@@ -52,17 +52,23 @@ use Rattle.macroblock.specs.declared.arguments.Around.{Around}
 use Rattle.macroblock.specs.Counts.{decodeReads}
 use Rattle.macroblock.specs.Macroblock as Macroblock
 use Rattle.macroblock.specs.Macroblock.{planesOf}
+use Rattle.macroblock.specs.Rebuilt.{rebuildCallOf}
 use Rattle.filter.specs.Strengths.{strengthAnswer, strengthFine}
 use Rattle.header.specs.declared.frame.Frame.{Frame}
 use Rattle.filter.specs.declared.strengths.Strength.{Strength}
-use Rattle.picture.specs.Checks.{callOf}
+use Rattle.picture.specs.Checks.{callOf, refusalOf}
 use Rattle.lent.specs.Memory.{memoryOf, filled, blankOf}
 use Rattle.casefile.specs.Run.{ranOf}
 use Rattle.deblock.specs.Deblock.{deblockOf}
 use Rattle.hookbarley.specs.Calls.{calledOf, deblockCalledOf, filteredOf}
 use Rattle.hookbarley.specs.ExplainCalls.{explainCalledOf}
 use Rattle.picture.specs.declared.rows.Decoded.{Decoded}
-use Rattle.picture.specs.Picture.{numberOf, pictureOf, valuesOf}
+use Rattle.picture.specs.Picture.{besideOf, numberOf, pictureOf, valuesOf}
+use Rattle.picture.specs.Halt.{haltedOf}
+use Rattle.lent.specs.declared.sizes.Sizes.{Sizes}
+use Rattle.rescue.specs.declared.Rescued.{Rescued}
+use Rattle.rescue.specs.Rescue.{rescueOf, rescueNumberOf, savedCountOf}
+use Rattle.hookbarley.specs.RescueCalls.{rescueCalledOf}
 use Rattle.picture.specs.Counts.{costOf}
 use Rattle.hookbarley.specs.FrameCalls.{frameCalledOf}
 use Rattle.hookbarley.specs.WebpCalls.{webpFoundOf, webpWrappedOf}
@@ -452,7 +458,19 @@ macroblock-decode first tokens readers frame table around place y u v = determin
 pub macroblock-decode-reads : (first tokens : List ℕ) (readers : Readers) (frame : Frame) (table : List ℕ) (around : Around) (place : Place) (y u v : List ℕ) → One (λ o. o ≡ decodeReads first tokens readers frame table around place (planesOf y u v))
 macroblock-decode-reads first tokens readers frame table around place y u v = determined (decodeReads first tokens readers frame table around place (planesOf y u v))
 
+-- macroblock::rebuilt::rebuild
+pub macroblock-rebuild : (first : List ℕ) (readers : Readers) (frame : Frame) (around : Around) (place : Place) (y u v : List ℕ) → One (λ o. o ≡ rebuildCallOf first readers frame around place (planesOf y u v))
+macroblock-rebuild first readers frame around place y u v = determined (rebuildCallOf first readers frame around place (planesOf y u v))
+
 -- ---- picture
+-- picture::checks::refusal
+pub picture-refusal : (bytes : List ℕ) (tile : Tile) (header : List ℤ) (sizes : Sizes) → One (λ o. o ≡ refusalOf (callOf bytes tile header) sizes)
+picture-refusal bytes tile header sizes = determined (refusalOf (callOf bytes tile header) sizes)
+
+-- picture::turn::beside
+pub picture-beside : (column : ℕ) (left : Context) → One (λ o. o ≡ besideOf column left)
+picture-beside column left = determined (besideOf column left)
+
 -- picture::rows::Decoded::number
 pub picture-number : (self : Decoded) → One (λ o. o ≡ numberOf self)
 picture-number self = determined (numberOf self)
@@ -460,6 +478,15 @@ picture-number self = determined (numberOf self)
 -- picture::rows::Decoded::finished
 pub picture-finished : (self : Decoded) → One (λ o. o ≡ valuesOf self)
 picture-finished self = determined (valuesOf self)
+
+-- picture::halt
+pub picture-halt : (bytes : List ℕ) (tile : Tile) (header : List ℤ) (y u v columns modes strengths : List ℕ)
+    → One (λ o. o ≡ haltedOf (callOf bytes tile header) (memoryOf y u v columns modes strengths))
+picture-halt bytes tile header y u v columns modes strengths = determined (haltedOf (callOf bytes tile header) (memoryOf y u v columns modes strengths))
+
+-- picture::halt
+pub picture-halt-reads : (bytes : List ℕ) (tile : Tile) (header : List ℤ) (y u v columns modes strengths : List ℕ) → One (λ o. o ≡ costOf (callOf bytes tile header) (memoryOf y u v columns modes strengths))
+picture-halt-reads bytes tile header y u v columns modes strengths = determined (costOf (callOf bytes tile header) (memoryOf y u v columns modes strengths))
 
 -- picture::decode
 pub picture-decode : (bytes : List ℕ) (tile : Tile) (header : List ℤ) (y u v columns modes strengths : List ℕ)
@@ -474,6 +501,20 @@ picture-decode-reads bytes tile header y u v columns modes strengths = determine
 -- deblock::deblock
 pub deblock-deblock : (y u v strengths : List ℕ) (width height : ℕ) (simple : Bool) → One (λ o. o ≡ deblockOf (record { y = y; u = u; v = v }) strengths width height simple)
 deblock-deblock y u v strengths width height simple = determined (deblockOf (record { y = y; u = u; v = v }) strengths width height simple)
+
+-- ---- rescue
+-- rescue::Rescued::number
+pub rescue-number : (self : Rescued) → One (λ o. o ≡ rescueNumberOf self)
+rescue-number self = determined (rescueNumberOf self)
+
+-- rescue::Rescued::saved
+pub rescue-saved : (self : Rescued) → One (λ o. o ≡ savedCountOf self)
+rescue-saved self = determined (savedCountOf self)
+
+-- rescue::rescue
+pub rescue-rescue : (bytes : List ℕ) (tile : Tile) (header : List ℤ) (y u v columns modes strengths marks : List ℕ)
+    → One (λ o. o ≡ rescueOf (callOf bytes tile header) (memoryOf y u v columns modes strengths) marks)
+rescue-rescue bytes tile header y u v columns modes strengths marks = determined (rescueOf (callOf bytes tile header) (memoryOf y u v columns modes strengths) marks)
 
 -- ---- casefile
 -- casefile::run::run
@@ -502,6 +543,10 @@ webp-wrap frame out = determined (wrapOf frame out)
 -- hookbarley::decoding::hookbarley_decode
 pub hookbarley-decode : (bytes : List ℕ) (header : List ℤ) (tile y u v columns modes strengths : List ℕ) → One (λ o. o ≡ calledOf bytes header tile (memoryOf y u v columns modes strengths))
 hookbarley-decode bytes header tile y u v columns modes strengths = determined (calledOf bytes header tile (memoryOf y u v columns modes strengths))
+
+-- hookbarley::rescuing::hookbarley_rescue
+pub hookbarley-rescue : (bytes : List ℕ) (header : List ℤ) (tile y u v columns modes strengths marks : List ℕ) → One (λ o. o ≡ rescueCalledOf bytes header tile (memoryOf y u v columns modes strengths) marks)
+hookbarley-rescue bytes header tile y u v columns modes strengths marks = determined (rescueCalledOf bytes header tile (memoryOf y u v columns modes strengths) marks)
 
 -- hookbarley::deblocking::hookbarley_deblock
 pub hookbarley-deblock : (y u v strengths : List ℕ) (width height simple : ℕ) → One (λ o. o ≡ deblockCalledOf (planesOf y u v) strengths width height simple)

@@ -36,7 +36,7 @@ module _ (wide n k c r : ℕ) (o : k ≡ r / n * wide + c / n → ⊥) where
   same : {a b x y : ℕ} → a ≡ x → b ≡ y → a * wide + b ≡ x * wide + y
   same e f = λ i. e i * wide + f i
 
-  other-block : Outside (k % wide * n) (k / wide * n) n c r
+  pub other-block : Outside (k % wide * n) (k / wide * n) n c r
   other-block = go (lt-or c (k % wide * n)) (lt-or c (k % wide * n + n)) (lt-or r (k / wide * n)) (lt-or r (k / wide * n + n))
     where
       go : (c < k % wide * n) ⊎ (k % wide * n ≤ c) → (c < k % wide * n + n) ⊎ (k % wide * n + n ≤ c) → (r < k / wide * n) ⊎ (k / wide * n ≤ r) → (r < k / wide * n + n) ⊎ (k / wide * n + n ≤ r)

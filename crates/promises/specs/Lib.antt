@@ -29,3 +29,9 @@ pub mod Numbers
 pub mod NumbersLaws
 pub mod Called
 pub mod CalledLaws
+pub mod HaltedLaws
+pub mod Rescue
+pub mod RescueLaws
+pub mod Remade
+pub mod RemadeLaws
+pub mod RescueDeblockedLaws

@@ -60,7 +60,11 @@ use Rattle.frame.specs.Take.{givenHeader, takenOf, intoOf}
 use Rattle.filter.specs.Explain.{explainOf}
 use Rattle.deblock.specs.Deblock as Deblock
 use Rattle.deblock.specs.Deblock.{deblockOf}
-use Rattle.hookbarley.specs.Calls.{flagOf, filteredOf, deblockCalledOf}
+use Rattle.lent.specs.Memory.{Memory}
+use Rattle.macroblock.specs.Rebuilt.{noResidual, legibleOf, rebuildCallOf}
+use Rattle.rescue.specs.Rescue.{rescueOf, rescueNumberOf, savedCountOf}
+use Rattle.hookbarley.specs.Calls.{flagOf, filteredOf, deblockCalledOf, handedCall}
+use Rattle.hookbarley.specs.RescueCalls.{rescueNumbers, rescueCalledOf}
 use Rattle.hookbarley.specs.ExplainCalls.{ruleNumberOf, pairNumberOf, explainCalledOf}
 use Rattle.hookbarley.specs.FrameCalls.{numbersOf, frameCalledOf}
 use Rattle.hookbarley.specs.WebpCalls.{webpFoundOf, webpWrappedOf}
@@ -229,6 +233,11 @@ pub record Numbers : Type 0 where
       (run (modesOf (f .announced) (around .top .modes) (around .left .modes)) first (readers .first))
       (λ m. run (residualOf table (factorsAt f (m .segment)) (m .small) (m .skip) (around .top .flags) (around .left .flags)) tokens (readers .token))
       (Macroblock.macroblockCallOf first tokens readers f table around place p) p (endOf f place p)
+  -- macroblock::rebuilt::rebuild: as if its tokens were there and gave no residual, so never 7
+  pub rebuild : (first : List ℕ) (readers : Readers) (f : Frame) (around : Around) (place : Place) (p : Planes)
+      → Steps (legibleOf first (readers .first) f around && placeFine (length (p .y)) (length (p .u)) (length (p .v)) place)
+      (run (modesOf (f .announced) (around .top .modes) (around .left .modes)) first (readers .first))
+      (λ m. given noResidual (readers .token)) (rebuildCallOf first readers f around place p) p (endOf f place p)
   -- casefile::run::run: 10 and zeros where the file is malformed, else the picture call's own number and k
   pub case-malformed : (s : List ℕ) → wellFormed s ≡ false → (ranOf s .number ≡ 10) × (ranOf s ≡ malformedRan)
   pub case-told : (s : List ℕ) → wellFormed s ≡ true
@@ -257,6 +266,11 @@ pub record Numbers : Type 0 where
       → frameCalledOf b header tile ≡ record { number = 9; header = header; tile = tile }
   pub c-frame : (b : List ℕ) (header : List ℤ) (tile : List ℕ) → eqb (length tile) 28 ≡ true
       → frameCalledOf b header tile ≡ record { number = intoOf b header .answer .number; header = intoOf b header .header; tile = numbersOf (intoOf b header .answer) }
+  -- hookbarley::rescuing::hookbarley_rescue: 9 and nothing changed where there are not 28 numbers, else the number of `rescue`
+  pub c-rescue-room : (b : List ℕ) (header : List ℤ) (tile : List ℕ) (m : Memory) (marks : List ℕ) → eqb (length tile) 28 ≡ false → rescueCalledOf b header tile m marks ≡ rescueNumbers 9 0 m marks
+  pub c-rescue : (b : List ℕ) (header : List ℤ) (tile : List ℕ) (m : Memory) (marks : List ℕ) → eqb (length tile) 28 ≡ true
+      → let e = rescueOf (handedCall b header tile) m marks in
+      rescueCalledOf b header tile m marks ≡ rescueNumbers (rescueNumberOf (e .answer)) (savedCountOf (e .answer)) (e .mem) (e .marks)
   -- hookbarley::deblocking::hookbarley_deblock, webp_find::hookbarley_webp_find, webp_wrap::hookbarley_webp_wrap: the number of the call below
   pub c-deblock : (d : Planes) (s : List ℕ) (w h simple : ℕ)
       → let o = deblockOf d s w h (flagOf simple) in

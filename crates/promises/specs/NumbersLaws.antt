@@ -48,6 +48,8 @@ use Rattle.frame.specs.Take.{givenHeader, takenOf, intoOf}
 use Rattle.hookbarley.specs.Calls.{Filtered, filteredOf, deblockCalledOf}
 use Rattle.hookbarley.specs.ExplainCalls.{ExplainCalled, explainCalledOf}
 use Rattle.hookbarley.specs.FrameCalls.{frameCalledOf}
+use Rattle.hookbarley.specs.RescueCalls.{rescueCalledOf}
+use Rattle.macroblock.specs.Rebuilt.{rebuiltOf, rebuildCallOf}
 use Rattle.hookbarley.specs.WebpCalls.{webpFoundOf, webpWrappedOf}
 use Rattle.webp.specs.Webp.{findOf, foundNumberOf, foundStartOf, foundLengthOf, wrapOf, wrappedNumberOf, wrappedLengthOf}
 use mathlib.Core.Logic.{⊎-elim}
@@ -196,7 +198,7 @@ wrap-numbers frame out = record {
 
 -- ---- THE PROMISE
 pub numbers-bind : Numbers
-unfolding wrap16Of symbolAnswer walkOf walkAnswer extraOf extraAnswer tokenOf tokenAnswer quantizersOf levelAnswer framedOf magnitudeOf numberAnswer signedOf signedAnswer Tokens.blockOf Tokens.blockCallOf Tokens.blockByHeaderOf tableOf transformOf pixelOf strengthAnswer prefixAnswer mainAnswer blockAnswer smallAnswer modesAnswer Residual.residualAnswer Residual.residualCallOf Residual.residualByHeaderOf paintOf recordWritten recordFound digitsOf Macroblock.macroblockCallOf Macroblock.stepOf ranOf intoOf filteredOf explainCalledOf frameCalledOf deblockCalledOf webpFoundOf webpWrappedOf
+unfolding wrap16Of symbolAnswer walkOf walkAnswer extraOf extraAnswer tokenOf tokenAnswer quantizersOf levelAnswer framedOf magnitudeOf numberAnswer signedOf signedAnswer Tokens.blockOf Tokens.blockCallOf Tokens.blockByHeaderOf tableOf transformOf pixelOf strengthAnswer prefixAnswer mainAnswer blockAnswer smallAnswer modesAnswer Residual.residualAnswer Residual.residualCallOf Residual.residualByHeaderOf paintOf recordWritten recordFound digitsOf Macroblock.macroblockCallOf Macroblock.stepOf ranOf intoOf filteredOf explainCalledOf frameCalledOf rescueCalledOf rebuildCallOf rebuiltOf deblockCalledOf webpFoundOf webpWrappedOf
 numbers-bind = record {
   wrap16 = λ v. checked-cond _ Wrap.wrap16NumberOf Wrap.wrap16ValuesOf refl refl refl refl;
   symbol = λ short s r prob. reads _ (symbolOf s r prob) toSymbol (symbolNumberOf short) symbolValuesOf refl refl refl refl (λ b q. (refl, refl));
@@ -229,6 +231,7 @@ numbers-bind = record {
   write-strength = λ mem i t k. checked _ (λ (w : Records.Written). checkedNumberOf (w .answer)) (λ (w : Records.Written). w .mem) refl refl refl refl;
   read-strength = λ mem i. checked _ (λ (t : Records.Taken). checkedNumberOf (t .answer)) (λ (t : Records.Taken). (strengthIn (t .bytes), segmentIn (t .bytes), smallIn (t .bytes))) refl refl refl refl;
   macroblock = λ first tokens readers f table around place p. steps (endOf f place p) _ refl;
+  rebuild = λ first readers f around place p. steps (endOf f place p) _ refl;
   case-malformed = λ s e. (rw (e, ranOf), rw (e, ranOf));
   case-told = λ s e. (rw (e, ranOf), rw (e, ranOf));
   frame-take = frame-numbers;
@@ -240,6 +243,8 @@ numbers-bind = record {
   c-explain = λ e simple edge limit inner threshold after steps. checked _ (λ (c : ExplainCalled). c .number) (λ (c : ExplainCalled). ((c .rule, c .pair), c .after, c .steps)) refl refl refl refl;
   c-frame-room = λ b header tile e. rw (e, frameCalledOf);
   c-frame = λ b header tile e. rw (e, frameCalledOf);
+  c-rescue-room = λ b header tile m marks e. rw (e, rescueCalledOf);
+  c-rescue = λ b header tile m marks e. rw (e, rescueCalledOf);
   c-deblock = λ d s w h simple. refl;
   c-webp-find = λ s. refl;
   c-webp-wrap = λ frame out. refl;

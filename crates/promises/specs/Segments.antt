@@ -1,4 +1,5 @@
--- Request M-106: strength records know their segment. `same-kinds` and `kinds-ignored`, in SegmentsLaws, prove it.
+-- Request M-106: strength records know their segment. `same-kinds` and `kinds-ignored`, in SegmentsLaws, prove it; `rescue-same-kinds`, in
+-- RescueDeblockedLaws, what concerns the rescue call.
 use Prim.Native.Nat.{ℕ, _+_, _*_, _<_}
 use mathlib.Core.List.{List}
 use mathlib.Core.Path.{_≡_}
@@ -7,8 +8,8 @@ use Rattle.lent.specs.Records.{modeWidth, strengthWidth}
 use Rattle.lent.specs.Memory.{Memory}
 use Rattle.promises.specs.Places.{modeByte, strengthByte}
 
--- THE PROMISE of the picture call's memory, after 0, 6 and 7: of every macroblock, finished or not, the strength record's fifth and sixth byte are
--- the segment and the small byte of its mode record, that is its first and its third
+-- THE PROMISE of the memory that the picture call leaves after 0, 6 and 7, and the rescue call after 0: of every macroblock, grey or not, the
+-- strength record's fifth and sixth byte are the segment and the small byte of its mode record, that is its first and its third
 pub record SameKinds (m : Memory) : Type 0 where
   pub segment : (k : ℕ) → strengthByte (k * strengthWidth + 4) m ≡ modeByte (k * modeWidth + 0) m
   pub small : (k : ℕ) → strengthByte (k * strengthWidth + 5) m ≡ modeByte (k * modeWidth + 2) m

@@ -98,7 +98,7 @@ module _ {U : ℕ → Type 0} {P Q : Picture} (t : Twins U P Q) (b : ℕ) (used 
     pub reached : Reached Q T₀ k state
     pub same : Same U S state
 
-  other : {k : ℕ} {S : State} → k ≤ b → Reached P S₀ k S → Other k S
+  pub other : {k : ℕ} {S : State} → k ≤ b → Reached P S₀ k S → Other k S
   other h start = record { state = T₀; reached = start; same = s₀ }
   other h (after {k} {S} {x} r e) =
       let i : Other k S = other (omega arith) r in

@@ -1,133 +1,53 @@
+use mathlib.Core.Path.{_∙_, ap}
+use Rattle.picture.specs.HaltLaws.{endedIn, halted-picture}
 use borrow.Author.Needs.{needs}
-use mathlib.Core.Path.{_≡_, sym, _∙_}
-use Rattle.reader.specs.BooleanLaws.{Bytes}
-use Rattle.lent.specs.Memory.{Memory, memoryOf, sizesOf}
-use Rattle.picture.specs.Checks.{Call, callOf, refusalOf}
-use Rattle.picture.specs.CallLaws.{picture-bad, shared-found, live-found, run-found}
-use Rattle.picture.specs.CountsLaws.{cost-bad, cost-found}
 use Rattle.picture.proofs.decode.Statement.{statement}
 use Rattle.picture.proofs.decode.Tie as tie
 use Rattle.picture.proofs.decode.Reads as reads
 use Rattle.picture.proofs.decode.Lts as lts
-use Rattle.coefficients.proofs.block.probabilities.Reads as probabilities-reads
-use Rattle.picture.proofs.checks.refusal.Reads as refusal-reads
-use Rattle.lent.proofs.memory.blank.Reads as blank-reads
-use Rattle.picture.proofs.rows.rows.Reads as rows-reads
-use Rattle.header.proofs.frame.take.Reads as take-reads
+use Rattle.picture.proofs.halt.Reads as halt-reads
 
--- places: the start, the checks passed, the memory filled, the frame and table made, the loops behind
-abbrev start : tie.After-frame → tie.Start
-start c = c .before .before .before .before .before .before .before .before .before .before .before .before .before .before .before .before .before .before .before .before .before .before .before .before .before .before .before .before .before .before .before .before
+-- src/lib.rt:122:9
+halt-requires : tie.Need-halt-requires
+halt-requires c κs = search needs
 
-abbrev passed : tie.After-frame → tie.Else1
-passed c = c .before .before .before .before .before .before .before .before .before .before .before .before .before .before .before .before .before .before .before .before .before .before .before
-
-abbrev blanked : tie.After-frame → tie.After-blank
-blanked c = c .before .before .before .before .before .before .before .before .before .before .before .before .before .before .before .before
-
-abbrev looped : tie.After-slice-known18 → tie.After-rows
-looped c = c .before .before .before .before .before .before .before .before .before .before .before .before
-
-abbrev framed : tie.After-rows → tie.After-frame
-framed c = c .before .before .before .before .before .before .before .before
-
-abbrev call : tie.Start → Call
-call c = let a = c .args in callOf (a .bytes .now) (a .tile) (a .header .now)
-
-abbrev lent : tie.Start → Memory
-lent c = let a = c .args in memoryOf (a .y .now) (a .u .now) (a .v .now) (a .columns .now) (a .modes .now) (a .strengths .now)
-
-fine : (c : tie.After-frame) → refusalOf (call (start c)) (sizesOf (lent (start c))) ≡ 0
-fine c = sym (passed c .before .refusal .ensures) ∙ passed c .if1 .left
-
-bytes : (c : tie.After-frame) → Bytes (start c .args .bytes .now)
-bytes c i = c .before .before .before .before .before .before .before .before .before .before .before .before .before .before .before .before .before .before .before .before .before .before .before .before .before .before .before .before .before .before .before .shared-slice-known .given i .fits
-
--- src/lib.rt:37:9
-refusal-requires : tie.Need-refusal-requires
-refusal-requires c κs = search needs
-
--- src/lib.rt:49:9
-returns : tie.Need-returns
-returns c =
-    let s = c .before .before .before .before .before .before .before .before .before in
-    (picture-bad (call s) (lent s) (c .before .refusal .ensures) (c .if1 .taken), sym (cost-bad (call s) (lent s) (c .before .refusal .ensures) (c .if1 .taken)))
-
--- src/lib.rt:51:5
-blank-requires : tie.Need-blank-requires
-blank-requires c κs = search needs
-
--- src/lib.rt:59:9
-probabilities-requires : tie.Need-probabilities-requires
-probabilities-requires c κs = search needs
-
--- src/lib.rt:61:9
-take-requires : tie.Need-take-requires
-take-requires c κs = search needs
-
--- src/lib.rt:68:9
-slice-aggregate-rows : tie.Need-slice-aggregate-rows
-slice-aggregate-rows c = search needs
-
--- src/lib.rt:63:5
-rows-requires : tie.Need-rows-requires
-rows-requires c κs =
-    let f = c .before .before .before .before .before .before .before in
-    let t = call (start f) in
-    let m = lent (start f) in
-    let e = fine f in (
-      shared-found t m e (f .before .take .ensures) (f .before .before .before .probabilities .ensures) (blanked f .blank .ensures),
-      live-found t m e (f .before .take .ensures) (f .before .before .before .probabilities .ensures) (blanked f .blank .ensures) (bytes f),
-    )
-
--- src/lib.rt:21:1
+-- src/lib.rt:102:1
 same-length : tie.Need-same-length
-same-length c = looped c .rows .kept .1 .1 .1 .1 .0 ∙ blanked (framed (looped c)) .blank .kept .0
+same-length c = search needs
 
--- src/lib.rt:21:1
+-- src/lib.rt:102:1
 same-length-2 : tie.Need-same-length-2
-same-length-2 c = looped c .rows .kept .1 .1 .1 .1 .1 .0 ∙ blanked (framed (looped c)) .blank .kept .1 .0
+same-length-2 c = search needs
 
--- src/lib.rt:21:1
+-- src/lib.rt:102:1
 same-length-3 : tie.Need-same-length-3
-same-length-3 c = looped c .rows .kept .1 .1 .1 .1 .1 .1 .0 ∙ blanked (framed (looped c)) .blank .kept .1 .1 .0
+same-length-3 c = search needs
 
--- src/lib.rt:21:1
+-- src/lib.rt:102:1
 same-length-4 : tie.Need-same-length-4
-same-length-4 c = looped c .rows .kept .1 .1 .1 .1 .1 .1 .1 .0 ∙ blanked (framed (looped c)) .blank .kept .1 .1 .1 .0
+same-length-4 c = search needs
 
--- src/lib.rt:21:1
+-- src/lib.rt:102:1
 same-length-5 : tie.Need-same-length-5
-same-length-5 c = looped c .rows .kept .1 .1 .1 .1 .1 .1 .1 .1 .0 ∙ blanked (framed (looped c)) .blank .kept .1 .1 .1 .1 .0
+same-length-5 c = search needs
 
--- src/lib.rt:21:1
+-- src/lib.rt:102:1
 same-length-6 : tie.Need-same-length-6
-same-length-6 c = looped c .rows .kept .1 .1 .1 .1 .1 .1 .1 .1 .1 .0 ∙ blanked (framed (looped c)) .blank .kept .1 .1 .1 .1 .1 .0
+same-length-6 c = search needs
 
--- src/lib.rt:21:1
-returns-2 : tie.Need-returns-2
-returns-2 c =
-    let r = looped c in
-    let f = framed r in (
-      run-found (call (start f)) (lent (start f)) (fine f) (f .before .take .ensures) (f .before .before .before .probabilities .ensures) (blanked f .blank .ensures) (r .rows .ensures .0),
-      cost-found (call (start f)) (lent (start f)) (fine f) (f .before .take .ensures) (f .before .before .before .probabilities .ensures) (blanked f .blank .ensures) (r .rows .ensures .1),
-    )
+-- src/lib.rt:102:1
+returns : tie.Need-returns
+returns c = let h = c .before .before .before .before .before .before .before .before .before .before .before .before .before .halt .ensures in (ap endedIn (h .0) ∙ halted-picture _ _, h .1)
 
 pub decode-spec : {M : Type 1} → statement M
 decode-spec =
     tie.close
     (tie.spec
-    refusal-requires
-    returns
-    blank-requires
-    probabilities-requires
-    take-requires
-    slice-aggregate-rows
-    rows-requires
+    halt-requires
     same-length
     same-length-2
     same-length-3
     same-length-4
     same-length-5
     same-length-6
-    returns-2)
+    returns)

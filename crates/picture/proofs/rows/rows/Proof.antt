@@ -10,7 +10,8 @@ use Rattle.tile.specs.Checks.{blocksOf}
 use Rattle.macroblock.specs.Macroblock.{Finished, finished}
 use Rattle.lent.specs.Memory.{Memory, memoryOf}
 use Rattle.lent.specs.Records.{packed}
-use Rattle.picture.specs.Picture.{Picture, State, Ended, cutOut, startOf, rowOf, columnOf, partitionOf, planesIn, stepAt, runOf}
+use Rattle.picture.specs.Halt.{stateOf}
+use Rattle.picture.specs.Picture.{Picture, State, cutOut, startOf, rowOf, columnOf, partitionOf, planesIn, stepAt}
 use Rattle.picture.specs.Turn.{Turned, turnedOf, turned}
 use Rattle.picture.specs.TurnLaws.{Ends}
 use Rattle.macroblock.specs.Counts.{AtMost}
@@ -18,7 +19,7 @@ use Rattle.picture.specs.Counts.{readsAt}
 use Rattle.picture.specs.CountsLaws.{reads-in}
 use Rattle.picture.specs.PictureLaws.{Shared, ready-at, ends-at, laid-in, room-in, turn-at}
 use Rattle.picture.proofs.Answers.{not-done}
-use Rattle.picture.proofs.Turns.{Total, totalOf, AtRow, InRow, Going, KeptAll, live-from, total-most, both-are, going-start, going-able, going-next, going-refused, going-end, row-from, column-from, less-from, next-row, stateOf}
+use Rattle.picture.proofs.Turns.{Total, totalOf, AtRow, InRow, Going, KeptAll, live-from, total-most, both-are, going-start, going-able, going-next, going-refused, going-end, row-from, column-from, less-from, next-row}
 use Rattle.picture.proofs.rows.rows.Statement.{statement}
 use Rattle.picture.proofs.rows.rows.Tie as tie
 use Rattle.picture.proofs.rows.rows.Reads as reads

@@ -1,0 +1,238 @@
+-- The laws of a macroblock that is rebuilt from its modes: what its call asks, which way it goes, what it leaves and what it does not touch.
+use Prim.Native.Nat.{ℕ, _≤_, _<_}
+use mathlib.Core.Path.{_≡_, refl, sym, _∙_, ap, subst}
+use mathlib.Core.Bool.{Bool, true, false, not, _&&_, _||_}
+use mathlib.Core.List.{List}
+use native.Mathlib.Omega.{arith}
+use lib.IntN.{ℤ, pos}
+use lib.ListN.{length, replicate, length-replicate}
+use Rattle.numbers.specs.Lists.{getD-constant}
+use Rattle.numbers.specs.Tests.{both-left, both-right, both-true, both-false}
+use Rattle.reader.specs.declared.boolean.Reader.{Reader}
+use Rattle.reader.specs.Boolean.{Given, given, missing, validOf}
+use Rattle.reader.specs.BooleanLaws.{Bytes, Valid, valid-test, valid-fact}
+use Rattle.reader.specs.Reading.{run}
+use Rattle.reader.specs.ReadingLaws.{Ended, run-valid}
+use Rattle.header.specs.declared.frame.Frame.{Frame}
+use Rattle.header.specs.Frame.{levelAt}
+use Rattle.header.specs.FrameLaws.{Sound}
+use Rattle.filter.specs.Strengths.{strengthFine}
+use Rattle.filter.specs.StrengthsLaws.{strength-fine}
+use Rattle.modes.specs.declared.contexts.Context.{Context}
+use Rattle.modes.specs.Modes.{Macroblock, modesOf}
+use Rattle.modes.specs.ModesLaws.{InRange, modes-within}
+use Rattle.modes.specs.Answers.{eachBelow, contextsOf}
+use Rattle.modes.specs.Contexts.{contextFine}
+use Rattle.modes.specs.ContextsLaws.{contexts-fine}
+use Rattle.transform.specs.Lanes.{macroblockLanes, macroblockBlocks}
+use Rattle.transform.specs.LanesLaws.{blocks-of-squares, squares-zeros}
+use Rattle.residual.specs.Residual.{Model, ModelInRange, Flags}
+use Rattle.residual.specs.ResidualLaws.{initial-whole}
+use Rattle.macroblock.specs.declared.arguments.Place.{Place}
+use Rattle.macroblock.specs.declared.arguments.Readers.{Readers}
+use Rattle.macroblock.specs.declared.arguments.Around.{Around}
+use Rattle.macroblock.specs.declared.whole.Outcome.{Outcome}
+use Rattle.macroblock.specs.declared.whole.Finish.the-variants as F
+use Rattle.macroblock.specs.Macroblock.{Planes, Finished, Step, finished, no-modes, no-tokens, MacroblockCalled, toMacroblockCalled, strengthMade, paintedPlanes, endOf, afterModes, noOutcome, levelsFine, placeFine}
+use Rattle.macroblock.specs.MacroblockLaws.{Laid, Ready, Painting, endOutcome, painting}
+use Rattle.macroblock.specs.DecodeLaws.{FrameSizes, AroundSizes, flags-of, context-test, levels-fact, levels-test, levels-of, laid-test}
+use Rattle.macroblock.specs.StepLaws.{Ends, Elsewhere, finished-is, apart, end-ends, end-outside}
+use Rattle.macroblock.specs.Rebuilt.{noResidual, rebuiltOf, legibleOf, rebuildCallOf}
+
+-- ---- no residual
+no-flags : Flags (replicate 9 0)
+no-flags = record { long = refl; each = λ i. rw (getD-constant {A = ℕ} 9 i 0) (omega arith) }
+
+pub no-residual : ModelInRange noResidual
+no-residual = initial-whole no-flags no-flags
+
+-- by lanes it is zeros too
+pub no-lanes : macroblockBlocks (replicate 384 (pos 0)) ≡ replicate 384 (pos 0)
+no-lanes = ap macroblockBlocks (squares-zeros {l = replicate 384 (pos 0)} {c = replicate 384 (pos 0)} refl refl) ∙ blocks-of-squares (replicate 384 (pos 0)) (length-replicate 384 (pos 0))
+
+pub no-painting : {m : Macroblock} → InRange m → Painting m (macroblockBlocks (replicate 384 (pos 0)))
+no-painting {m} i = rw no-lanes (painting {d = noResidual} i no-residual)
+
+-- ---- what is read, and what it is read by
+pub record Legible (first : List ℕ) (r : Reader) (f : Frame) (around : Around) : Type 0 where
+  pub reader : Valid first r
+  pub contexts : contextsOf (around .top .modes) (around .left .modes) ≡ true
+  pub top : Flags (around .top .flags)
+  pub left : Flags (around .left .flags)
+  pub sound : Sound f
+
+-- whoever could decode it can rebuild it
+pub ready-legible : {first tokens : List ℕ} {readers : Readers} {f : Frame} {table : List ℕ} {around : Around} → Ready first tokens readers f table around → Legible first (readers .first) f around
+ready-legible g = record { reader = g .reader; contexts = g .contexts; top = g .top; left = g .left; sound = g .sound }
+
+module _ (first : List ℕ) (r : Reader) (f : Frame) (around : Around) where
+  pub legible-out : FrameSizes f → AroundSizes around → legibleOf first r f around ≡ true → Legible first r f around
+  unfolding legibleOf
+  legible-out y z e =
+      let top = around .top in
+      let left = around .left in
+      let rest = both-right (validOf first r) _ e in
+      let contexts = both-left (contextFine top && contextFine left) _ rest in
+      let levels = both-right (contextFine top && contextFine left) _ rest in
+      let a = both-left (contextFine top) _ contexts in
+      let b = both-right (contextFine top) _ contexts in
+      record {
+        reader = valid-fact first r (both-left _ _ e);
+        contexts = contexts-fine top left a b;
+        top = flags-of top (z .top) a;
+        left = flags-of left (z .left) b;
+        sound =
+            record {
+              levels = levels-of f (levels-fact (f .large) (y .large) (both-left _ _ levels)) (levels-fact (f .small) (y .small) (both-right (levelsFine (f .large)) _ levels));
+              announced = y .probabilities;
+            };
+      }
+
+  pub legible-test : Legible first r f around → legibleOf first r f around ≡ true
+  unfolding legibleOf
+  legible-test g =
+      both-true (valid-test first r (g .reader))
+      (both-true
+      (both-true
+      (context-test (around .top) (both-left _ _ (g .contexts)) (g .top))
+      (context-test (around .left) (both-right (eachBelow 10 (around .top .modes)) _ (g .contexts)) (g .left)))
+      (both-true (levels-test (f .large) (g .sound .levels false)) (levels-test (f .small) (g .sound .levels true))))
+
+-- ---- as the code makes it
+-- from where the modes are read
+unfoldable pub bareCalled : Frame → Place → Macroblock → (next token : Reader) → Planes → MacroblockCalled
+bareCalled f place m next token p = toMacroblockCalled p (finished (endOf f place p m next noResidual token))
+
+pub bare-done : (f : Frame) (place : Place) (m : Macroblock) (next token : Reader) (p : Planes) {x : Outcome} {z : Planes}
+    → x ≡ endOutcome f m next (replicate 9 0) (replicate 9 0) true token → z ≡ paintedPlanes place m (macroblockBlocks (replicate 384 (pos 0))) p
+    → record { answer = x; planes = z } ≡ bareCalled f place m next token p
+unfolding bareCalled endOf
+bare-done f place m next token p {x} {z} g h =
+    let e : z ≡ paintedPlanes place m (replicate 384 (pos 0)) p = h ∙ ap (λ (c : List ℤ). paintedPlanes place m c p) no-lanes in
+    λ i. record { answer = g i; planes = e i }
+
+module _ (first : List ℕ) (readers : Readers) (f : Frame) (around : Around) (place : Place) (p : Planes) where
+  -- what the grammar of the modes gives
+  abbrev modesRun : Given Macroblock
+  modesRun = run (modesOf (f .announced) (around .top .modes) (around .left .modes)) first (readers .first)
+
+  abbrev call : Step
+  call = rebuiltOf first readers f around place p
+
+  abbrev end : Macroblock → Reader → Finished
+  end m next = endOf f place p m next noResidual (readers .token)
+
+  -- ---- the two ways
+  pub rebuilt-no-modes : modesRun ≡ missing → call ≡ no-modes
+  unfolding rebuiltOf
+  rebuilt-no-modes e = ap (afterModes (λ m next. finished (end m next))) e
+
+  pub rebuilt-done : {m : Macroblock} {q : Reader} → modesRun ≡ given m q → call ≡ finished (end m q)
+  unfolding rebuiltOf
+  rebuilt-done e = ap (afterModes (λ m next. finished (end m next))) e
+
+  pub bare-missing : modesRun ≡ missing → {x : Outcome} → x ≡ noOutcome F.NoModes → record { answer = x; planes = p } ≡ toMacroblockCalled p call
+  bare-missing e g = rw (g, rebuilt-no-modes e)
+
+  pub bare-given : {m : Macroblock} {q : Reader} → modesRun ≡ given m q → bareCalled f place m q (readers .token) p ≡ toMacroblockCalled p call
+  unfolding bareCalled
+  bare-given e = rw (rebuilt-done e)
+
+  -- there is no other
+  by-way : (P : Step → Type 0) → (modesRun ≡ missing → P no-modes) → ((m : Macroblock) (q : Reader) → modesRun ≡ given m q → P (finished (end m q))) → P call
+  by-way P a b = go modesRun refl
+    where
+      go : (g : Given Macroblock) → modesRun ≡ g → P call
+      go (given m q) e = subst P (sym (rebuilt-done e)) (b m q e)
+      go missing e = subst P (sym (rebuilt-no-modes e)) (a e)
+
+  -- it never asks for a token
+  pub rebuilt-never : call ≡ no-tokens → ⊥
+  rebuilt-never = by-way (λ (g : Step). g ≡ no-tokens → ⊥) (λ e k. apart k (omega arith)) (λ m q e k. apart k (omega arith))
+
+  pub rebuilt-refused : call ≡ no-modes → modesRun ≡ missing
+  rebuilt-refused = by-way (λ (g : Step). g ≡ no-modes → modesRun ≡ missing) (λ e k. e) (λ m q e k. absurd (apart k (omega arith)))
+
+  -- its modes were given
+  pub record From (x : Finished) : Type 0 where
+    pub modes : modesRun ≡ given (x .modes) (x .readers .first)
+    pub token : x .readers .token ≡ readers .token
+    pub strengths : x .strength ≡ strengthMade f (x .modes) true
+    pub is : x ≡ end (x .modes) (x .readers .first)
+
+  pub rebuilt-from : {x : Finished} → call ≡ finished x → From x
+  unfolding endOf
+  rebuilt-from {x} =
+      by-way (λ (g : Step). g ≡ finished x → From x) (λ e k. absurd (apart k (omega arith)))
+      (λ m q e k. subst From (finished-is k) (record { modes = e; token = refl; strengths = refl; is = refl }))
+
+  -- ---- a macroblock that is rebuilt
+  module _ (a : Legible first (readers .first) f around) (y : Bytes first) {x : Finished} (e : call ≡ finished x) where
+    abbrev from : From x
+    from = rebuilt-from e
+
+    read : Ended InRange first (readers .first) (x .modes) (x .readers .first)
+    read = run-valid (modes-within (f .announced) (a .sound .announced) (around .top .modes) (around .left .modes)) y (a .reader) (from .modes)
+
+    -- no token is read: the reader of any token partition that it was valid in stays
+    kept : (tokens : List ℕ) → Valid tokens (readers .token) → Ended ModelInRange tokens (readers .token) noResidual (readers .token)
+    kept tokens v = record { value = no-residual; valid = v; later = omega arith }
+
+    -- THE LAW of what it leaves
+    pub rebuilt-ends : (tokens : List ℕ) → Valid tokens (readers .token) → Ends first tokens readers x
+    rebuilt-ends tokens v = subst (Ends first tokens readers) (sym (from .is)) (end-ends f place p (x .modes) noResidual (a .sound) read (kept tokens v))
+
+    -- what it does to the planes
+    pub rebuilt-outside : (tokens : List ℕ) → Valid tokens (readers .token) → Laid place p → Elsewhere place p (x .planes)
+    rebuilt-outside tokens v g = subst (λ (n : Finished). Elsewhere place p (n .planes)) (sym (from .is)) (end-outside f place p (x .modes) noResidual {tokens = tokens} {readers = readers} g read (kept tokens v))
+
+    pub rebuilt-strength : strengthFine (x .strength) ≡ true
+    rebuilt-strength =
+        ap strengthFine (from .strengths)
+        ∙ strength-fine (levelAt f (x .modes .small) (x .modes .segment)) (f .sharp) (x .modes .small || not true) (a .sound .levels (x .modes .small) (x .modes .segment))
+
+  -- ---- the call
+  abbrev fine : Bool
+  fine = placeFine (length (p .y)) (length (p .u)) (length (p .v)) place
+
+  abbrev able : Bool
+  able = legibleOf first (readers .first) f around
+
+  pub rebuild-passed : able ≡ true → fine ≡ true → toMacroblockCalled p call ≡ rebuildCallOf first readers f around place p
+  unfolding rebuildCallOf
+  rebuild-passed a b = rw (both-true a b, rebuildCallOf)
+
+  refused : able && fine ≡ false → {x : Outcome} → x ≡ noOutcome F.Refused → record { answer = x; planes = p } ≡ rebuildCallOf first readers f around place p
+  unfolding rebuildCallOf
+  refused e g = rw (g, e, rebuildCallOf)
+
+  pub rebuild-illegible : able ≡ false → {x : Outcome} → x ≡ noOutcome F.Refused → record { answer = x; planes = p } ≡ rebuildCallOf first readers f around place p
+  rebuild-illegible e = refused (rw e)
+
+  pub rebuild-unlaid : fine ≡ false → {x : Outcome} → x ≡ noOutcome F.Refused → record { answer = x; planes = p } ≡ rebuildCallOf first readers f around place p
+  rebuild-unlaid e = refused (both-false able e)
+
+  -- THE LAW for callers: with good arguments it is the macroblock
+  pub rebuild-good : Legible first (readers .first) f around → Laid place p → rebuildCallOf first readers f around place p ≡ toMacroblockCalled p call
+  rebuild-good a b = sym (rebuild-passed (legible-test first (readers .first) f around a) (laid-test place p b))
+
+-- ---- the token partition's reader decides nothing: with another one, all but that reader is the same
+abbrev pub withToken : Finished → Reader → Finished
+withToken x t = record { modes = x .modes; strength = x .strength; top = x .top; left = x .left; readers = record { first = x .readers .first; token = t }; planes = x .planes }
+
+module _ (first : List ℕ) (readers other : Readers) (f : Frame) (around : Around) (place : Place) (p : Planes) (r : readers .first ≡ other .first) where
+  same-run : modesRun first other f around place p ≡ modesRun first readers f around place p
+  same-run = λ i. run (modesOf (f .announced) (around .top .modes) (around .left .modes)) first (sym r i)
+
+  other-end : (m : Macroblock) (q : Reader) → end first other f around place p m q ≡ withToken (end first readers f around place p m q) (other .token)
+  unfolding endOf
+  other-end m q = refl
+
+  pub rebuilt-token : {x : Finished} → rebuiltOf first readers f around place p ≡ finished x → rebuiltOf first other f around place p ≡ finished (withToken x (other .token))
+  rebuilt-token {x} e =
+      let a = rebuilt-from first readers f around place p e in
+      rebuilt-done first other f around place p (same-run ∙ a .modes)
+      ∙ ap finished (other-end (x .modes) (x .readers .first) ∙ ap (λ (y : Finished). withToken y (other .token)) (sym (a .is)))
+
+  pub rebuilt-token-none : rebuiltOf first readers f around place p ≡ no-modes → rebuiltOf first other f around place p ≡ no-modes
+  rebuilt-token-none e = rebuilt-no-modes first other f around place p (same-run ∙ rebuilt-refused first readers f around place p e)

@@ -1,0 +1,3 @@
+pub mod Rescue
+pub mod ChecksLaws
+pub mod RescueLaws
