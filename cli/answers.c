@@ -32,8 +32,10 @@ const char *words_of(uint32_t number) {
     return number < ANSWERS ? words[number] : "an answer that no call gives";
 }
 
-const char *outcome_of(uint32_t number) {
-    return number == HOOKBARLEY_WHOLE ? "whole" : has_picture(number) ? "cut" : "refused";
+const char *outcome_of(uint32_t number, int rescue) {
+    if (number == HOOKBARLEY_WHOLE) return "whole";
+    if (number == HOOKBARLEY_NO_TOKENS && rescue) return "rescued";
+    return has_picture(number) ? "cut" : "refused";
 }
 
 void print_answer(FILE *out, uint32_t number, const struct picture *p) {
@@ -49,15 +51,25 @@ void print_answer(FILE *out, uint32_t number, const struct picture *p) {
     fprintf(out, ", %zu of %zu finished", p->finished, p->blocks);
 }
 
+/* What follows the finished macroblocks. */
+static void print_rest(FILE *out, const struct picture *p) {
+    size_t soft = p->kept - p->finished, grey = p->blocks - p->kept;
+    if (soft && grey)
+        fprintf(out, "; then %zu soft, %zu grey", soft, grey);
+    else
+        fprintf(out, "; the rest is %s", soft ? "soft" : "grey");
+}
+
 int take_answer(struct tally *tally, const char *path, const struct file *file, uint32_t number, const struct picture *p) {
     if (number < ANSWERS) tally->by[number]++;
     if (has_picture(number)) tally->pictures++;
     if (!number) return STATUS_WHOLE;
     fprintf(stderr, "%s%s: ", isatty(STDERR_FILENO) ? "\033[K" : "", path);
     if (p && file->kind == KIND_IVF) fprintf(stderr, "frame %zu: ", file->frames - 1);
-    fprintf(stderr, "%s: ", outcome_of(number));
+    fprintf(stderr, "%s: ", outcome_of(number, tally->rescue));
     print_answer(stderr, number, p);
-    fprintf(stderr, "%s\n", has_picture(number) ? "; the rest is grey" : "");
+    if (p && has_picture(number)) print_rest(stderr, p);
+    fprintf(stderr, "\n");
     return STATUS_REFUSED;
 }
 
@@ -70,7 +82,7 @@ void print_tally(const struct tally *tally) {
     printf("%zu files, %zu pictures\n", tally->files, tally->pictures);
     for (uint32_t n = 0; n < ANSWERS; n++) {
         if (!tally->by[n]) continue;
-        printf("%8zu  %s: ", tally->by[n], outcome_of(n));
+        printf("%8zu  %s: ", tally->by[n], outcome_of(n, tally->rescue));
         print_answer(stdout, n, NULL);
         printf("\n");
     }

@@ -17,14 +17,15 @@ enum {
 
 /* How often each answer was given. */
 struct tally {
+    int rescue; /* the pictures go through picture_rescue */
     size_t files, pictures, by[ANSWERS];
 };
 
 /* What an answer says. */
 const char *words_of(uint32_t number);
 
-/* "whole", "cut" or "refused": whether there is a picture, and all of it. */
-const char *outcome_of(uint32_t number);
+/* "whole", "rescued", "cut" or "refused": whether there is a picture, and all of it. With `rescue` one whose tokens ran out is rescued. */
+const char *outcome_of(uint32_t number, int rescue);
 
 /* "7, a token partition ran out in macroblock 7 (column 3, row 0), 7 of 256 finished"; `picture` may be NULL. */
 void print_answer(FILE *out, uint32_t number, const struct picture *picture);

@@ -10,6 +10,7 @@ struct options {
     enum filter filter;
     enum form to;   /* FORM_NONE where not given */
     enum tint tint; /* TINT_NONE where not given */
+    int rescue;     /* go on from the modes where tokens run out */
     char **names;   /* the arguments that are not options */
     int count;
 };

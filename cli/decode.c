@@ -11,8 +11,11 @@ static int write_one(FILE *to, const struct options *o, enum form form, const st
 }
 
 static void print_picture(const char *out, enum tint tint, const struct picture *p) {
-    printf("%s: %zu x %zu, %s, %s\n", out, p->tile.true_width, p->tile.true_height, outcome_of(p->number), p->filtered);
+    const char *outcome = outcome_of(p->number, p->marks != NULL);
+    printf("%s: %zu x %zu, %s, %s\n", out, p->tile.true_width, p->tile.true_height, outcome, p->filtered);
     if (tint != TINT_NONE) tint_print(tint, p);
+    if (p->marks && tint != TINT_MARKS) /* whose legend has these numbers */
+        printf("  whole %zu, soft %zu, grey %zu\n", p->finished, p->kept - p->finished, p->blocks - p->kept);
 }
 
 /* Decodes every frame of a file into `out`, which is made when the first picture is there. */
@@ -25,8 +28,9 @@ static int decode_file(const struct options *o, const char *path, const char *ou
     int status = STATUS_WHOLE, good = 1;
     tally->files++;
     if (!file_open(path, &file)) return STATUS_USAGE;
+    file.rescue = o->rescue;
     while (good && file_next(&file, &frame, &number)) {
-        picture_decode(&picture, frame, o->filter);
+        (o->rescue ? picture_rescue : picture_decode)(&picture, frame, o->filter);
         status = worse(status, take_answer(tally, path, &file, picture.number, &picture));
         if (has_picture(picture.number)) {
             if (!to) to = fopen(out, "wb");
@@ -65,7 +69,7 @@ static int differ(char **names, int count) {
 }
 
 static int decode_each(const struct options *o, char **outs, int count, enum form form) {
-    struct tally tally = {0, 0, {0}};
+    struct tally tally = {.rescue = o->rescue};
     int status = STATUS_WHOLE;
     for (int i = 0; i < count; i++) {
         progress(i, count, o->names[i]);
@@ -93,9 +97,10 @@ int decode(const struct options *o) {
     const char *out = o->names[o->count - 1], *dot = strrchr(out, '.');
     int folder = o->count > 2 || is_folder(out);
     enum form form = o->to != FORM_NONE ? o->to : folder ? FORM_PPM : form_of(dot ? dot + 1 : "");
+    if (o->tint == TINT_MARKS && !o->rescue) return usage("--tint marks goes with --rescue", "");
     if (o->tint != TINT_NONE && form != FORM_PPM) return usage("--tint makes a .ppm and no other form", "");
     if (form == FORM_NONE) return usage("OUT is a folder or ends in .yuv, .pgm or .ppm: ", out);
     if (folder) return decode_to_folder(o, out, form);
-    struct tally tally = {0, 0, {0}};
+    struct tally tally = {.rescue = o->rescue};
     return decode_file(o, o->names[0], out, form, &tally, 0);
 }

@@ -63,7 +63,7 @@ int explain(const struct options *o) {
     struct file file;
     struct frame frame;
     struct picture picture;
-    struct tally tally = {0, 0, {0}};
+    struct tally tally = {0};
     uint32_t number;
     int status;
     if (o->count != 2 && o->count != 3) return usage("explain takes an IN and X Y, or an IN and an OUT.ppm or OUT.svg", "");

@@ -64,6 +64,7 @@ int file_open(const char *path, struct file *file) {
     file->kind = kind_of(file->bytes, file->length);
     file->at = 0;
     file->frames = 0;
+    file->rescue = 0;
     return 1;
 }
 
@@ -96,9 +97,27 @@ static int next_of_ivf(struct file *file, struct frame *frame, uint32_t *number)
     return 1;
 }
 
-static int next_of_webp(struct file *file, struct frame *frame, uint32_t *number) {
+/* What is left of the frame in a WebP file that was cut on disk, for --rescue. The library refuses it (18): a size past the end may be a
+ * damaged size. Here the two sizes must agree, so that nothing but the file's end is missing. Else the refusal stands. */
+static int next_of_cut_webp(const struct file *file, struct frame *frame, uint32_t *number) {
+    if (file->length < WEBP_HEAD) return 0;
+    size_t riff = little_endian(file->bytes + 4, 4), chunk = little_endian(file->bytes + 16, 4);
+    if (riff + 8 <= file->length) return 0;
+    if (memcmp(file->bytes + 12, "VP8 ", 4)) {
+        *number = HOOKBARLEY_KIND;
+        return 0;
+    }
+    if (riff != 12 + chunk + chunk % 2) return 0;
+    *number = 0;
+    frame->bytes = file->bytes + WEBP_HEAD;
+    frame->length = file->length - WEBP_HEAD; /* at most `chunk`: what is missing is at least the pad byte */
+    return 1;
+}
+
+static int next_of_webp(const struct file *file, struct frame *frame, uint32_t *number) {
     size_t start, length;
     *number = hookbarley_webp_find(file->bytes, file->length, &start, &length);
+    if (*number == HOOKBARLEY_SIZES && file->rescue) return next_of_cut_webp(file, frame, number);
     if (*number) return 0;
     frame->bytes = file->bytes + start;
     frame->length = length;

@@ -7,12 +7,16 @@
 
 enum kind { KIND_FRAME, KIND_WEBP, KIND_IVF };
 
+/* The bytes of a WebP file before its frame. */
+enum { WEBP_HEAD = 20 };
+
 struct file {
     uint8_t *bytes;
     size_t length;
     enum kind kind; /* by its first four bytes: RIFF, DKIF, or else a bare VP8 frame */
     size_t at;      /* where the next frame is looked for */
     size_t frames;  /* those found so far */
+    int rescue;     /* 0 after file_open; else a WebP file that was cut has the frame's bytes that are there */
 };
 
 struct frame {

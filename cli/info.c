@@ -99,7 +99,7 @@ static int info_file(const char *path, struct tally *tally) {
 }
 
 int info(const struct options *o) {
-    struct tally tally = {0, 0, {0}};
+    struct tally tally = {0};
     int status = STATUS_WHOLE;
     if (o->count < 1) return usage("info takes an IN", "");
     for (int i = 0; i < o->count; i++) status = worse(status, info_file(o->names[i], &tally));

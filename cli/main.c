@@ -23,12 +23,17 @@ static const char help[] =
     "  --unfiltered         the samples before the loop filter\n"
     "  --simple, --normal   this kind of loop filter, whatever the frame says; none where its level is 0\n"
     "  --to FORM            yuv, pgm or ppm, whatever OUT ends in\n"
-    "  --tint KIND          luma with each macroblock coloured by KIND, as .ppm: " TINT_KINDS "\n"
+    "  --rescue             where tokens run out, the rest is rebuilt from its modes: soft instead of grey. Says how many\n"
+    "                       macroblocks are whole, soft and grey. A WebP file that was cut on disk is decoded as far as\n"
+    "                       its bytes go\n"
+    "  --tint KIND          luma with each macroblock coloured by KIND, as .ppm: " TINT_KINDS "; marks\n"
+    "                       (whole, soft, grey) goes with --rescue\n"
     "\n"
     "The pictures of an IVF file follow one another in OUT. A picture that is cut is written all the same: what was\n"
-    "finished, and grey for the rest. Where nothing can be decoded OUT is not made.\n"
+    "finished, and grey for the rest. Where nothing can be decoded OUT is not made. A frame whose bytes end before its\n"
+    "last token partition begins is refused, with --rescue too.\n"
     "\n"
-    "Exit status: 0 every picture is whole; 1 one was refused or cut, said with its number on standard error;\n"
+    "Exit status: 0 every picture is whole; 1 one was refused, cut or rescued, said with its number on standard error;\n"
     "2 wrong usage, or a file that cannot be read or written.\n";
 
 struct command {
@@ -59,6 +64,7 @@ static int parse(struct options *o, char **words, int count) {
         else if (!strcmp(words[i], "--unfiltered")) o->filter = FILTER_NONE;
         else if (!strcmp(words[i], "--simple")) o->filter = FILTER_SIMPLE;
         else if (!strcmp(words[i], "--normal")) o->filter = FILTER_NORMAL;
+        else if (!strcmp(words[i], "--rescue")) o->rescue = 1;
         else if (!strcmp(words[i], "--to") && i + 1 < count && form_of(words[i + 1]) != FORM_NONE) o->to = form_of(words[++i]);
         else if (!strcmp(words[i], "--tint")) {
             i++;
@@ -73,7 +79,7 @@ int main(int argc, char **argv) {
     if (argc < 2) return usage("no command", "");
     if (!strcmp(argv[1], "--help") || !strcmp(argv[1], "help")) return fputs(help, stdout) < 0;
     if (!strcmp(argv[1], "--version")) return puts("hookbarley " HOOKBARLEY_VERSION) < 0;
-    struct options options = {FILTER_CODED, FORM_NONE, TINT_NONE, argv + 2, 0};
+    struct options options = {.filter = FILTER_CODED, .to = FORM_NONE, .tint = TINT_NONE, .names = argv + 2};
     for (size_t i = 0; i < sizeof commands / sizeof *commands; i++)
         if (!strcmp(argv[1], commands[i].name)) return parse(&options, argv + 2, argc - 2) ? STATUS_USAGE : commands[i].run(&options);
     return usage("what is ", argv[1]);

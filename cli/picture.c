@@ -13,25 +13,49 @@ uint32_t picture_header(struct picture *p, struct frame frame) {
     return p->number;
 }
 
-static void deblock(struct picture *p) {
-    uint32_t refused = hookbarley_deblock_picture(&p->tile, &p->memory);
-    if (refused) p->number = refused; /* never: that is proved of what the picture call leaves */
-    p->filtered = p->tile.simple ? "simple filter" : "normal filter";
-}
-
-void picture_decode(struct picture *p, struct frame frame, enum filter filter) {
-    if (picture_header(p, frame)) return;
+/* Takes the header and lends what it asks for. Returns the number of a refusal. */
+static uint32_t prepare(struct picture *p, struct frame frame, enum filter filter) {
+    if (picture_header(p, frame)) return p->number;
     if (filter == FILTER_SIMPLE || filter == FILTER_NORMAL) p->tile.simple = filter == FILTER_SIMPLE;
     p->blocks = hookbarley_blocks(&p->tile);
     p->room = memory(hookbarley_room(&p->tile));
     hookbarley_lend(&p->tile, p->room, &p->memory);
+    return 0;
+}
+
+static void deblock(struct picture *p, enum filter filter) {
+    p->filtered = "unfiltered";
+    if (!has_picture(p->number) || filter == FILTER_NONE || !p->level) return;
+    uint32_t refused = hookbarley_deblock_picture(&p->tile, &p->memory);
+    if (refused) p->number = refused; /* never: that is proved of what both calls leave */
+    p->filtered = p->tile.simple ? "simple filter" : "normal filter";
+}
+
+void picture_decode(struct picture *p, struct frame frame, enum filter filter) {
+    if (prepare(p, frame, filter)) return;
     p->number = hookbarley_picture(frame.bytes, frame.length, p->header, &p->tile, &p->memory, &p->finished, &p->first_reads,
                                    &p->token_reads);
-    p->filtered = "unfiltered";
-    if (has_picture(p->number) && filter != FILTER_NONE && p->level) deblock(p);
+    p->kept = p->finished;
+    deblock(p, filter);
+}
+
+/* What the picture call would have answered: the rescue call answers 0, and its marks tell what ran out and where. */
+static void take_stop(struct picture *p) {
+    while (p->finished < p->blocks && p->marks[p->finished] == HOOKBARLEY_MARK_WHOLE) p->finished++;
+    if (p->finished == p->blocks) return;
+    p->number = p->marks[p->finished] == HOOKBARLEY_MARK_MODES ? HOOKBARLEY_NO_TOKENS : HOOKBARLEY_NO_MODES;
+}
+
+void picture_rescue(struct picture *p, struct frame frame, enum filter filter) {
+    if (prepare(p, frame, filter)) return;
+    p->marks = memory(p->blocks);
+    p->number = hookbarley_rescue_picture(frame.bytes, frame.length, p->header, &p->tile, &p->memory, p->marks, &p->kept);
+    if (!p->number) take_stop(p);
+    deblock(p, filter);
 }
 
 void picture_free(struct picture *p) {
     free(p->room);
-    p->room = NULL;
+    free(p->marks);
+    p->room = p->marks = NULL;
 }

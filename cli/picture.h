@@ -9,12 +9,14 @@
 enum filter { FILTER_CODED, FILTER_NONE, FILTER_SIMPLE, FILTER_NORMAL };
 
 struct picture {
-    uint32_t number;                    /* the answer; where it is 0, 6 or 7 all below stands */
+    uint32_t number;                    /* the picture call's answer; where it is 0, 6 or 7 all below stands */
     int32_t header[HOOKBARLEY_ENTRIES]; /* places in it: HOOKBARLEY_HEADER_.. */
     struct hookbarley_tile tile;        /* its `simple` is the kind of filter that is asked for */
     struct hookbarley_memory memory;
     uint8_t *room;           /* what the memory is cut from */
+    uint8_t *marks;          /* HOOKBARLEY_MARK_.. of each macroblock after picture_rescue, else NULL */
     size_t blocks, finished; /* macroblocks, and those finished */
+    size_t kept;             /* those finished or rebuilt from their modes: the others are grey */
     uint64_t first_reads, token_reads; /* symbols read from the first partition and from token partitions */
     int level;               /* the frame's filter level; where it is 0 nothing is filtered (docs/DIFFERENCES.md) */
     const char *filtered;    /* "unfiltered", "simple filter" or "normal filter" */
@@ -28,6 +30,9 @@ uint32_t picture_header(struct picture *picture, struct frame frame);
 
 /* Decodes a frame and deblocks it. */
 void picture_decode(struct picture *picture, struct frame frame, enum filter filter);
+
+/* The same, where tokens run out going on from the modes alone. The symbols read are not counted. */
+void picture_rescue(struct picture *picture, struct frame frame, enum filter filter);
 
 void picture_free(struct picture *picture);
 

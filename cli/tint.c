@@ -8,27 +8,41 @@ static const struct colour palette[] = {
     {{0, 114, 178}, "blue"}, {{230, 159, 0}, "orange"}, {{0, 158, 115}, "green"}, {{204, 121, 167}, "purple"}};
 enum { COLOURS = sizeof palette / sizeof *palette };
 
-/* The byte of a record that decides, and what each of its values says; value k has colour k. */
+static uint8_t segment_of(const struct picture *p, size_t block) {
+    return p->memory.strengths[HOOKBARLEY_STRENGTH_BYTES * block + HOOKBARLEY_STRENGTH_SEGMENT];
+}
+
+static uint8_t small_of(const struct picture *p, size_t block) {
+    return p->memory.strengths[HOOKBARLEY_STRENGTH_BYTES * block + HOOKBARLEY_STRENGTH_SMALL];
+}
+
+static uint8_t mark_of(const struct picture *p, size_t block) {
+    return p->marks[block];
+}
+
+/* The byte of a macroblock that decides, and what each of its values says; value k has colour k. */
 struct tint_kind {
     const char *name;
-    size_t place, values;
+    uint8_t (*byte_of)(const struct picture *, size_t block);
+    size_t values;
     const char *words[COLOURS];
 };
 
 static const struct tint_kind kinds[] = {
-    [TINT_SEGMENTS] = {"segments", HOOKBARLEY_STRENGTH_SEGMENT, 4, {"segment 0", "segment 1", "segment 2", "segment 3"}},
-    [TINT_MODES] = {"modes", HOOKBARLEY_STRENGTH_SMALL, 2, {"large", "small"}},
+    [TINT_SEGMENTS] = {"segments", segment_of, 4, {"segment 0", "segment 1", "segment 2", "segment 3"}},
+    [TINT_MODES] = {"modes", small_of, 2, {"large", "small"}},
+    [TINT_MARKS] = {"marks", mark_of, 2, {[HOOKBARLEY_MARK_WHOLE] = "whole", [HOOKBARLEY_MARK_MODES] = "soft"}},
 };
 
 enum tint tint_of(const char *name) {
-    for (enum tint tint = TINT_SEGMENTS; tint <= TINT_MODES; tint++)
+    for (enum tint tint = TINT_SEGMENTS; tint <= TINT_MARKS; tint++)
         if (!strcmp(name, kinds[tint].name)) return tint;
     return TINT_NONE;
 }
 
-/* The value of a finished macroblock. That it is one of the kind's is proved; the remainder keeps any byte inside the palette. */
+/* The value of a kept macroblock. That it is one of the kind's is proved; the remainder keeps any byte inside the palette. */
 static size_t value_of(const struct tint_kind *kind, const struct picture *p, size_t block) {
-    return p->memory.strengths[HOOKBARLEY_STRENGTH_BYTES * block + kind->place] % kind->values;
+    return kind->byte_of(p, block) % kind->values;
 }
 
 static void tint_row(uint8_t *row, const struct tint_kind *kind, const struct picture *p, size_t y) {
@@ -36,7 +50,7 @@ static void tint_row(uint8_t *row, const struct tint_kind *kind, const struct pi
     size_t first = y / 16 * (p->tile.width / 16);
     for (size_t x = 0; x < p->tile.true_width; x++) {
         size_t block = first + x / 16;
-        colour_over(row + 3 * x, block < p->finished ? &palette[value_of(kind, p, block)] : NULL, luma[x]);
+        colour_over(row + 3 * x, block < p->kept ? &palette[value_of(kind, p, block)] : NULL, luma[x]);
     }
 }
 
@@ -56,8 +70,8 @@ int tint_write(FILE *out, enum tint tint, const struct picture *p) {
 void tint_print(enum tint tint, const struct picture *p) {
     const struct tint_kind *kind = &kinds[tint];
     size_t counts[COLOURS] = {0};
-    for (size_t block = 0; block < p->finished; block++) counts[value_of(kind, p, block)]++;
+    for (size_t block = 0; block < p->kept; block++) counts[value_of(kind, p, block)]++;
     for (size_t k = 0; k < kind->values; k++) printf("%s%s %s %zu", k ? ", " : "  ", kind->words[k], palette[k].words, counts[k]);
-    if (p->finished < p->blocks) printf(", unfinished grey %zu", p->blocks - p->finished);
+    if (p->kept < p->blocks) printf(", unfinished grey %zu", p->blocks - p->kept);
     printf("\n");
 }

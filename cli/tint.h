@@ -1,19 +1,20 @@
-/* Luma with each macroblock coloured by what its strength record says of it, for `decode --tint`. */
+/* Luma with each macroblock coloured by what its strength record or its mark says of it, for `decode --tint`. */
 #ifndef CLI_TINT_H
 #define CLI_TINT_H
 
 #include "picture.h"
 #include <stdio.h>
 
-enum tint { TINT_NONE, TINT_SEGMENTS, TINT_MODES };
+enum tint { TINT_NONE, TINT_SEGMENTS, TINT_MODES, TINT_MARKS };
 
 /* The kinds in words, for the help and for who asks for another. */
-#define TINT_KINDS "segments or modes"
+#define TINT_KINDS "segments, modes or marks"
 
 /* By its name, "segments"; TINT_NONE where there is no such kind. */
 enum tint tint_of(const char *name);
 
-/* Writes a .ppm of the true size. Unfinished macroblocks have no record, and stay grey. Returns 0 where it could not be written. */
+/* Writes a .ppm of the true size. A macroblock that is not kept has no record, and stays grey. TINT_MARKS is for a picture that has marks.
+ * Returns 0 where it could not be written. */
 int tint_write(FILE *out, enum tint tint, const struct picture *picture);
 
 /* The legend on standard output: each colour, and how many macroblocks have it. */

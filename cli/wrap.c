@@ -3,7 +3,7 @@
 #include "commands.h"
 #include <stdlib.h>
 
-enum { WEBP_HEAD = 20, PAD = 1 };
+enum { PAD = 1 };
 
 static int write_file(const char *path, const uint8_t *bytes, size_t length) {
     FILE *out = fopen(path, "wb");
@@ -24,7 +24,7 @@ static uint32_t wrapped(struct frame frame, uint8_t *out, size_t room, size_t *w
 int wrap(const struct options *o) {
     struct file file;
     struct frame frame, more;
-    struct tally tally = {0, 0, {0}};
+    struct tally tally = {0};
     uint32_t number;
     if (o->count != 2) return usage("wrap takes an IN and an OUT.webp", "");
     if (!file_open(o->names[0], &file)) return STATUS_USAGE;

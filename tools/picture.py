@@ -1,8 +1,9 @@
 #!/usr/bin/env python3
 """The pictures of README.md and docs: picture.py tile|tint OUT.png [HOOKBARLEY..] draws lit hills, has cwebp encode them at a low quality
-and decodes the file three times with the program (tools/hookbarley). The three stand side by side, each sample twice as wide and high.
+and decodes the file three or four times with the program (tools/hookbarley). The pictures stand side by side, each sample twice as wide
+and high.
 
-tile, docs/tile.png: before the loop filter, after it, and with the end of the frame's bytes cut off.
+tile, docs/tile.png: before the loop filter, after it, with the end of the frame's bytes cut off, and this one rescued.
 tint, docs/tint.png: luma, and the same tinted by segments and by modes."""
 import math
 import random
@@ -56,7 +57,8 @@ def tile(program, folder):
     with open(folder + "/cut.vp8", "wb") as f:
         f.write(frame[:int(LEFT * len(frame))])
     before, after = decoded(program, file, folder + "/a.ppm", "--unfiltered"), decoded(program, file, folder + "/b.ppm")
-    return [before, after, decoded(program, folder + "/cut.vp8", folder + "/c.ppm")]
+    cut = [decoded(program, folder + "/cut.vp8", folder + "/c.ppm", *options) for options in ([], ["--rescue"])]
+    return [before, after, *cut]
 
 
 def tint(program, folder):
@@ -77,7 +79,7 @@ def main():
         panels = panels_of(program, folder)
     gap = b"\xff" * (3 * GAP)
     rows = [gap.join(twice(p, y) for p in panels) for y in range(SIDE) for _ in range(2)]
-    png(out, 6 * SIDE + 2 * GAP, 2 * SIDE, rows)
+    png(out, len(rows[0]) // 3, 2 * SIDE, rows)
 
 
 main()

@@ -1,9 +1,10 @@
 #!/usr/bin/env python3
 """The program on cut and damaged files: damaged.py ROOM N SEED CHECKED PLAIN FILE.. where CHECKED is the program built with sanitizers and
-PLAIN the one that valgrind runs. Every cut of each FILE and N damaged copies go, one by one, through `decode` and `info` of CHECKED: the
-exit status is 0 or 1, both commands agree in it, standard error says what happened where it is 1 and nothing where it is 0, and there is
-a picture exactly where it is whole or cut. Then all of them, a hundred at a time, go through `decode` under valgrind, which must find no
-error and no leak."""
+PLAIN the one that valgrind runs. Every cut of each FILE and N damaged copies go, one by one, through `decode`, `decode --rescue` and `info`
+of CHECKED: the exit status is 0 or 1, standard error says what happened where it is 1 and nothing where it is 0, and there is a picture
+exactly where it is whole, cut or rescued. `info` says what `decode` says. `decode --rescue` stops where `decode` does, except in a WebP
+file that `decode` refuses for its sizes. Then all of them, a hundred at a time, go through `decode` under valgrind, with and without
+--rescue, which must find no error and no leak."""
 import os
 import random
 import re
@@ -14,8 +15,8 @@ from collections import Counter
 room, n, seed, checked, plain = sys.argv[1], int(sys.argv[2]), int(sys.argv[3]), sys.argv[4], sys.argv[5]
 originals = [open(f, "rb").read() for f in sys.argv[6:]]
 draw = random.Random(seed)
-SAID = re.compile(rb"^\S+: (frame \d+: )?(refused: |cut: )(\d+, |the IVF file )[^\n]*\n$")
-said_of = Counter()
+SAID = re.compile(rb"^\S+: (frame \d+: )?(refused|cut|rescued): (\d+, |the IVF file )[^\n]*\n$")
+said_of, rescued_of = Counter(), Counter()
 
 
 def damaged(bytes_):
@@ -47,24 +48,44 @@ def fail(path, why, result):
     sys.exit(f"FAILED: {path}: {why}, status {result.returncode}\n{result.stderr.decode(errors='replace')[-3000:]}")
 
 
-def one(path):
-    """Runs both commands and returns what was said."""
+def decoded(path, *options):
+    """What `decode` said, its status and words looked at, and whether there is a picture."""
     out = f"{room}/out.yuv"
     if os.path.exists(out):
         os.remove(out)
-    decode, info = run(checked, "decode", path, out), run(checked, "info", path)
-    for result in (decode, info):
-        if result.returncode not in (0, 1):
-            fail(path, "neither 0 nor 1", result)
-    if decode.returncode != info.returncode or decode.stderr != info.stderr:
+    result = run(checked, "decode", *options, path, out)
+    if result.returncode not in (0, 1):
+        fail(path, "neither 0 nor 1", result)
+    lines = result.stderr.splitlines(keepends=True)
+    if (result.returncode == 0) != (not lines) or not all(map(SAID.match, lines)):
+        fail(path, "standard error does not say what happened", result)
+    pictures = result.stdout.count(b"\n")
+    if os.path.exists(out) != (pictures > 0) or (result.returncode == 0 and not pictures):
+        fail(path, "a picture that should not be there, or none", result)
+    return result
+
+
+def stops(result):
+    """Where each picture stopped, without what became of the rest."""
+    return [line.split(b"; ")[0].replace(b": rescued: ", b": cut: ") for line in result.stderr.splitlines()]
+
+
+def answer(result):
+    """The last number that was said."""
+    lines = result.stderr.splitlines(keepends=True)
+    return "0" if not lines else SAID.match(lines[-1])[3].decode().rstrip(", ").replace("the IVF file", "IVF")
+
+
+def one(path):
+    """Runs the three commands and counts what was said."""
+    plainly, rescue, info = decoded(path), decoded(path, "--rescue"), run(checked, "info", path)
+    if plainly.returncode != info.returncode or plainly.stderr != info.stderr:
         fail(path, "decode and info differ", info)
-    lines = decode.stderr.splitlines(keepends=True)
-    if (decode.returncode == 0) != (not lines) or not all(map(SAID.match, lines)):
-        fail(path, "standard error does not say what happened", decode)
-    pictures = decode.stdout.count(b"\n")
-    if os.path.exists(out) != (pictures > 0) or (decode.returncode == 0 and not pictures):
-        fail(path, "a picture that should not be there, or none", decode)
-    said_of["0" if not lines else "IVF" if b": the IVF" in lines[-1] else re.search(rb"(?:refused|cut): (\d+)", lines[-1])[1].decode()] += 1
+    said_of[answer(plainly)] += 1
+    if answer(plainly) == "18":
+        rescued_of[answer(rescue)] += 1
+    elif stops(plainly) != stops(rescue):
+        fail(path, "--rescue stopped elsewhere", rescue)
 
 
 paths = []
@@ -85,18 +106,24 @@ for i, original in enumerate(originals):
         cuts += 1
 for i in range(n):
     keep(f"damaged-{i}", damaged(draw.choice(originals)))
-answers = ", ".join(f"{k}: {said_of[k]}" for k in sorted(said_of, key=lambda k: (len(k), k)))
-print(f"{cuts} cuts of {len(originals)} files and {n} damaged ones, one by one: answers {answers}")
+
+
+def listed(counts):
+    return ", ".join(f"{k}: {counts[k]}" for k in sorted(counts, key=lambda k: (len(k), k)))
+
+
+print(f"{cuts} cuts of {len(originals)} files and {n} damaged ones, one by one: answers {listed(said_of)}; "
+      f"of those refused with 18, with --rescue {listed(rescued_of)}")
 batches = [paths[i:i + 100] for i in range(0, len(paths), 100)]
-for batch in batches:
+for batch, options in [(batch, options) for batch in batches for options in ([], ["--rescue"])]:
     valgrind = ["valgrind", "-q", "--error-exitcode=99", "--leak-check=full", "--errors-for-leak-kinds=all"]
-    result = run(*valgrind, plain, "decode", *batch, f"{room}/pictures")
+    result = run(*valgrind, plain, "decode", *options, *batch, f"{room}/pictures")
     if result.returncode not in (0, 1):
         fail(batch[0], "valgrind found something", result)
     if not re.match(rb"%d files, " % len(batch), result.stdout):
         fail(batch[0], "no summary", result)
     for name in os.listdir(f"{room}/pictures"):
         os.remove(f"{room}/pictures/{name}")
-print(f"{len(paths)} files under valgrind in {len(batches)} runs: no error, no leak")
-if cuts < 3 or not paths or len(originals) < 3:
+print(f"{len(paths)} files under valgrind in {2 * len(batches)} runs: no error, no leak")
+if cuts < 3 or not paths or len(originals) < 3 or not rescued_of["7"]:
     sys.exit("FAILED: too few files")

@@ -32,9 +32,12 @@ quiet() { [ ! -s $out/err ] || bad "$what: says on standard error: $(head -n 1 $
 md5() { [ "$(md5sum <$out/"$1" | cut -d' ' -f1)" = "$2" ] || bad "$what: $1 is not the picture that it should be"; }
 same() { cmp -s "$1" "$2" || bad "$what: $1 and $2 differ"; }
 none() { [ ! -e $out/"$1" ] || bad "$what: $1 was written"; }
+common() { # common A B RUNS: which macroblocks of 256 by 256 samples both have
+    [ "$(tests/cli/blocks.py $out/"$1" $out/"$2" 256 256)" = "$3" ] || bad "$what: $1 and $2 have not macroblocks $3 in common"
+}
 
 # Usage: status 2.
-hb 0 --help && said 'hookbarley decode' && said 'hookbarley info' && said 'hookbarley wrap' && said 'Exit status' && quiet
+hb 0 --help && said 'hookbarley decode' && said 'hookbarley info' && said 'hookbarley wrap' && said '--rescue' && said 'Exit status' && quiet
 hb 0 --version && said "hookbarley $(sed -n 's/^#define HOOKBARLEY_VERSION "\(.*\)"$/\1/p' include/hookbarley.h)"
 hb 2 && warned 'no command'
 hb 2 paint && warned 'what is paint'
@@ -83,8 +86,9 @@ hb 1 decode $out/modes.vp8 $out/m.pgm && warned 'cut: 6, the first partition, wh
 hb 1 info $out/cut.vp8 && said "$stop" && said 'small 123' && said 'of at most 14756 from the first partition' && said 'of at most 904704 of tokens'
 
 # Refused: the number in words, and nothing is written.
-refused() { # refused NUMBER FILE
-    hb 1 decode "$2" $out/r.yuv && warned "refused: $1, " && none r.yuv
+refused() { # refused NUMBER FILE [OPTION]
+    # shellcheck disable=SC2086
+    hb 1 decode ${3:-} "$2" $out/r.yuv && warned "refused: $1, " && none r.yuv
 }
 : >$out/empty
 { printf '\021' && tail -c +2 $out/tile.vp8; } >$out/inter.vp8
@@ -106,11 +110,52 @@ hb 1 decode $out/none.ivf $out/r.yuv && warned 'refused: the IVF file' && none r
 head -c $(($(wc -c <$kept/two-partitions.ivf) - 100)) $kept/two-partitions.ivf >$out/short.ivf
 hb 1 decode $out/short.ivf $out/short.yuv && warned 'short.ivf: frame 1: cut: 7' && said whole && said cut
 
+# Rescued: soft where it was grey. The md5s are of the samples that tests/model/picture.py paints for the same bytes.
+hb 0 decode --rescue bench/tile-q90.webp $out/ra.yuv && same $out/ra.yuv $out/a.yuv && said '256 x 256, whole, normal filter' && quiet
+said '  whole 256, soft 0, grey 0'
+hb 1 decode --rescue --unfiltered $out/cut.vp8 $out/rc.yuv && md5 rc.yuv cff371a12909d230918f40d31c273ee5 && common rc.yuv c.yuv 0-122
+said '256 x 256, rescued, unfiltered' && said '  whole 123, soft 133, grey 0' && warned "rescued: $stop; the rest is soft"
+hb 1 decode --rescue $out/modes.vp8 $out/rm.pgm && same $out/rm.pgm $out/m.pgm && said '256 x 256, cut, normal filter'
+said '  whole 120, soft 0, grey 136' && warned 'cut: 6, ' && warned '120 of 256 finished; the rest is grey'
+{ head -c 1010 $out/modes.vp8 && tail -c +1783 $out/tile.vp8 | head -c 10000; } >$out/both.vp8 # both partitions are cut
+hb 1 decode --rescue --unfiltered $out/both.vp8 $out/rb.yuv && md5 rb.yuv 8b4e1049f5834c2a43a87b940b6df5a0 && common rb.yuv u.yuv 0-93
+said '  whole 94, soft 26, grey 136' && warned 'rescued: 7, ' && warned '94 of 256 finished; then 26 soft, 136 grey'
+hb 1 decode --unfiltered $out/both.vp8 $out/grey.yuv && common rb.yuv grey.yuv '0-93 120-255'
+hb 1 decode --rescue $out/short.ivf $out/rs.yuv && warned 'short.ivf: frame 1: rescued: 7' && said whole && said rescued
+
+# Cut on disk: a WebP file whose sizes agree but lie past its end is refused, and rescued as far as its bytes go.
+head -c 15020 bench/tile-q90.webp >$out/disk.webp
+refused 18 $out/disk.webp
+hb 1 decode --rescue --unfiltered $out/disk.webp $out/rd.yuv && same $out/rd.yuv $out/rc.yuv && warned "rescued: $stop; the rest is soft"
+head -c -1 tests/outside/webp/odd.webp >$out/pad.webp # its pad byte is missing
+refused 18 $out/pad.webp
+hb 0 decode tests/outside/webp/odd.webp $out/odd.yuv
+hb 0 decode --rescue $out/pad.webp $out/pad.yuv && same $out/pad.yuv $out/odd.yuv && said whole && quiet
+for length in 12 19; do
+    head -c $length bench/tile-q90.webp >$out/head.webp
+    refused 18 $out/head.webp --rescue
+done
+head -c 20 bench/tile-q90.webp >$out/head.webp
+refused 12 $out/head.webp --rescue
+head -c 1000 bench/tile-q90.webp >$out/head.webp
+refused 13 $out/head.webp --rescue
+{ cat bench/tile-q90.webp && printf '\000'; } >$out/more.webp
+refused 18 $out/more.webp --rescue
+{ printf 'RIFF\377\377\000\000' && tail -c +9 bench/tile-q90.webp; } >$out/odds.webp # the two sizes are at odds
+refused 18 $out/odds.webp --rescue
+head -c 100 tests/outside/webp/extended.webp >$out/extended.webp
+refused 18 $out/extended.webp
+refused 19 $out/extended.webp --rescue
+
 # Many: a folder, a summary by number.
 hb 0 decode $kept/*.webp $out/all && said '8 files, 8 pictures' && said '8  whole: 0, every macroblock is finished' && quiet
 [ "$(find $out/all -name '*.ppm' | wc -l)" -eq 8 ] || bad "$what: not eight pictures"
 hb 1 decode --to yuv bench/tile-q90.webp $out/cut.vp8 $out/inter.vp8 $kept/two-partitions.ivf $out/some
 said '4 files, 4 pictures' && said '3  whole: 0' && said '1  cut: 7' && said '1  refused: 12' && same $out/some/tile-q90.yuv $out/a.yuv
+hb 1 decode --rescue --unfiltered --to yuv bench/tile-q90.webp $out/cut.vp8 $out/disk.webp $out/modes.vp8 $out/first.vp8 $out/rescued
+said '5 files, 4 pictures' && said '1  whole: 0' && said '2  rescued: 7, ' && said '1  cut: 6' && said '1  refused: 13'
+grep -q soft $out/said && bad "$what: counts among many files"
+same $out/rescued/cut.yuv $out/rc.yuv && same $out/rescued/disk.yuv $out/rc.yuv && warned 'disk.webp: rescued: 7'
 hb 2 decode $out/cut.vp8 bench/tile-q90.webp $out/absent $out/some && said '3 files, 2 pictures'
 hb 2 decode bench/tile-q90.webp $out/../../bench/tile-q90.webp $out/twice && warned 'would both be written'
 hb 0 info bench/tile-q90.webp $kept/eight-partitions.ivf && said '256 x 256, coded as 256 x 256, macroblocks 16 x 16'
@@ -128,12 +173,14 @@ hb 2 explain bench/tile-q50.webp -- -1 0 && warned 'X and Y'
 hb 2 explain bench/tile-q50.webp $out/e.png && warned '.ppm or .svg' && none e.png
 
 # Tinted: each macroblock's colour over the luma that decode shows otherwise. How many have each is what info counts in mode memory.
-tinted() { # tinted STATUS KIND FILE COLOUR=COUNT..
+rescue=
+tinted() { # [rescue=--rescue] tinted STATUS KIND FILE [--runs] COLOUR=COUNT..
     local status=$1 kind=$2 file=$3 filter
     shift 3
+    # shellcheck disable=SC2086
     for filter in --normal --unfiltered; do
-        hb "$status" decode $filter "$file" $out/t.pgm
-        hb "$status" decode $filter --tint "$kind" "$file" $out/t.ppm
+        hb "$status" decode $filter $rescue "$file" $out/t.pgm
+        hb "$status" decode $filter $rescue --tint "$kind" "$file" $out/t.ppm
         tests/cli/tint.py $out/t.ppm $out/t.pgm "$@" >$out/tint.log 2>&1 || bad "$what: $(tail -n 1 $out/tint.log)"
     done
 }
@@ -153,9 +200,17 @@ said '  large blue 16, small orange 104, unfinished grey 136'
 hb 1 decode --unfiltered --tint modes bench/tile-q90.webp $out/tint-cut.vp8 $out/tints && said '2 files, 2 pictures'
 same $out/tints/tint-cut.ppm $out/t.ppm
 grep -q orange $out/said && bad "$what: a legend among many files"
+rescue=--rescue tinted 0 marks bench/tile-q90.webp blue=256 && said '  whole blue 256, soft orange 0' && quiet
+rescue=--rescue tinted 1 marks $out/both.vp8 --runs blue=94 orange=26 grey=136
+said '  whole blue 94, soft orange 26, unfinished grey 136'
+rescue=--rescue tinted 1 marks $out/modes.vp8 --runs blue=120 grey=136 && warned 'cut: 6'
+rescue=--rescue tinted 1 segments $out/tint-cut.vp8 blue=16 orange=99 green=71 purple=70 # its modes are all there, as in the whole tile
+said '  whole 120, soft 136, grey 0'
 hb 0 info --tint modes bench/tile-q50.webp && quiet
-hb 2 decode --tint paint bench/tile-q50.webp $out/wrong.ppm && warned '--tint takes segments or modes, not paint'
-hb 2 decode bench/tile-q50.webp $out/wrong.ppm --tint && warned '--tint takes segments or modes;'
+hb 2 decode --tint paint bench/tile-q50.webp $out/wrong.ppm && warned '--tint takes segments, modes or marks, not paint'
+hb 2 decode bench/tile-q50.webp $out/wrong.ppm --tint && warned '--tint takes segments, modes or marks;'
+hb 2 decode --tint marks $out/cut.vp8 $out/wrong.ppm && warned '--tint marks goes with --rescue'
+hb 2 decode --tint marks --rescue $out/cut.vp8 $out/wrong.yuv && warned '--tint makes a .ppm and no other form'
 for wrong in $out/wrong.yuv $out/wrong.pgm "--to yuv $out/wrong.ppm" "--to pgm bench/tile-q90.webp $out/wrong.ppm"; do
     # shellcheck disable=SC2086
     hb 2 decode --tint modes bench/tile-q50.webp $wrong && warned '--tint makes a .ppm and no other form'
@@ -179,6 +234,6 @@ else
     tail -n 5 $out/install.log
     bad "tools/install.sh"
 fi
-[ $tried -ge 85 ] || bad "only $tried runs of the program"
+[ $tried -ge 123 ] || bad "only $tried runs of the program"
 [ $failed -eq 0 ] && echo "cli: passed, $tried runs of the program"
 exit $failed

@@ -1,6 +1,7 @@
 #!/usr/bin/env python3
-"""What `decode --tint` wrote, beside plain luma: tint.py TINTED.ppm LUMA.pgm COLOUR=COUNT.. finds the one colour that each macroblock
-has over its luma and counts them. Plain ones are grey, and none that is tinted follows them."""
+"""What `decode --tint` wrote, beside plain luma: tint.py TINTED.ppm LUMA.pgm [--runs] COLOUR=COUNT.. finds the one colour that each
+macroblock has over its luma and counts them. Plain ones are grey, and none that is tinted follows them. With --runs each colour is one run
+of macroblocks, in the order given."""
 import collections
 import sys
 
@@ -32,8 +33,10 @@ def main():
             found += names
     counts = collections.Counter(found)
     assert "grey" not in found[:len(found) - counts["grey"]], "a tinted macroblock follows a grey one"
-    want = {name: int(count) for name, count in (word.split("=") for word in sys.argv[3:])}
+    runs = sys.argv[3] == "--runs"
+    want = {name: int(count) for name, count in (word.split("=") for word in sys.argv[3 + runs:])}
     assert counts == want, f"{dict(counts)} and not {want}"
+    assert not runs or found == sorted(found, key=list(want).index), "a colour has more than one run, or comes too soon"
 
 
 main()
