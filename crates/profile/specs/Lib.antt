@@ -1,0 +1,3 @@
+pub mod Profile
+pub mod ProfileLaws
+pub mod RulesLaws
