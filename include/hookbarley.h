@@ -194,6 +194,39 @@ uint32_t hookbarley_rescue(const uint8_t *bytes, size_t bytes_len,
                            uint8_t *marks, size_t marks_len,
                            size_t *kept);
 
+/* The rules of the cockpit profile (hookbarley_profile), in the order in which they are tried. */
+enum hookbarley_profile_rule {
+    HOOKBARLEY_PROFILE_FITS = 0,       /* all of them hold, or an argument was refused */
+    HOOKBARLEY_PROFILE_SIZE = 1,       /* width and height are 256 */
+    HOOKBARLEY_PROFILE_PARTITIONS = 2, /* there are 1, 2 or 4 token partitions */
+    HOOKBARLEY_PROFILE_SEGMENTS = 3,   /* HOOKBARLEY_HEADER_SEGMENTS and HOOKBARLEY_HEADER_MAP are 0, each of them */
+    HOOKBARLEY_PROFILE_SHARPNESS = 4,  /* HOOKBARLEY_HEADER_SHARPNESS is 0 */
+    HOOKBARLEY_PROFILE_WHOLE = 5,      /* hookbarley_decode answers 0 */
+    HOOKBARLEY_PROFILE_SKIPPED = 6     /* no macroblock is both skipped and small, by its mode record */
+};
+
+/* Whether a tile fits the cockpit profile. It answers 0 and the first rule that fails, *rule, which is 0 where the tile fits; the last rule
+ * names the first macroblock that fails it as well. The checks come in this order: 9, rules 1 and 2, the refusals 3 to 5 of
+ * hookbarley_decode, rules 3 to 6. So 1 and 2 are never returned, and a tile of another size or count is told so whatever is lent.
+ *
+ * After 9 and 3 to 5, and where one of the rules 1 to 4 fails, nothing lent has changed. Where rule 5 or 6 fails and where the tile fits,
+ * memory is as hookbarley_decode leaves it: what fits is decoded whole.
+ *
+ * bytes .. strengths   as of hookbarley_decode
+ * rule             the first rule that fails, enum hookbarley_profile_rule; 0 after a refusal
+ * macroblock       where *rule is 6, the first macroblock (raster order) that is both skipped and small; else 0
+ */
+uint32_t hookbarley_profile(const uint8_t *bytes, size_t bytes_len,
+                            const int32_t *header, size_t header_len,
+                            const size_t *tile, size_t tile_len,
+                            uint8_t *y, size_t y_len,
+                            uint8_t *u, size_t u_len,
+                            uint8_t *v, size_t v_len,
+                            uint8_t *columns, size_t columns_len,
+                            uint8_t *modes, size_t modes_len,
+                            uint8_t *strengths, size_t strengths_len,
+                            uint32_t *rule, size_t *macroblock);
+
 /* Deblocks a picture in place (RFC 6386, section 15): macroblocks in raster order, in each the left edge unless column 0, inner vertical
  * edges, the top edge unless row 0, inner horizontal edges. What hookbarley_decode or hookbarley_rescue left is never refused. Checks
  * are made in this order, and after a refusal nothing has changed: 1 width or height, 4 a length, 11 a limit above 189 in any record. After
@@ -345,6 +378,16 @@ static inline uint32_t hookbarley_rescue_picture(const uint8_t *frame, size_t le
     return hookbarley_rescue(frame, length, header, HOOKBARLEY_ENTRIES, (const size_t *)t, HOOKBARLEY_TILE_NUMBERS,
                              m->y, n.y, m->u, n.u, m->v, n.v, m->columns, n.columns, m->modes, n.modes, m->strengths, n.strengths,
                              marks, hookbarley_blocks(t), kept);
+}
+
+/* hookbarley_profile of what was taken. */
+static inline uint32_t hookbarley_profile_picture(const uint8_t *bytes, size_t length, const int32_t *header,
+                                                  const struct hookbarley_tile *t, const struct hookbarley_memory *m,
+                                                  uint32_t *rule, size_t *macroblock) {
+    struct hookbarley_lengths n = hookbarley_lengths_of(t);
+    return hookbarley_profile(bytes, length, header, HOOKBARLEY_ENTRIES, (const size_t *)t, HOOKBARLEY_TILE_NUMBERS,
+                              m->y, n.y, m->u, n.u, m->v, n.v, m->columns, n.columns, m->modes, n.modes, m->strengths, n.strengths,
+                              rule, macroblock);
 }
 
 /* hookbarley_deblock of what was decoded. */

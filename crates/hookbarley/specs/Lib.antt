@@ -4,6 +4,8 @@ pub mod ExplainCalls
 pub mod ExplainCallsLaws
 pub mod FrameCalls
 pub mod FrameCallsLaws
+pub mod ProfileCalls
+pub mod ProfileCallsLaws
 pub mod RescueCalls
 pub mod RescueCallsLaws
 pub mod TileNumbers

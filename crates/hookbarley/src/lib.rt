@@ -6,6 +6,7 @@ pub mod eight;
 pub mod explaining;
 pub mod filtering;
 pub mod frame_header;
+pub mod profiling;
 pub mod rescuing;
 pub mod tile_numbers;
 pub mod webp_find;
