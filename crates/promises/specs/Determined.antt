@@ -69,6 +69,9 @@ use Rattle.lent.specs.declared.sizes.Sizes.{Sizes}
 use Rattle.rescue.specs.declared.Rescued.{Rescued}
 use Rattle.rescue.specs.Rescue.{rescueOf, rescueNumberOf, savedCountOf}
 use Rattle.hookbarley.specs.RescueCalls.{rescueCalledOf}
+use Rattle.profile.specs.declared.Profiled.{Profiled}
+use Rattle.profile.specs.Profile.{profileOf, profileRuleOf, profileBlockOf, profileNumberOf}
+use Rattle.hookbarley.specs.ProfileCalls.{profileCalledOf}
 use Rattle.picture.specs.Counts.{costOf}
 use Rattle.hookbarley.specs.FrameCalls.{frameCalledOf}
 use Rattle.hookbarley.specs.WebpCalls.{webpFoundOf, webpWrappedOf}
@@ -516,6 +519,23 @@ pub rescue-rescue : (bytes : List ℕ) (tile : Tile) (header : List ℤ) (y u v 
     → One (λ o. o ≡ rescueOf (callOf bytes tile header) (memoryOf y u v columns modes strengths) marks)
 rescue-rescue bytes tile header y u v columns modes strengths marks = determined (rescueOf (callOf bytes tile header) (memoryOf y u v columns modes strengths) marks)
 
+-- ---- profile
+-- profile::Profiled::rule
+pub profile-rule : (self : Profiled) → One (λ o. o ≡ profileRuleOf self)
+profile-rule self = determined (profileRuleOf self)
+
+-- profile::Profiled::macroblock
+pub profile-macroblock : (self : Profiled) → One (λ o. o ≡ profileBlockOf self)
+profile-macroblock self = determined (profileBlockOf self)
+
+-- profile::Profiled::number
+pub profile-number : (self : Profiled) → One (λ o. o ≡ profileNumberOf self)
+profile-number self = determined (profileNumberOf self)
+
+-- profile::profile
+pub profile-profile : (bytes : List ℕ) (tile : Tile) (header : List ℤ) (y u v columns modes strengths : List ℕ) → One (λ o. o ≡ profileOf (callOf bytes tile header) (memoryOf y u v columns modes strengths))
+profile-profile bytes tile header y u v columns modes strengths = determined (profileOf (callOf bytes tile header) (memoryOf y u v columns modes strengths))
+
 -- ---- casefile
 -- casefile::run::run
 pub casefile-run : (file : List ℕ) → One (λ o. o ≡ ranOf file)
@@ -547,6 +567,10 @@ hookbarley-decode bytes header tile y u v columns modes strengths = determined (
 -- hookbarley::rescuing::hookbarley_rescue
 pub hookbarley-rescue : (bytes : List ℕ) (header : List ℤ) (tile y u v columns modes strengths marks : List ℕ) → One (λ o. o ≡ rescueCalledOf bytes header tile (memoryOf y u v columns modes strengths) marks)
 hookbarley-rescue bytes header tile y u v columns modes strengths marks = determined (rescueCalledOf bytes header tile (memoryOf y u v columns modes strengths) marks)
+
+-- hookbarley::profiling::hookbarley_profile
+pub hookbarley-profile : (bytes : List ℕ) (header : List ℤ) (tile y u v columns modes strengths : List ℕ) → One (λ o. o ≡ profileCalledOf bytes header tile (memoryOf y u v columns modes strengths))
+hookbarley-profile bytes header tile y u v columns modes strengths = determined (profileCalledOf bytes header tile (memoryOf y u v columns modes strengths))
 
 -- hookbarley::deblocking::hookbarley_deblock
 pub hookbarley-deblock : (y u v strengths : List ℕ) (width height simple : ℕ) → One (λ o. o ≡ deblockCalledOf (planesOf y u v) strengths width height simple)

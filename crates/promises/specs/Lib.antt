@@ -35,3 +35,5 @@ pub mod RescueLaws
 pub mod Remade
 pub mod RemadeLaws
 pub mod RescueDeblockedLaws
+pub mod Profile
+pub mod ProfileLaws

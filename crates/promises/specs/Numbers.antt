@@ -65,6 +65,8 @@ use Rattle.macroblock.specs.Rebuilt.{noResidual, legibleOf, rebuildCallOf}
 use Rattle.rescue.specs.Rescue.{rescueOf, rescueNumberOf, savedCountOf}
 use Rattle.hookbarley.specs.Calls.{flagOf, filteredOf, deblockCalledOf, handedCall}
 use Rattle.hookbarley.specs.RescueCalls.{rescueNumbers, rescueCalledOf}
+use Rattle.profile.specs.Profile.{profileOf, profileRuleOf, profileBlockOf, profileNumberOf}
+use Rattle.hookbarley.specs.ProfileCalls.{profileNumbers, profileCalledOf}
 use Rattle.hookbarley.specs.ExplainCalls.{ruleNumberOf, pairNumberOf, explainCalledOf}
 use Rattle.hookbarley.specs.FrameCalls.{numbersOf, frameCalledOf}
 use Rattle.hookbarley.specs.WebpCalls.{webpFoundOf, webpWrappedOf}
@@ -271,6 +273,11 @@ pub record Numbers : Type 0 where
   pub c-rescue : (b : List ℕ) (header : List ℤ) (tile : List ℕ) (m : Memory) (marks : List ℕ) → eqb (length tile) 28 ≡ true
       → let e = rescueOf (handedCall b header tile) m marks in
       rescueCalledOf b header tile m marks ≡ rescueNumbers (rescueNumberOf (e .answer)) (savedCountOf (e .answer)) (e .mem) (e .marks)
+  -- hookbarley::profiling::hookbarley_profile: 9 and nothing changed where there are not 28 numbers, else the number of `profile`
+  pub c-profile-room : (b : List ℕ) (header : List ℤ) (tile : List ℕ) (m : Memory) → eqb (length tile) 28 ≡ false → profileCalledOf b header tile m ≡ profileNumbers 9 0 0 m
+  pub c-profile : (b : List ℕ) (header : List ℤ) (tile : List ℕ) (m : Memory) → eqb (length tile) 28 ≡ true
+      → let e = profileOf (handedCall b header tile) m in
+      profileCalledOf b header tile m ≡ profileNumbers (profileNumberOf (e .answer)) (profileRuleOf (e .answer)) (profileBlockOf (e .answer)) (e .mem)
   -- hookbarley::deblocking::hookbarley_deblock, webp_find::hookbarley_webp_find, webp_wrap::hookbarley_webp_wrap: the number of the call below
   pub c-deblock : (d : Planes) (s : List ℕ) (w h simple : ℕ)
       → let o = deblockOf d s w h (flagOf simple) in
