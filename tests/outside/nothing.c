@@ -34,7 +34,7 @@ static void must_be(uint32_t got, uint32_t want) {
 }
 
 /* What the calls on a tile take first, nine slices. */
-#define GIVEN_TILE                                                                                                                         \
+#define GIVEN_TILE(tile)                                                                                                                   \
     GIVEN(0, bytes, sizeof bytes), GIVEN(1, header, HOOKBARLEY_ENTRIES), GIVEN(2, (const size_t *)&tile, HOOKBARLEY_TILE_NUMBERS),         \
         GIVEN(3, m.y, n.y), GIVEN(4, m.u, n.u), GIVEN(5, m.v, n.v), GIVEN(6, m.columns, n.columns), GIVEN(7, m.modes, n.modes),            \
         GIVEN(8, m.strengths, n.strengths)
@@ -61,7 +61,7 @@ static void decoding(unsigned out) {
     uint64_t first_reads, token_reads;
     uint32_t refused = refusal(out);
     trying("decode without %#x", out);
-    must_be(hookbarley_decode(GIVEN_TILE, &finished, &first_reads, &token_reads), refused ? refused : HOOKBARLEY_NO_MODES);
+    must_be(hookbarley_decode(GIVEN_TILE(tile), &finished, &first_reads, &token_reads), refused ? refused : HOOKBARLEY_NO_MODES);
     if (finished || first_reads || token_reads) fail("something was read");
     planes_are(&n, refused);
 }
@@ -73,9 +73,24 @@ static void rescuing(unsigned out) {
     size_t kept;
     uint32_t refused = refusal(out);
     trying("rescue without %#x", out);
-    must_be(hookbarley_rescue(GIVEN_TILE, GIVEN(9, marks, sizeof marks), &kept), refused);
+    must_be(hookbarley_rescue(GIVEN_TILE(tile), GIVEN(9, marks, sizeof marks), &kept), refused);
     if (kept || marks[0] != (refused ? 0xA5 : HOOKBARLEY_MARK_GREY)) fail("something is kept");
     planes_are(&n, refused);
+}
+
+/* A tile of the profile's size, whose first partition has no bytes: rule 5 fails. */
+static void profiling(unsigned out) {
+    static const struct hookbarley_tile square = {.width = 256, .height = 256, .count = 1, .at = 2, .range = 255};
+    static uint8_t square_room[1 << 17];
+    struct hookbarley_lengths n = hookbarley_lengths_of(&square);
+    struct hookbarley_memory m;
+    uint32_t refused = refusal(out), rule;
+    size_t macroblock;
+    trying("profile without %#x", out);
+    hookbarley_lend(&square, memset(square_room, 0xA5, sizeof square_room), &m);
+    must_be(hookbarley_profile(GIVEN_TILE(square), &rule, &macroblock), refused);
+    if (rule != (refused ? 0 : HOOKBARLEY_PROFILE_WHOLE) || macroblock) fail("rule %u, macroblock %zu", rule, macroblock);
+    if (!all(square_room, n.y + n.u + n.v, refused ? 0xA5 : 128)) fail("other planes");
 }
 
 static void deblocking(unsigned out) {
@@ -118,6 +133,7 @@ int main(void) {
     begin("0", NULL, 0);
     for (unsigned out = 0; out < 512; out++) decoding(out);
     for (unsigned out = 0; out < 1024; out++) rescuing(out);
+    for (unsigned out = 0; out < 512; out++) profiling(out);
     for (unsigned out = 0; out < 16; out++) deblocking(out);
     for (unsigned out = 0; out < 8; out++) taking(out);
     for (unsigned out = 0; out < 8; out++) explaining(out);

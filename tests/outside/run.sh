@@ -266,12 +266,34 @@ part_rescued() {
     fi
 }
 
+# The profile between guard pages, beside the picture call; the faults that the test must find.
+# shellcheck disable=SC2086
+part_profile() {
+    local made=$out/made-tiles seed tiles
+    rm -rf $made
+    for seed in 1 2 3 4; do
+        mkdir -p $made/$seed
+        python3 tests/model/made_tiles.py $made/$seed $seed >$made/$seed.txt || { bad profile "made_tiles.py"; return; }
+    done
+    tiles=$(echo $made/*/*.vp8 tests/outside/profile/*)
+    run_test profile tests/outside/profile.c "$N" "$SEED" $tiles
+    least profile "files" "$(counted $out/profile.log '^files: \([0-9]*\) files')" 269
+    least profile "cuts" "$(counted $out/profile.log '^cut: \([0-9]*\) cuts')" 1000
+    least profile "random inputs" "$(counted $out/profile.log '^random: \([0-9]*\) inputs')" "$N"
+    faults profile tests/outside/profile.c tests/outside/profile_mutants.c "$(upto 20)" plainly 3000 1 $made/1/*.vp8
+    build profile-lines tests/outside/profile_lines.c || { bad profile "profile_lines.c does not build"; return; }
+    plainly $out/profile-lines $tiles >$out/profile-lines.txt
+    python3 tests/model/profile.py $tiles | diff - $out/profile-lines.txt >$out/profile-lines.diff || bad profile "the model says: $(sed -n 2p $out/profile-lines.diff)"
+    sort $made/*.txt | diff - <(grep ^$made $out/profile-lines.txt | sort) >$out/profile-made.diff || bad profile "not as made: $(sed -n 2p $out/profile-made.diff)"
+    say profile "$(wc -l <$out/profile-lines.txt) tiles as tests/model/profile.py has them, $(cat $made/*.txt | wc -l) as they were made"
+}
+
 # NULL with length 0 in every call, and faults that look behind it.
 part_nothing() {
     local which
     run_test nothing tests/outside/nothing.c
-    least nothing "calls" "$(counted $out/nothing.log '^ok: \([0-9]*\) calls')" 1576
-    for which in '' explain_ frame_ rescue_ webp_; do faults nothing tests/outside/nothing.c tests/outside/${which}mutants.c 1 plainly; done
+    least nothing "calls" "$(counted $out/nothing.log '^ok: \([0-9]*\) calls')" 2088
+    for which in '' explain_ frame_ profile_ rescue_ webp_; do faults nothing tests/outside/nothing.c tests/outside/${which}mutants.c 1 plainly; done
 }
 
 # The WebP calls between guard pages, on files of encoders and damaged ones; the faults that the test must find.
@@ -321,7 +343,7 @@ part_rust() {
     local passed
     if tests/outside/rust.sh "$ARCHIVE" >$out/rust.log 2>&1; then
         passed=$(grep '^test result' $out/rust.log | awk '{s += $4} END {print s + 0}')
-        least rust "tests" "$passed" 27
+        least rust "tests" "$passed" 31
         say rust "$passed tests passed"
     else
         tail -n 20 $out/rust.log
@@ -342,10 +364,10 @@ part_products() {
 
 # As many parts at a time as there are processors, the longest first; what they say is printed in the order above. A part that does not come to
 # its end leaves no status, and has not passed.
-parts="calls example counts readme damaged faults rescue rescued nothing webp explain frame rust products"
+parts="calls example counts readme damaged faults rescue rescued profile nothing webp explain frame rust products"
 for part in $parts; do rm -f $out/part-$part.txt $out/part-$part.status; done
 running=0
-for part in frame webp damaged faults rescue counts example explain rescued rust nothing products readme calls; do
+for part in frame webp damaged faults rescue profile counts example explain rescued rust nothing products readme calls; do
     if [ $running -ge "$(nproc)" ]; then
         wait -n
         running=$((running - 1))

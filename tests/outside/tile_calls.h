@@ -1,4 +1,4 @@
-/* The picture call and the rescue call as tests make them: arguments of any length between guard pages (guard.h), read from case files; the
+/* The picture call, the rescue call and the profile as tests make them: arguments of any length between guard pages (guard.h), read from case files; the
  * refusal that they ask for; what holds of an answer's macroblocks and what those of two answers have in common. */
 #ifndef TILE_CALLS_H
 #define TILE_CALLS_H
@@ -8,7 +8,7 @@
 
 /* What is lent to every call on a tile is below LENT; the rescue call is lent the marks too. */
 enum { Y, U, V, COLUMNS, MODES, STRENGTHS, LENT, MARKS = LENT, LENT_MARKED };
-enum { BYTES = LENT_MARKED, TILE, HEADER, FINISHED, FIRST_READS, TOKEN_READS, BUFFERS };
+enum { BYTES = LENT_MARKED, TILE, HEADER, FINISHED, FIRST_READS, TOKEN_READS, RULE, BUFFERS };
 enum { SLACK = 64 };
 static struct guarded buffers[BUFFERS] = {
     [Y] = {.name = "y", .capacity = 1 << 18},
@@ -24,6 +24,7 @@ static struct guarded buffers[BUFFERS] = {
     [FINISHED] = {.name = "finished", .capacity = 1 << 12},
     [FIRST_READS] = {.name = "first_reads", .capacity = 1 << 12},
     [TOKEN_READS] = {.name = "token_reads", .capacity = 1 << 12},
+    [RULE] = {.name = "rule", .capacity = 1 << 12},
 };
 
 /* One call's arguments and lent lengths. */
@@ -39,7 +40,7 @@ struct call {
     size_t header_len, lent[LENT_MARKED];
 };
 
-struct result { uint32_t number; size_t k; uint64_t first, tokens; uint8_t *mem[LENT_MARKED]; };
+struct result { uint32_t number, rule; size_t k; uint64_t first, tokens; uint8_t *mem[LENT_MARKED]; };
 
 static inline struct result new_result(void) {
     struct result r = {0};
@@ -50,7 +51,7 @@ static inline struct result new_result(void) {
 /* The length of partition p: 0 the first, then the token partitions. */
 static inline size_t *length_of(struct call *c, size_t p) { return p ? &c->tile.token_lengths[p - 1] : &c->tile.first_length; }
 
-/* A call's arguments between the guards; `k` is where it says how many macroblocks there are. */
+/* A call's arguments between the guards; `k` is where it says how many macroblocks there are, or which one. */
 struct laid { const uint8_t *bytes; const int32_t *header; const size_t *tile; uint8_t *m[LENT_MARKED]; size_t *k; };
 
 /* The buffers end (end = 1) or start (end = 0) at a guard; of those lent the first `lent` are poisoned. */
@@ -74,7 +75,7 @@ static inline void take_back(const struct call *c, const struct laid *a, int len
     }
 }
 
-/* What both calls take first: what is read, then six of what is lent. */
+/* What these calls take first: what is read, then six of what is lent. */
 #define LENT_FOR(a, c, b) (a).m[b], (c)->lent[b]
 #define ON_TILE(a, c)                                                                                                                      \
     (a).bytes, (c)->n, (a).header, (c)->header_len, (a).tile, (c)->tile_len, LENT_FOR(a, c, Y), LENT_FOR(a, c, U), LENT_FOR(a, c, V),      \
@@ -98,6 +99,17 @@ static inline void run_rescue(const struct call *c, int end, int poison, struct 
     r->number = hookbarley_rescue(ON_TILE(a, c), LENT_FOR(a, c, MARKS), a.k);
     r->first = r->tokens = 0;
     take_back(c, &a, LENT_MARKED, end, poison, r);
+}
+
+/* Runs the profile; `k` is the macroblock that it names. */
+static inline void run_profile(const struct call *c, int end, int poison, struct result *r) {
+    struct laid a = lay_call(c, LENT, end, poison);
+    uint32_t *rule = poisoned(&buffers[RULE], sizeof *rule, end, poison, SLACK);
+    r->number = hookbarley_profile(ON_TILE(a, c), rule, a.k);
+    r->rule = *rule;
+    r->first = r->tokens = 0;
+    take_back(c, &a, LENT, end, poison, r);
+    untouched(&buffers[RULE], sizeof *rule, end, poison, SLACK);
 }
 
 /* The refusal that the picture call must answer with, worked out from the header's text; 0 where it must be decoded. */

@@ -27,6 +27,18 @@ extern "C" {
         marks: *mut u8, marks_len: usize,
         kept: *mut usize,
     ) -> u32;
+    fn hookbarley_profile(
+        bytes: *const u8, bytes_len: usize,
+        header: *const i32, header_len: usize,
+        tile: *const usize, tile_len: usize,
+        y: *mut u8, y_len: usize,
+        u: *mut u8, u_len: usize,
+        v: *mut u8, v_len: usize,
+        columns: *mut u8, columns_len: usize,
+        modes: *mut u8, modes_len: usize,
+        strengths: *mut u8, strengths_len: usize,
+        rule: *mut u32, macroblock: *mut usize,
+    ) -> u32;
     fn hookbarley_deblock(
         y: *mut u8, y_len: usize,
         u: *mut u8, u_len: usize,
@@ -129,6 +141,17 @@ pub mod mark {
     pub const MODES: u8 = 1;
     /// Neither: its samples are 128.
     pub const GREY: u8 = 2;
+}
+
+/// The rules of the cockpit profile, in the order in which `profile` tries them. include/hookbarley.h says what each asks.
+pub mod profile_rule {
+    pub const FITS: u32 = 0;
+    pub const SIZE: u32 = 1;
+    pub const PARTITIONS: u32 = 2;
+    pub const SEGMENTS: u32 = 3;
+    pub const SHARPNESS: u32 = 4;
+    pub const WHOLE: u32 = 5;
+    pub const SKIPPED: u32 = 6;
 }
 
 /// A key frame's tile, as the library takes it: 28 numbers.
@@ -315,6 +338,33 @@ pub fn rescue(frame: &Frame, mem: &mut Memory, marks: &mut [u8]) -> Rescued {
     match number {
         answer::WHOLE => Rescued::Kept(kept),
         n => Rescued::Refused(n),
+    }
+}
+
+/// Whether a tile fits the cockpit profile; if not, the first rule that fails.
+#[derive(Clone, Copy, Debug, PartialEq, Eq)]
+pub enum Profiled {
+    /// All six rules hold: memory is as `decode` leaves it, whole.
+    Fits,
+    /// This one of the rules 1 to 5 fails (`profile_rule`). Up to the fourth nothing lent has changed.
+    Rule(u32),
+    /// Rule 6 fails: this macroblock is the first that is both skipped and small.
+    Skipped(usize),
+    /// An argument was refused, 3 to 5; nothing lent has changed.
+    Refused(u32),
+}
+
+/// Whether a tile fits the cockpit profile: 256 by 256; 1, 2 or 4 token partitions; no segments and no map; sharpness 0; `decode` answers
+/// `Whole`; no macroblock is both skipped and small. From rule 5 on memory is as `decode` leaves it, whatever it held.
+pub fn profile(frame: &Frame, mem: &mut Memory) -> Profiled {
+    let (mut rule, mut macroblock) = (0u32, 0usize);
+    // Safe: as `on_tile` says; the two numbers stand alone.
+    let number = unsafe { on_tile!(hookbarley_profile, frame, mem, &mut rule, &mut macroblock) };
+    match (number, rule) {
+        (answer::WHOLE, profile_rule::FITS) => Profiled::Fits,
+        (answer::WHOLE, profile_rule::SKIPPED) => Profiled::Skipped(macroblock),
+        (answer::WHOLE, rule) => Profiled::Rule(rule),
+        (n, _) => Profiled::Refused(n),
     }
 }
 

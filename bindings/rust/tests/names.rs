@@ -1,5 +1,6 @@
 //! The numbers that this crate has beside include/hookbarley.h are the header's.
-use hookbarley::{answer, header, mark, mode, strength, Reads, COLUMN_BYTES, ENTRIES, MODE_BYTES, PARTITIONS, STRENGTH_BYTES, TILE_NUMBERS};
+use hookbarley::{answer, header, mark, mode, profile_rule, strength};
+use hookbarley::{Reads, COLUMN_BYTES, ENTRIES, MODE_BYTES, PARTITIONS, STRENGTH_BYTES, TILE_NUMBERS};
 
 #[test]
 fn names_and_numbers_are_those_of_c() {
@@ -34,6 +35,9 @@ fn names_and_numbers_are_those_of_c() {
         ("LIMIT", answer::LIMIT), ("NO_KEY_FRAME", answer::NO_KEY_FRAME), ("PAST_END", answer::PAST_END),
         ("NO_HEADER", answer::NO_HEADER), ("ROOM", answer::ROOM), ("MARKS", answer::MARKS),
         ("SIZES", answer::SIZES), ("KIND", answer::KIND),
+        ("PROFILE_FITS", profile_rule::FITS), ("PROFILE_SIZE", profile_rule::SIZE), ("PROFILE_PARTITIONS", profile_rule::PARTITIONS),
+        ("PROFILE_SEGMENTS", profile_rule::SEGMENTS), ("PROFILE_SHARPNESS", profile_rule::SHARPNESS),
+        ("PROFILE_WHOLE", profile_rule::WHOLE), ("PROFILE_SKIPPED", profile_rule::SKIPPED),
     ];
     for (name, number) in ours.into_iter().chain(answers.map(|(name, number)| (name, number as usize))) {
         assert_eq!(in_c(name), number, "HOOKBARLEY_{name}");
