@@ -17,6 +17,7 @@ struct options {
 
 int decode(const struct options *options);
 int info(const struct options *options);
+int fits(const struct options *options);
 int wrap(const struct options *options);
 int explain(const struct options *options);
 

@@ -9,6 +9,7 @@ static const char help[] =
     "  hookbarley decode [OPTIONS] IN OUT         a picture: OUT ends in .yuv, .pgm or .ppm\n"
     "  hookbarley decode [OPTIONS] IN.. FOLDER    many: each into FOLDER under its own name, as .ppm or --to another\n"
     "  hookbarley info IN..                       sizes, partitions, quantizer, segments, filter; answer and modes\n"
+    "  hookbarley fits IN..                       whether each fits the cockpit profile, or the first rule that fails\n"
     "  hookbarley wrap IN OUT.webp                the WebP file around a key frame\n"
     "  hookbarley explain IN X Y                  why the loop filter moved this pixel, or left it: edge by edge\n"
     "  hookbarley explain IN OUT                  luma coloured by the rule that moved each sample: OUT.ppm or OUT.svg\n"
@@ -33,8 +34,11 @@ static const char help[] =
     "finished, and grey for the rest. Where nothing can be decoded OUT is not made. A frame whose bytes end before its\n"
     "last token partition begins is refused, with --rescue too.\n"
     "\n"
-    "Exit status: 0 every picture is whole; 1 one was refused, cut or rescued, said with its number on standard error;\n"
-    "2 wrong usage, or a file that cannot be read or written.\n";
+    "The cockpit profile, in this order: coded as 256 x 256; 1, 2 or 4 token partitions; no segments; sharpness 0; whole;\n"
+    "no macroblock both skipped and small.\n"
+    "\n"
+    "Exit status: 0 every picture is whole, and of fits that every one fits; 1 one was refused, cut or rescued, said with\n"
+    "its number on standard error, or does not fit; 2 wrong usage, or a file that cannot be read or written.\n";
 
 struct command {
     const char *name;
@@ -44,6 +48,7 @@ struct command {
 static const struct command commands[] = {
     {"decode", decode},
     {"info", info},
+    {"fits", fits},
     {"wrap", wrap},
     {"explain", explain},
 };

@@ -54,6 +54,12 @@ void picture_rescue(struct picture *p, struct frame frame, enum filter filter) {
     deblock(p, filter);
 }
 
+void picture_profile(struct picture *p, struct frame frame, uint32_t *rule, size_t *macroblock) {
+    *rule = HOOKBARLEY_PROFILE_FITS, *macroblock = 0;
+    if (prepare(p, frame, FILTER_NONE)) return;
+    p->number = hookbarley_profile_picture(frame.bytes, frame.length, p->header, &p->tile, &p->memory, rule, macroblock);
+}
+
 void picture_free(struct picture *p) {
     free(p->room);
     free(p->marks);

@@ -34,6 +34,9 @@ void picture_decode(struct picture *picture, struct frame frame, enum filter fil
 /* The same, where tokens run out going on from the modes alone. The symbols read are not counted. */
 void picture_rescue(struct picture *picture, struct frame frame, enum filter filter);
 
+/* Whether a frame fits the cockpit profile: the rule that fails and the macroblock that it names. Only number, header and tile stand. */
+void picture_profile(struct picture *picture, struct frame frame, uint32_t *rule, size_t *macroblock);
+
 void picture_free(struct picture *picture);
 
 #endif
