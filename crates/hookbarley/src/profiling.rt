@@ -6,8 +6,8 @@ ghost use mathlib.Core.Path.{_≡_};
 ghost use Rattle.lent.specs.Memory.{memoryOf};
 ghost use Rattle.hookbarley.specs.ProfileCalls.{profileNumbers, profileCalledOf};
 
-// Arguments and lent memory as of `hookbarley_decode`. The rule that fails goes through `rule`, 0 where none does or an argument is refused; the
-// macroblock that the last rule names through `macroblock`, else 0.
+// Arguments and lent memory as of `hookbarley_decode`. Through `rule` goes the rule that fails, 0 where none does or an argument is
+// refused; through `macroblock` the one that the last rule names, else 0.
 #[no_mangle]
 pub extern "C" fn hookbarley_profile(
     bytes: &[u8],

@@ -1,12 +1,11 @@
 -- The laws of the profile, as the code tries its rules, and what each answer says.
 use Prim.Native.Nat.{ℕ, zero, suc, _+_, _≤_, _<_}
 use mathlib.Core.Path.{_≡_, refl, sym, _∙_, ap}
-use mathlib.Core.Bool.{Bool, true, false, not, _&&_}
+use mathlib.Core.Bool.{true, false}
 use mathlib.Core.List.{List}
-use mathlib.Core.Logic.{_⊎_, inl, inr, ⊎-elim}
 use native.Mathlib.Omega.{arith}
 use native.Mathlib.Numerals.{add-one}
-use lib.Dec.{eqb, ltb}
+use lib.Dec.{ltb}
 use lib.IntN.{ℤ}
 use borrow.Author.Tests.{lt-ltb, le-ltb}
 use Rattle.tile.specs.declared.Tile.{Tile}
@@ -16,7 +15,7 @@ use Rattle.picture.specs.Checks.{Call, failed, refusalOf}
 use Rattle.picture.specs.Picture.{Ended, numberOf, pictureOf, valuesOf}
 use Rattle.profile.specs.declared.Profiled.{Profiled}
 use Rattle.profile.specs.declared.Profiled.the-variants as P
-use Rattle.profile.specs.Profile.{sizeFits, countFits, segmentsFit, sharpnessFits, tileRulesOf, headerRulesOf, bothAt, firstBoth, judgedOf, decodedOf, ProfileEnded, profiled, profileOf}
+use Rattle.profile.specs.Profile.{sizeFits, countFits, segmentsFit, sharpnessFits, tileRulesOf, headerRulesOf, bothAt, firstBoth, judgedOf, decodedOf, profiled, profileOf}
 
 -- ---- 1 and 2, 3 and 4, as the code tries them
 module _ (t : Tile) where

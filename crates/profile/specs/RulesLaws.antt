@@ -1,7 +1,7 @@
 -- What the rules' tests say, as facts and both ways; and which macroblock is the first that is both.
 use Prim.Native.Nat.{ℕ, zero, suc, _+_, _≤_, _<_}
-use mathlib.Core.Path.{_≡_, refl, sym, _∙_}
-use mathlib.Core.Bool.{Bool, true, false, not, _&&_}
+use mathlib.Core.Path.{_≡_, refl}
+use mathlib.Core.Bool.{Bool, true, false, not}
 use mathlib.Core.List.{List}
 use mathlib.Core.Logic.{_⊎_, inl, inr, ⊎-elim}
 use native.Mathlib.Omega.{arith}
@@ -15,24 +15,24 @@ use Rattle.profile.specs.Profile.{sizeFits, countFits, segmentsFit, shar
 
 -- ---- 1
 module _ (w h : ℕ) where
-  pub size-fact : sizeFits w h ≡ true → (w ≡ 256) × (h ≡ 256)
+  pub size-holds : sizeFits w h ≡ true → (w ≡ 256) × (h ≡ 256)
   unfolding sizeFits
-  size-fact e = (eqb-true w 256 (both-left (eqb w 256) _ e), eqb-true h 256 (both-right (eqb w 256) _ e))
+  size-holds e = (eqb-true w 256 (both-left (eqb w 256) _ e), eqb-true h 256 (both-right (eqb w 256) _ e))
 
-  pub size-test : w ≡ 256 → h ≡ 256 → sizeFits w h ≡ true
+  pub size-passes : w ≡ 256 → h ≡ 256 → sizeFits w h ≡ true
   unfolding sizeFits
-  size-test a b = both-true (eq-eqb w 256 a) (eq-eqb h 256 b)
+  size-passes a b = both-true (eq-eqb w 256 a) (eq-eqb h 256 b)
 
 -- ---- 2
-pub count-fact : (n : ℕ) → countFits n ≡ true → (n ≡ 1) ⊎ (n ≡ 2) ⊎ (n ≡ 4)
+pub count-holds : (n : ℕ) → countFits n ≡ true → (n ≡ 1) ⊎ (n ≡ 2) ⊎ (n ≡ 4)
 unfolding countFits
-count-fact n e = ⊎-elim inl (λ a. inr (⊎-elim inl (λ b. inr (eqb-true n 4 (rw (ne-eqb n 1 a, ne-eqb n 2 b) at e))) (eq-or n 2))) (eq-or n 1)
+count-holds n e = ⊎-elim inl (λ a. inr (⊎-elim inl (λ b. inr (eqb-true n 4 (rw (ne-eqb n 1 a, ne-eqb n 2 b) at e))) (eq-or n 2))) (eq-or n 1)
 
-pub count-test : (n : ℕ) → (n ≡ 1) ⊎ (n ≡ 2) ⊎ (n ≡ 4) → countFits n ≡ true
+pub count-passes : (n : ℕ) → (n ≡ 1) ⊎ (n ≡ 2) ⊎ (n ≡ 4) → countFits n ≡ true
 unfolding countFits
-count-test n (inl e) = rw e
-count-test n (inr (inl e)) = rw e
-count-test n (inr (inr e)) = rw e
+count-passes n (inl e) = rw e
+count-passes n (inr (inl e)) = rw e
+count-passes n (inr (inr e)) = rw e
 
 -- ---- 3 and 4: an entry announces nothing where it is 0, and only there
 absent : (z : ℤ) → not (presentOf z) ≡ true → z ≡ pos 0
@@ -44,21 +44,21 @@ none : (z : ℤ) → z ≡ pos 0 → not (presentOf z) ≡ true
 none z e = rw e
 
 module _ (h : List ℤ) where
-  pub segments-fact : segmentsFit h ≡ true → (entry h segmentsOn ≡ pos 0) × (entry h mapOn ≡ pos 0)
+  pub segments-holds : segmentsFit h ≡ true → (entry h segmentsOn ≡ pos 0) × (entry h mapOn ≡ pos 0)
   unfolding segmentsFit
-  segments-fact e = let b : Bool = not (presentAt h segmentsOn) in (absent (entry h segmentsOn) (both-left b _ e), absent (entry h mapOn) (both-right b _ e))
+  segments-holds e = let b : Bool = not (presentAt h segmentsOn) in (absent (entry h segmentsOn) (both-left b _ e), absent (entry h mapOn) (both-right b _ e))
 
-  pub segments-test : entry h segmentsOn ≡ pos 0 → entry h mapOn ≡ pos 0 → segmentsFit h ≡ true
+  pub segments-passes : entry h segmentsOn ≡ pos 0 → entry h mapOn ≡ pos 0 → segmentsFit h ≡ true
   unfolding segmentsFit
-  segments-test a b = both-true (none (entry h segmentsOn) a) (none (entry h mapOn) b)
+  segments-passes a b = both-true (none (entry h segmentsOn) a) (none (entry h mapOn) b)
 
-  pub sharpness-fact : sharpnessFits h ≡ true → entry h sharpness ≡ pos 0
+  pub sharpness-holds : sharpnessFits h ≡ true → entry h sharpness ≡ pos 0
   unfolding sharpnessFits
-  sharpness-fact = absent (entry h sharpness)
+  sharpness-holds = absent (entry h sharpness)
 
-  pub sharpness-test : entry h sharpness ≡ pos 0 → sharpnessFits h ≡ true
+  pub sharpness-passes : entry h sharpness ≡ pos 0 → sharpnessFits h ≡ true
   unfolding sharpnessFits
-  sharpness-test = none (entry h sharpness)
+  sharpness-passes = none (entry h sharpness)
 
 -- ---- 6: of n macroblocks from k on
 module _ (modes : List ℕ) where

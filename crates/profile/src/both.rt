@@ -5,7 +5,7 @@ use picture::rows::Decoded;
 ghost use mathlib.Core.Path.{_≡_};
 ghost use Rattle.profile.specs.Profile.{bothAt, firstBoth, judgedOf, decodedOf};
 
-// Whether macroblock k is.
+// Whether macroblock k is both, by its mode record.
 fn both(modes: &[u8], k: usize) -> bool
     ensures { λ r. ⌜ r ≡ bothAt (now (modes .entry)) k ⌝ }
 {
@@ -14,7 +14,7 @@ fn both(modes: &[u8], k: usize) -> bool
     kinds.skip & kinds.small
 }
 
-// The first of them that is, or their count.
+// The first of so many macroblocks that is, or their count.
 fn first_both(modes: &[u8], blocks: usize) -> usize
     ensures { λ r. ⌜ r ≡ firstBoth blocks 0 (now (modes .entry)) ⌝ }
 {
@@ -28,6 +28,7 @@ fn first_both(modes: &[u8], blocks: usize) -> usize
     k
 }
 
+// Rule 6 of a whole picture.
 fn judged(modes: &[u8], blocks: usize) -> Profiled
     ensures { λ r. ⌜ r ≡ judgedOf blocks (now (modes .entry)) ⌝ }
 {

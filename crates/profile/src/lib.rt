@@ -1,4 +1,4 @@
-// The cockpit tile profile (request M-111): the rules that need no decoding (rules), the last one (both), and the call.
+// The cockpit tile profile (request M-111): the rules that need no decoding (rules), those that the picture call decides (both), the call.
 mod both;
 mod rules;
 
@@ -14,8 +14,8 @@ ghost use Rattle.lent.specs.Memory.{memoryOf};
 ghost use Rattle.picture.specs.Checks.{callOf};
 ghost use Rattle.profile.specs.Profile.{profiled, profileOf, profileRuleOf, profileBlockOf, profileNumberOf};
 
-// It fits; or the first rule that fails: 1 to 5, or 6 with the first macroblock that is both skipped and small; or an argument was refused,
-// 3 to 5.
+// It fits; or the first rule that fails, 1 to 5, or 6 with the first macroblock that is both skipped and small; or an argument was
+// refused, 3 to 5.
 pub enum Profiled {
     Fits,
     Rule(u32),
@@ -61,7 +61,7 @@ impl Profiled {
     }
 }
 
-// Whether a tile fits. Lent is what the picture call is lent; it is made only where the rules 1 to 4 hold and no argument is refused.
+// Whether a tile fits. Lent is what the picture call is lent, which is made where rules 1 to 4 hold and no argument is refused.
 pub fn profile(
     bytes: &[u8],
     tile: Tile,

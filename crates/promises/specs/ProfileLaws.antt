@@ -5,49 +5,46 @@ use mathlib.Core.Bool.{Bool, true, false, _&&_}
 use mathlib.Core.List.{List}
 use mathlib.Core.Logic.{_⊎_, inl, inr, ⊎-elim}
 use native.Mathlib.Omega.{arith}
-use lib.Dec.{lit<, lit≤}
+use lib.Dec.{lit<}
 use lib.ListN.{length, getD}
 use Rattle.numbers.specs.Flags.{bitOf}
 use Rattle.numbers.specs.Tests.{lt-or, eq-or, never, not-so, both-left, both-right, both-true}
 use Rattle.reader.specs.BooleanLaws.{Bytes}
-use Rattle.lent.specs.Records.{recordAt, recordsIn, modeWidth, isOn, modeFound}
+use Rattle.lent.specs.Records.{recordAt, recordsIn, modeWidth, isOn}
 use Rattle.lent.specs.RecordsLaws.{record-byte}
 use Rattle.lent.specs.MacroblocksLaws.{mode-read}
 use Rattle.lent.specs.declared.macroblocks.ModeRecord.{ModeRecord}
 use Rattle.lent.specs.Memory.{Memory, sizesOf}
 use Rattle.tile.specs.Checks.{Sides, Counted}
-use Rattle.picture.specs.declared.rows.Decoded.{Decoded}
 use Rattle.picture.specs.declared.rows.Decoded.the-variants as D
 use Rattle.picture.specs.Checks.{Call, refusalOf}
-use Rattle.picture.specs.ChecksLaws.{refused-side, refused-count}
-use Rattle.picture.specs.Picture.{Picture, State, Ended, picturedOf, begunOf, pictureOf, numberOf, valuesOf}
+use Rattle.picture.specs.Picture.{Picture, State, Ended, pictureOf, numberOf, valuesOf}
 use Rattle.profile.specs.declared.Profiled.{Profiled}
 use Rattle.profile.specs.declared.Profiled.the-variants as P
-use Rattle.profile.specs.Profile.{sizeFits, countFits, segmentsFit, sharpnessFits, tileRulesOf, headerRulesOf, bothAt, firstBoth, judgedOf, decodedOf, ProfileEnded, profiled, profileOf, profileNumberOf}
+use Rattle.profile.specs.Profile.{sizeFits, countFits, segmentsFit, sharpnessFits, tileRulesOf, bothAt, firstBoth, judgedOf, decodedOf, ProfileEnded, profiled, profileOf, profileNumberOf}
 use Rattle.profile.specs.ProfileLaws.{tile-size, tile-count, tile-fits, header-segments, header-sharpness, header-fits, judged-named, judged-fits, decoded-stopped, decoded-whole, profile-early, profile-refused, profile-late, profile-decoded}
-use Rattle.profile.specs.RulesLaws.{size-fact, size-test, count-fact, count-test, segments-fact, segments-test, sharpness-fact, sharpness-test, first-is, first-before, first-none, first-at}
+use Rattle.profile.specs.RulesLaws.{size-holds, size-passes, count-holds, count-passes, segments-holds, segments-passes, sharpness-holds, sharpness-passes, first-is, first-before, first-none, first-at}
 use Rattle.promises.specs.Refusals.{Bad, Fine, number, Refused, refused-changes-nothing}
 use Rattle.promises.specs.Reached.{Ending, whole, modes-out, tokens-out}
 use Rattle.promises.specs.Stops.{macroblocks, stops-at}
-use Rattle.promises.specs.Places.{modeByte}
 use Rattle.promises.specs.KeptLaws.{sound, live-reached}
 use Rattle.promises.specs.Grey.{Made, done, FinishedOrGrey}
 use Rattle.promises.specs.GreyLaws.{finished-or-grey}
-use Rattle.promises.specs.Profile.{Square, Few, Plain, Soft, Whole, Both, Neither, Fitting, Judged, fails-1, fails-2, refused, fails-3, fails-4, fails-5, fails-6, fits, Judges, YesExactly, Refusing, FitsWhole}
+use Rattle.promises.specs.Profile.{Square, Few, Plain, Soft, Whole, Both, Fitting, Judged, fails-1, fails-2, refused, fails-3, fails-4, fails-5, fails-6, fits, Judges, YesExactly, Refusing, FitsWhole}
 
 -- ---- the tests and the facts
 module _ (t : Call) where
   square : sizeFits (t .tile .width) (t .tile .height) ≡ true → Square t
-  square e = let f = size-fact (t .tile .width) (t .tile .height) e in record { width = f .0; height = f .1 }
+  square e = let f = size-holds (t .tile .width) (t .tile .height) e in record { width = f .0; height = f .1 }
 
   square-passes : Square t → sizeFits (t .tile .width) (t .tile .height) ≡ true
-  square-passes s = size-test (t .tile .width) (t .tile .height) (s .width) (s .height)
+  square-passes s = size-passes (t .tile .width) (t .tile .height) (s .width) (s .height)
 
   plain : segmentsFit (t .header) ≡ true → Plain t
-  plain e = let f = segments-fact (t .header) e in record { segments = f .0; map = f .1 }
+  plain e = let f = segments-holds (t .header) e in record { segments = f .0; map = f .1 }
 
   plain-passes : Plain t → segmentsFit (t .header) ≡ true
-  plain-passes s = segments-test (t .header) (s .segments) (s .map)
+  plain-passes s = segments-passes (t .header) (s .segments) (s .map)
 
   -- what fits the first two rules is never refused by 1 or 2
   sides : Square t → Sides (t .tile .width) (t .tile .height)
@@ -142,7 +139,7 @@ module _ (t : Call) (m : Memory) where
 
     module _ (f : Few t) where
       tile-passes : 0 ≡ tileRulesOf (t .tile)
-      tile-passes = tile-fits (t .tile) (square-passes t s) (count-test (t .tile .count) f)
+      tile-passes = tile-fits (t .tile) (square-passes t s) (count-passes (t .tile .count) f)
 
       by-refusal : Bad t m → profiled (P.Refused (number t m)) m ≡ profileOf t m
       by-refusal b =
@@ -164,7 +161,7 @@ module _ (t : Call) (m : Memory) where
 
           module _ (o : Soft t) where
             by-picture : {r : Profiled} → r ≡ decodedOf (pictureOf t m .answer) modes → profiled r (pictureOf t m .mem) ≡ profileOf t m
-            by-picture = profile-decoded t m tile-passes refl (sym e) refl (header-fits (t .header) (plain-passes t p) (sharpness-test (t .header) o)) refl refl
+            by-picture = profile-decoded t m tile-passes refl (sym e) refl (header-fits (t .header) (plain-passes t p) (sharpness-passes (t .header) o)) refl refl
 
             stopped : (Whole t m → ⊥) → profiled (P.Rule 5) (pictureOf t m .mem) ≡ profileOf t m
             stopped n = by-picture (decoded-stopped (pictureOf t m .answer) modes refl n)
@@ -201,8 +198,8 @@ module _ (t : Call) (m : Memory) (b : Bytes (t .bytes)) where
     by-picture-answer p o (inr n) = subst (Judged t m) (stopped t m s f e p o n) (fails-5 s f e p o n)
 
     by-sharpness : (p : Plain t) (x : Bool) → sharpnessFits (t .header) ≡ x → Judged t m (profileOf t m)
-    by-sharpness p true g = by-picture-answer p (sharpness-fact (t .header) g) (eq-or (number t m) 0)
-    by-sharpness p false g = subst (Judged t m) (late-sharpness t m s f e p g) (fails-4 s f e p (λ o. never (sharpness-test (t .header) o) g))
+    by-sharpness p true g = by-picture-answer p (sharpness-holds (t .header) g) (eq-or (number t m) 0)
+    by-sharpness p false g = subst (Judged t m) (late-sharpness t m s f e p g) (fails-4 s f e p (λ o. never (sharpness-passes (t .header) o) g))
 
     by-segments : (x : Bool) → segmentsFit (t .header) ≡ x → Judged t m (profileOf t m)
     by-segments true g = by-sharpness (plain t g) (sharpnessFits (t .header)) refl
@@ -213,8 +210,8 @@ module _ (t : Call) (m : Memory) (b : Bytes (t .bytes)) where
   by-arguments s f (inr n) = subst (Judged t m) (by-refusal t m s f n) (refused s f (refusal-late t m s f n))
 
   by-count : Square t → (x : Bool) → countFits (t .tile .count) ≡ x → Judged t m (profileOf t m)
-  by-count s true g = by-arguments s (count-fact (t .tile .count) g) (eq-or (refusalOf t (sizesOf m)) 0)
-  by-count s false g = subst (Judged t m) (early-count t m s g) (fails-2 s (λ f. never (count-test (t .tile .count) f) g))
+  by-count s true g = by-arguments s (count-holds (t .tile .count) g) (eq-or (refusalOf t (sizesOf m)) 0)
+  by-count s false g = subst (Judged t m) (early-count t m s g) (fails-2 s (λ f. never (count-passes (t .tile .count) f) g))
 
   by-size : (x : Bool) → sizeFits (t .tile .width) (t .tile .height) ≡ x → Judged t m (profileOf t m)
   by-size true g = by-count (square t g) (countFits (t .tile .count)) refl
@@ -225,10 +222,10 @@ module _ (t : Call) (m : Memory) (b : Bytes (t .bytes)) where
   profile-judges = record {
     one = by-size (sizeFits (t .tile .width) (t .tile .height)) refl;
     rule-1 = λ n. sym (early-square t m (fails (λ e. n (square t e))));
-    rule-2 = λ s n. sym (early-count t m s (fails (λ e. n (count-fact (t .tile .count) e))));
+    rule-2 = λ s n. sym (early-count t m s (fails (λ e. n (count-holds (t .tile .count) e))));
     refusal = λ s f n. sym (by-refusal t m s f n);
     rule-3 = λ s f e n. sym (late-segments t m s f e (fails (λ g. n (plain t g))));
-    rule-4 = λ s f e p n. sym (late-sharpness t m s f e p (fails (λ g. n (sharpness-fact (t .header) g))));
+    rule-4 = λ s f e p n. sym (late-sharpness t m s f e p (fails (λ g. n (sharpness-holds (t .header) g))));
     rule-5 = λ s f e p o n. sym (stopped t m s f e p o n);
     rule-6 = λ s f p o w {k} h x n.
         let e = whole-fine t m w in

@@ -1,3 +1,4 @@
+use native.Mathlib.Omega.{arith}
 use borrow.Author.Needs.{needs}
 use Rattle.lent.specs.Memory.{Memory, memoryOf}
 use Rattle.picture.specs.Checks.{Call, callOf}
@@ -23,7 +24,7 @@ returns-2 c = let s = c .before .before .before .before .before .before .before 
 returns-3 : tie.Need-returns-3
 returns-3 c =
     let s = c .before .before .before .before .before .before .before .before .before .before .before .before .before in
-    profile-late (call s) (lent s) (c .before .before .before .before .before .tile-rules .ensures) (c .before .before .before .before .if1 .left) (c .before .before .before .refusal .ensures) (c .before .before .if2 .left) (c .before .header-rules .ensures) (c .if3 .taken)
+    profile-late (call s) (lent s) (c .before .before .before .before .before .tile-rules .ensures) (c .before .before .before .before .if1 .left) (c .before .before .before .refusal .ensures) (c .before .before .if2 .left) (c .before .header-rules .ensures) (λ z. omega (arith, z, c .if3 .taken))
 
 -- the picture call and what it shows
 returns-4 : tie.Need-returns-4
