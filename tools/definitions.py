@@ -32,10 +32,12 @@ CHAPTERS = [
     ("Lent memory", "", ["lent/Records", "lent/Sizes", "lent/Memory"]),
     ("One macroblock, all of them, the call", "section 2", ["macroblock/Macroblock", "macroblock/Source", "picture/Checks", "picture/Picture"]),
     ("What a cut tile still tells", "request M-108", ["macroblock/Rebuilt", "picture/Halt", "rescue/Rescue"]),
+    ("Whether a tile fits the cockpit profile", "request M-111", ["profile/Profile"]),
     ("The WebP file", "RFC 9649", ["webp/Webp", "webp/Worked"]),
     ("Case files", "", ["casefile/CaseFile", "casefile/Measures", "casefile/Run"]),
     ("The calls as C sees them", "",
-     ["hookbarley/TileNumbers", "hookbarley/Calls", "hookbarley/ExplainCalls", "hookbarley/FrameCalls", "hookbarley/WebpCalls", "hookbarley/RescueCalls"]),
+     ["hookbarley/TileNumbers", "hookbarley/Calls", "hookbarley/ExplainCalls", "hookbarley/FrameCalls", "hookbarley/WebpCalls", "hookbarley/RescueCalls",
+      "hookbarley/ProfileCalls"]),
 ]
 
 # ---- the page of notation: forms of the language, then the kit's names by module

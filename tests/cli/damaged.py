@@ -1,9 +1,9 @@
 #!/usr/bin/env python3
 """The program on cut and damaged files: damaged.py ROOM N SEED CHECKED PLAIN FILE.. where CHECKED is the program built with sanitizers and
-PLAIN the one that valgrind runs. Every cut of each FILE and N damaged copies go, one by one, through `decode`, `decode --rescue` and `info`
-of CHECKED: the exit status is 0 or 1, standard error says what happened where it is 1 and nothing where it is 0, and there is a picture
-exactly where it is whole, cut or rescued. `info` says what `decode` says. `decode --rescue` stops where `decode` does, except in a WebP
-file that `decode` refuses for its sizes. Then all of them, a hundred at a time, go through `decode` under valgrind, with and without
+PLAIN the one that valgrind runs. Every cut of each FILE and N damaged copies go, one by one, through `decode`, `decode --rescue`, `info`
+and `fits` of CHECKED: the exit status is 0 or 1, standard error says what happened where it is 1 and nothing where it is 0, and there is a picture
+exactly where it is whole, cut or rescued. `info` says what `decode` says. `fits` refuses what `decode` refuses and says a line of every
+other picture. `decode --rescue` stops where `decode` does, except in a WebP file that `decode` refuses for its sizes. Then all of them, a hundred at a time, go through `decode` under valgrind, with and without
 --rescue, which must find no error and no leak."""
 import os
 import random
@@ -16,7 +16,8 @@ room, n, seed, checked, plain = sys.argv[1], int(sys.argv[2]), int(sys.argv[3]),
 originals = [open(f, "rb").read() for f in sys.argv[6:]]
 draw = random.Random(seed)
 SAID = re.compile(rb"^\S+: (frame \d+: )?(refused|cut|rescued): (\d+, |the IVF file )[^\n]*\n$")
-said_of, rescued_of = Counter(), Counter()
+JUDGED = re.compile(rb"^\S+: (?:frame \d+: )?(?:(fits)|rule (\d) fails: [^\n]*)\n$")
+said_of, rescued_of, judged_of = Counter(), Counter(), Counter()
 
 
 def damaged(bytes_):
@@ -76,9 +77,23 @@ def answer(result):
     return "0" if not lines else SAID.match(lines[-1])[3].decode().rstrip(", ").replace("the IVF file", "IVF")
 
 
+def judge(path, plainly):
+    """What `fits` says beside what `decode` said; counts the rules."""
+    result = run(checked, "fits", path)
+    refused = b"".join(line for line in plainly.stderr.splitlines(keepends=True) if b": refused: " in line)
+    lines = [JUDGED.match(line) for line in result.stdout.splitlines(keepends=True)]
+    if not all(lines) or result.stderr != refused or len(lines) != plainly.stdout.count(b"\n"):
+        fail(path, "fits and decode differ", result)
+    rules = [(line[1] or line[2]).decode() for line in lines]
+    if result.returncode != (bool(refused) or set(rules) != {"fits"}):
+        fail(path, "fits ends with another status", result)
+    judged_of.update(rules)
+
+
 def one(path):
-    """Runs the three commands and counts what was said."""
+    """Runs the four commands and counts what was said."""
     plainly, rescue, info = decoded(path), decoded(path, "--rescue"), run(checked, "info", path)
+    judge(path, plainly)
     if plainly.returncode != info.returncode or plainly.stderr != info.stderr:
         fail(path, "decode and info differ", info)
     said_of[answer(plainly)] += 1
@@ -113,7 +128,7 @@ def listed(counts):
 
 
 print(f"{cuts} cuts of {len(originals)} files and {n} damaged ones, one by one: answers {listed(said_of)}; "
-      f"of those refused with 18, with --rescue {listed(rescued_of)}")
+      f"of those refused with 18, with --rescue {listed(rescued_of)}; rules of the profile {listed(judged_of)}")
 batches = [paths[i:i + 100] for i in range(0, len(paths), 100)]
 for batch, options in [(batch, options) for batch in batches for options in ([], ["--rescue"])]:
     valgrind = ["valgrind", "-q", "--error-exitcode=99", "--leak-check=full", "--errors-for-leak-kinds=all"]

@@ -1,6 +1,7 @@
 #!/usr/bin/env bash
-# The program on every cut of three files (WebP, IVF, a bare frame) and on N damaged copies of them (1000): tests/cli/damaged.sh [N
-# [SEED]]. By hand, on x86-64: it needs valgrind and gcc's sanitizers; the gate does not run it. damaged.py says what is looked at.
+# The program on every cut of four files (WebP, IVF, a bare frame, a tile that fits) and on N damaged copies of them (1000):
+# tests/cli/damaged.sh [N [SEED]]. By hand, on x86-64: it needs valgrind and gcc's sanitizers; the gate does not run it. damaged.py says
+# what is looked at.
 set -u
 cd "$(dirname "$0")/../.." || exit 1
 n=${1:-1000}
@@ -18,6 +19,6 @@ kept=tests/second/kept
 tail -c +21 $kept/simple-strong.webp >$out/simple-strong.vp8
 echo "archive $ARCHIVE, $n damaged, seed $seed"
 python3 tests/cli/damaged.py $out "$n" "$seed" $out/checked $out/plain $kept/normal-sharp.webp $kept/two-partitions.ivf \
-    $out/simple-strong.vp8 || { echo "cli: FAILED, seed $seed"; exit 1; }
+    $out/simple-strong.vp8 tests/outside/profile/fits.webp || { echo "cli: FAILED, seed $seed"; exit 1; }
 rm -rf $out/cut-* $out/damaged-*
 echo "cli: passed, seed $seed"

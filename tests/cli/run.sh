@@ -37,7 +37,7 @@ common() { # common A B RUNS: which macroblocks of 256 by 256 samples both have
 }
 
 # Usage: status 2.
-hb 0 --help && said 'hookbarley decode' && said 'hookbarley info' && said 'hookbarley wrap' && said '--rescue' && said 'Exit status' && quiet
+hb 0 --help && said 'hookbarley decode' && said 'hookbarley info' && said 'hookbarley fits' && said 'hookbarley wrap' && said '--rescue' && said 'Exit status' && quiet
 hb 0 --version && said "hookbarley $(sed -n 's/^#define HOOKBARLEY_VERSION "\(.*\)"$/\1/p' include/hookbarley.h)"
 hb 2 && warned 'no command'
 hb 2 paint && warned 'what is paint'
@@ -48,6 +48,7 @@ hb 2 decode $out/absent.webp $out/a.ppm && warned 'No such file'
 hb 2 decode bench/tile-q90.webp $out/absent/a.ppm && warned 'No such file'
 hb 2 decode bench/tile-q90.webp /dev/full --to yuv && warned 'No space'
 hb 2 info && warned 'info takes an IN'
+hb 2 fits && warned 'fits takes an IN'
 hb 2 wrap bench/tile-q90.webp && warned 'wrap takes'
 none a.ppm
 
@@ -161,6 +162,28 @@ hb 2 decode bench/tile-q90.webp $out/../../bench/tile-q90.webp $out/twice && war
 hb 0 info bench/tile-q90.webp $kept/eight-partitions.ivf && said '256 x 256, coded as 256 x 256, macroblocks 16 x 16'
 said '24 x 145, coded as 32 x 160' && said '8 of tokens:' && said '2 files, 3 pictures' && said '0, every macroblock is finished (256)'
 
+# The cockpit profile: a line a frame, the rule in words; status 0 only where all fit.
+tiles=tests/outside/profile
+hb 0 fits $tiles/fits*.webp $tiles/fits*.vp8 && quiet
+[ "$(grep -c ': fits$' $out/said)" -eq 5 ] && [ "$(wc -l <$out/said)" -eq 5 ] || bad "$what: not five lines that say so"
+breaks() { # breaks FILE RULE WORDS
+    hb 1 fits "$1" && said "$1: rule $2 fails: $3" && quiet
+    [ "$(wc -l <$out/said)" -eq 1 ] || bad "$what: not one line"
+}
+breaks $tiles/wide-segments.webp 1 'coded as 272 x 256 and not 256 x 256'
+breaks $tiles/eight-sharp.vp8 2 '8 token partitions and not 1, 2 or 4'
+breaks $tiles/segments-sharp.webp 3 'segments are on'
+breaks $tiles/sharp.webp 4 'sharpness is 3 and not 0'
+head -c 2000 $tiles/fits-two.vp8 >$out/fits-cut.vp8
+breaks $out/fits-cut.vp8 5 'a partition runs out before every macroblock is finished'
+breaks $tiles/skipped.vp8 6 'macroblock 131 (column 3, row 8) is both skipped and small'
+hb 1 fits $tiles/fits.webp $out/inter.vp8 $tiles/sharp.webp $kept/two-partitions.ivf && said 'fits.webp: fits' && said 'sharp.webp: rule 4 fails'
+said 'two-partitions.ivf: frame 0: rule 1 fails' && said 'two-partitions.ivf: frame 1: rule 1 fails' && warned 'inter.vp8: refused: 12, '
+[ "$(wc -l <$out/said)" -eq 4 ] || bad "$what: not four lines"
+hb 1 fits tests/outside/webp/lossless.webp && warned 'refused: 19' && [ ! -s $out/said ] || bad "$what: says something of it"
+hb 1 fits $out/none.ivf && warned 'refused: the IVF file'
+hb 2 fits $tiles/fits.webp $out/absent.webp && said 'fits.webp: fits' && warned 'No such file'
+
 # Explained: in words and in colours.
 hb 0 explain bench/tile-q50.webp 15 20 && said 'luma at 15 20: 138 before the loop filter' && said 'U at 7 10' && said 'V at 7 10' && quiet
 hb 0 explain bench/tile-q50.webp $out/e.svg && grep -q '</svg>' $out/e.svg || bad "$what: no picture"
@@ -234,6 +257,6 @@ else
     tail -n 5 $out/install.log
     bad "tools/install.sh"
 fi
-[ $tried -ge 123 ] || bad "only $tried runs of the program"
+[ $tried -ge 135 ] || bad "only $tried runs of the program"
 [ $failed -eq 0 ] && echo "cli: passed, $tried runs of the program"
 exit $failed

@@ -1,8 +1,8 @@
 #!/usr/bin/env python3
 """Tiles that break the rules of the cockpit profile (M-111), each rule alone and every set of them: made_tiles.py FOLDER SEED
 
-Writes a frame for each of the 64 sets into FOLDER, under the rules that it breaks, and prints the line of profile.py that it is made to have:
-its name, 0, the first of these rules, the macroblock that rule 6 names.
+Writes a frame for each of the 64 sets into FOLDER, named after the rules that it breaks, and prints the line of profile.py that it is made
+to have: its name, 0, the first of these rules, the macroblock that rule 6 names.
 """
 import random
 import sys

@@ -1,8 +1,8 @@
 #!/usr/bin/env python3
 """Whether key frames fit the cockpit profile (M-111), worked out without the crates: profile.py FILE..
 
-For each FILE, a WebP file or a bare VP8 frame, a line: its name, the number of the refusal, the rule that fails (0: none), the macroblock that
-rule 6 names. The header is read as in frame_header.py; behind it modes and tokens as in counts.py, from the same first partition.
+For each FILE, a WebP file or a bare VP8 frame, a line: its name, the number of the refusal, the rule that fails (0: none), the macroblock
+that rule 6 names. The header is read as in frame_header.py; behind it modes and tokens as in counts.py, from the same first partition.
 """
 import sys
 

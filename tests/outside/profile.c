@@ -1,10 +1,12 @@
 /* The cockpit profile from outside, between guard pages (guard.h) and beside the picture call: profile N SEED FILE..
  *
- * Each FILE is a WebP file or a bare VP8 frame. What holds of every call, at both guards and over two poisons: number, rule and macroblock are those
- * of a reading of the rules of its own (`judge`), and memory is as it was lent up to rule 4 and as the picture call leaves it from rule 5 on.
+ * Each FILE is a WebP file or a bare VP8 frame. What holds of every call, at both guards and over two poisons: number, rule and
+ * macroblock are those of a reading of the rules of its own (`judge`), and memory is as it was lent up to rule 4 and as the picture call
+ * leaves it from rule 5 on.
  * Run here:
  *   files   every file, as it is;
- *   broken  of one that fits, every set of eight things to break: size, count, segments, sharpness, an entry, a length, a partition, the tile;
+ *   broken  of one that fits, every set of eight things to break: size, count, segments, sharpness, an entry, a length, a partition, the
+ *           tile's numbers;
  *   cut     of those that reach rule 5, every partition cut to some forty lengths;
  *   random  N inputs made from SEED, most of them 256 by 256, valid, damaged and absurd. */
 #include "drawn_calls.h"

@@ -1,7 +1,7 @@
 /* What the cockpit profile says of frames, told as tests/model/profile.py tells it: profile_lines FILE..
  *
- * For each FILE, a WebP file or a bare VP8 frame, a line: its name, the number, the rule that fails, the macroblock that it names. The calls are
- * the inline ones of include/hookbarley.h. */
+ * For each FILE, a WebP file or a bare VP8 frame, a line: its name, the number, the rule that fails, the macroblock that it names. The
+ * calls are the inline ones of include/hookbarley.h. */
 #include "hookbarley.h"
 #include <stdio.h>
 #include <stdlib.h>

@@ -46,8 +46,10 @@ uint32_t __wrap_hookbarley_profile(PARAMETERS) {
     uint64_t reads, more;
     if (!n && *rule == 3 && hookbarley_decode(ARGUMENTS, &finished, &reads, &more)) *rule = 5;
 #elif FAULT == 10 /* the last macroblock is named */
-    for (size_t k = *macroblock; *rule == 6 && k < modes_len / HOOKBARLEY_MODE_BYTES; k++)
-        if (modes[HOOKBARLEY_MODE_BYTES * k + HOOKBARLEY_MODE_SKIP] && modes[HOOKBARLEY_MODE_BYTES * k + HOOKBARLEY_MODE_SMALL]) *macroblock = k;
+    for (size_t k = *macroblock; *rule == 6 && k < modes_len / HOOKBARLEY_MODE_BYTES; k++) {
+        const uint8_t *mode = modes + HOOKBARLEY_MODE_BYTES * k;
+        if (mode[HOOKBARLEY_MODE_SKIP] && mode[HOOKBARLEY_MODE_SMALL]) *macroblock = k;
+    }
 #elif FAULT == 11 /* memory is filled where rule 3 fails */
     if (*rule == 3 && y_len) memset(y, 128, y_len);
 #elif FAULT == 12 /* a refusal is told before rule 2 */

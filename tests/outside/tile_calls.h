@@ -1,5 +1,5 @@
-/* The picture call, the rescue call and the profile as tests make them: arguments of any length between guard pages (guard.h), read from case files; the
- * refusal that they ask for; what holds of an answer's macroblocks and what those of two answers have in common. */
+/* The picture call, the rescue call and the profile as tests make them: arguments of any length between guard pages (guard.h), read from
+ * case files; the refusal that they ask for; what holds of an answer's macroblocks and what those of two answers have in common. */
 #ifndef TILE_CALLS_H
 #define TILE_CALLS_H
 
