@@ -125,7 +125,8 @@ static void cut(void) {
     size_t cuts = 0;
     for (size_t t = 0; t < tiles_len; t++) {
         copy(&c, &tiles[t]);
-        if (judge(&c).rule && judge(&c).rule < HOOKBARLEY_PROFILE_WHOLE) continue;
+        uint32_t rule = judge(&c).rule;
+        if (rule != HOOKBARLEY_PROFILE_FITS && rule < HOOKBARLEY_PROFILE_WHOLE) continue;
         for (size_t p = 0; p <= c.tile.count; p++) {
             size_t *length = length_of(&c, p), from = *length, step = 1 + from / 40;
             for (size_t n = below(step); n < from; n += step, cuts++) {
