@@ -33,11 +33,12 @@ CHAPTERS = [
     ("One macroblock, all of them, the call", "section 2", ["macroblock/Macroblock", "macroblock/Source", "picture/Checks", "picture/Picture"]),
     ("What a cut tile still tells", "request M-108", ["macroblock/Rebuilt", "picture/Halt", "rescue/Rescue"]),
     ("Whether a tile fits the cockpit profile", "request M-111", ["profile/Profile"]),
+    ("A survey over a delivery", "request M-110", ["survey/Survey"]),
     ("The WebP file", "RFC 9649", ["webp/Webp", "webp/Worked"]),
     ("Case files", "", ["casefile/CaseFile", "casefile/Measures", "casefile/Run"]),
     ("The calls as C sees them", "",
      ["hookbarley/TileNumbers", "hookbarley/Calls", "hookbarley/ExplainCalls", "hookbarley/FrameCalls", "hookbarley/WebpCalls", "hookbarley/RescueCalls",
-      "hookbarley/ProfileCalls"]),
+      "hookbarley/ProfileCalls", "hookbarley/SurveyCalls"]),
 ]
 
 # ---- the page of notation: forms of the language, then the kit's names by module

@@ -8,6 +8,8 @@ pub mod ProfileCalls
 pub mod ProfileCallsLaws
 pub mod RescueCalls
 pub mod RescueCallsLaws
+pub mod SurveyCalls
+pub mod SurveyCallsLaws
 pub mod TileNumbers
 pub mod TileNumbersLaws
 pub mod WebpCalls

@@ -68,10 +68,12 @@ use Rattle.picture.specs.Halt.{haltedOf}
 use Rattle.lent.specs.declared.sizes.Sizes.{Sizes}
 use Rattle.rescue.specs.declared.Rescued.{Rescued}
 use Rattle.rescue.specs.Rescue.{rescueOf, rescueNumberOf, savedCountOf}
+use Rattle.survey.specs.Survey.{addOf, surveyOf}
 use Rattle.hookbarley.specs.RescueCalls.{rescueCalledOf}
 use Rattle.profile.specs.declared.Profiled.{Profiled}
 use Rattle.profile.specs.Profile.{profileOf, profileRuleOf, profileBlockOf, profileNumberOf}
 use Rattle.hookbarley.specs.ProfileCalls.{profileCalledOf}
+use Rattle.hookbarley.specs.SurveyCalls.{surveyCalledOf}
 use Rattle.picture.specs.Counts.{costOf}
 use Rattle.hookbarley.specs.FrameCalls.{frameCalledOf}
 use Rattle.hookbarley.specs.WebpCalls.{webpFoundOf, webpWrappedOf}
@@ -536,6 +538,16 @@ profile-number self = determined (profileNumberOf self)
 pub profile-profile : (bytes : List ℕ) (tile : Tile) (header : List ℤ) (y u v columns modes strengths : List ℕ) → One (λ o. o ≡ profileOf (callOf bytes tile header) (memoryOf y u v columns modes strengths))
 profile-profile bytes tile header y u v columns modes strengths = determined (profileOf (callOf bytes tile header) (memoryOf y u v columns modes strengths))
 
+-- ---- survey
+-- survey::sums::add
+pub survey-add : (counts other : List ℕ) → One (λ o. o ≡ addOf counts other)
+survey-add counts other = determined (addOf counts other)
+
+-- survey::survey
+pub survey-survey : (bytes : List ℕ) (tile : Tile) (header : List ℤ) (y u v columns modes strengths counts : List ℕ)
+    → One (λ o. o ≡ surveyOf (callOf bytes tile header) (memoryOf y u v columns modes strengths) counts)
+survey-survey bytes tile header y u v columns modes strengths counts = determined (surveyOf (callOf bytes tile header) (memoryOf y u v columns modes strengths) counts)
+
 -- ---- casefile
 -- casefile::run::run
 pub casefile-run : (file : List ℕ) → One (λ o. o ≡ ranOf file)
@@ -571,6 +583,14 @@ hookbarley-rescue bytes header tile y u v columns modes strengths marks = determ
 -- hookbarley::profiling::hookbarley_profile
 pub hookbarley-profile : (bytes : List ℕ) (header : List ℤ) (tile y u v columns modes strengths : List ℕ) → One (λ o. o ≡ profileCalledOf bytes header tile (memoryOf y u v columns modes strengths))
 hookbarley-profile bytes header tile y u v columns modes strengths = determined (profileCalledOf bytes header tile (memoryOf y u v columns modes strengths))
+
+-- hookbarley::surveying::hookbarley_survey
+pub hookbarley-survey : (bytes : List ℕ) (header : List ℤ) (tile y u v columns modes strengths counts : List ℕ) → One (λ o. o ≡ surveyCalledOf bytes header tile (memoryOf y u v columns modes strengths) counts)
+hookbarley-survey bytes header tile y u v columns modes strengths counts = determined (surveyCalledOf bytes header tile (memoryOf y u v columns modes strengths) counts)
+
+-- hookbarley::surveying::hookbarley_survey_add
+pub hookbarley-survey-add : (counts other : List ℕ) → One (λ o. o ≡ addOf counts other)
+hookbarley-survey-add counts other = determined (addOf counts other)
 
 -- hookbarley::deblocking::hookbarley_deblock
 pub hookbarley-deblock : (y u v strengths : List ℕ) (width height simple : ℕ) → One (λ o. o ≡ deblockCalledOf (planesOf y u v) strengths width height simple)

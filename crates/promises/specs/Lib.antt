@@ -37,3 +37,6 @@ pub mod RemadeLaws
 pub mod RescueDeblockedLaws
 pub mod Profile
 pub mod ProfileLaws
+pub mod Survey
+pub mod SurveyHeldLaws
+pub mod SurveyLaws

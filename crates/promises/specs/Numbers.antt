@@ -63,10 +63,12 @@ use Rattle.deblock.specs.Deblock.{deblockOf}
 use Rattle.lent.specs.Memory.{Memory}
 use Rattle.macroblock.specs.Rebuilt.{noResidual, legibleOf, rebuildCallOf}
 use Rattle.rescue.specs.Rescue.{rescueOf, rescueNumberOf, savedCountOf}
-use Rattle.hookbarley.specs.Calls.{flagOf, filteredOf, deblockCalledOf, handedCall}
+use Rattle.hookbarley.specs.Calls.{flagOf, filteredOf, deblockCalledOf, calledNumbers, handedCall}
+use Rattle.survey.specs.Survey.{surveyOf}
 use Rattle.hookbarley.specs.RescueCalls.{rescueNumbers, rescueCalledOf}
 use Rattle.profile.specs.Profile.{profileOf, profileRuleOf, profileBlockOf, profileNumberOf}
 use Rattle.hookbarley.specs.ProfileCalls.{profileNumbers, profileCalledOf}
+use Rattle.hookbarley.specs.SurveyCalls.{surveyNumbers, toSurveyCalled, surveyCalledOf}
 use Rattle.hookbarley.specs.ExplainCalls.{ruleNumberOf, pairNumberOf, explainCalledOf}
 use Rattle.hookbarley.specs.FrameCalls.{numbersOf, frameCalledOf}
 use Rattle.hookbarley.specs.WebpCalls.{webpFoundOf, webpWrappedOf}
@@ -278,6 +280,9 @@ pub record Numbers : Type 0 where
   pub c-profile : (b : List ℕ) (header : List ℤ) (tile : List ℕ) (m : Memory) → eqb (length tile) 28 ≡ true
       → let e = profileOf (handedCall b header tile) m in
       profileCalledOf b header tile m ≡ profileNumbers (profileNumberOf (e .answer)) (profileRuleOf (e .answer)) (profileBlockOf (e .answer)) (e .mem)
+  -- hookbarley::surveying::hookbarley_survey: 9 and nothing changed where there are not 28 numbers, else as `survey`, of which Survey.antt speaks
+  pub c-survey-room : (b : List ℕ) (header : List ℤ) (tile : List ℕ) (m : Memory) (counts : List ℕ) → eqb (length tile) 28 ≡ false → surveyCalledOf b header tile m counts ≡ surveyNumbers (calledNumbers 9 0 0 0 m) counts
+  pub c-survey : (b : List ℕ) (header : List ℤ) (tile : List ℕ) (m : Memory) (counts : List ℕ) → eqb (length tile) 28 ≡ true → surveyCalledOf b header tile m counts ≡ toSurveyCalled (surveyOf (handedCall b header tile) m counts)
   -- hookbarley::deblocking::hookbarley_deblock, webp_find::hookbarley_webp_find, webp_wrap::hookbarley_webp_wrap: the number of the call below
   pub c-deblock : (d : Planes) (s : List ℕ) (w h simple : ℕ)
       → let o = deblockOf d s w h (flagOf simple) in

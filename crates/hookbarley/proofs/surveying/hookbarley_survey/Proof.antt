@@ -1,0 +1,29 @@
+use Rattle.hookbarley.specs.SurveyCallsLaws.{survey-called-refused, survey-called-found}
+use borrow.Author.Needs.{needs}
+use Rattle.hookbarley.proofs.surveying.hookbarley_survey.Statement.{statement}
+use Rattle.hookbarley.proofs.surveying.hookbarley_survey.Tie as tie
+
+returns : tie.Need-returns
+returns c = survey-called-refused _ _ _ _ _ (c .if1 .taken)
+
+returns-2 : tie.Need-returns-2
+returns-2 c =
+    let d = c .before .before .before .before .before .before .before .before .before .before .before .before .before .before .before in
+    let e = d .before .before .before .before .before .before .before .before in
+    survey-called-found _ _ _ _ _ (e .before .if1 .left) (e .tile-of .ensures) (d .survey .ensures)
+
+pub hookbarley-survey-spec : {M : Type 1} → statement M
+hookbarley-survey-spec =
+    tie.close
+    (tie.spec
+    returns
+    (λ c κs. search needs)
+    (λ c κs. search needs)
+    (λ c. search needs)
+    (λ c. search needs)
+    (λ c. search needs)
+    (λ c. search needs)
+    (λ c. search needs)
+    (λ c. search needs)
+    (λ c. search needs)
+    returns-2)

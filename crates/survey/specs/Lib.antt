@@ -1,0 +1,4 @@
+pub mod Survey
+pub mod SurveyLaws
+pub mod TallyLaws
+pub mod TotalLaws
