@@ -1,7 +1,7 @@
 #!/usr/bin/env bash
 # Counts instructions a luma sample: bench/run.sh [ARCHIVE]. Prints markdown tables: the three bench tiles beside libwebp 1.2.4
-# (scalar and SSE4.1, its loop filter bypassed and on, all in this run), the rescue call beside the picture call, and the growth with
-# macroblocks and with bytes.
+# (scalar and SSE4.1, its loop filter bypassed and on, all in this run), the rescue call and the survey call beside the picture call, and
+# the growth with macroblocks and with bytes.
 # Counted by qemu's plugin insncount.c, which counts the same everywhere. A count is of some decodes more less that of one,
 # so starting the program and reading the file is not in it.
 set -eu
@@ -61,21 +61,23 @@ beside() {
 beside "Instructions a luma sample, 256 by 256 samples, before the loop filter:"
 beside "The same with the loop filter (the picture call, then deblocking, the normal kind):" deblock
 
-# The rescue call on whole tiles: what the marks and the place where a picture stops cost.
-$X86CC -O2 -Wall -Iinclude -o $out/rescue bench/rescue.c "$ARCHIVE"
-echo "The rescue call on whole tiles, instructions a luma sample:"
-echo
-echo "| tile | picture call | rescue call | ratio |"
-echo "|---|---|---|---|"
-for q in 50 75 90; do
-    f=bench/tile-q$q.case
-    line=$($qemu $out/rescue $f 1)
-    [ "$line" = "0 256" ] || { echo "tile-q$q rescued: $line" >&2; exit 1; }
-    a=$(count $out/bench $f 10)
-    b=$(count $out/rescue $f 10)
-    echo "| tile-q$q | $(div "$a" 655360 1) | $(div "$b" 655360 1) | $(div "$b" "$a" 4) |"
+# The rescue call on whole tiles: what the marks and the place where a picture stops cost. The survey call: what counting costs.
+for call in rescue survey; do
+    $X86CC -O2 -Wall -Iinclude -o $out/$call bench/$call.c "$ARCHIVE"
+    echo "The $call call on whole tiles, instructions a luma sample:"
+    echo
+    echo "| tile | picture call | $call call | ratio |"
+    echo "|---|---|---|---|"
+    for q in 50 75 90; do
+        f=bench/tile-q$q.case
+        line=$($qemu $out/$call $f 1)
+        [ "$line" = "0 256" ] || { echo "tile-q$q, $call: $line" >&2; exit 1; }
+        a=$(count $out/bench $f 10)
+        b=$(count $out/$call $f 10)
+        echo "| tile-q$q | $(div "$a" 655360 1) | $(div "$b" 655360 1) | $(div "$b" "$a" 4) |"
+    done
+    echo
 done
-echo
 
 # The dearest tile: as many symbols a macroblock as the format allows (request M-103). Each tile's symbols are those that the call counts.
 python3 bench/dearest.py $out/dearest.case

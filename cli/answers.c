@@ -20,7 +20,7 @@ static const char *const words[ANSWERS] = {
         "not a VP8 key frame (under 10 bytes, an inter frame, a wrong start code, a version above 3 or a size of 0)",
     [HOOKBARLEY_PAST_END] = "a partition lies past the end of the frame",
     [HOOKBARLEY_NO_HEADER] = "the frame's header ran out",
-    [15] = "a count would pass 2^63 - 1",
+    [HOOKBARLEY_FULL] = "a count would pass 2^63 - 1",
     [HOOKBARLEY_ROOM] = "the room to write into is too small",
     [HOOKBARLEY_MARKS] = "not a WebP file ('RIFF' or 'WEBP' is missing)",
     [HOOKBARLEY_SIZES] = "a size in the WebP file is at odds with its bytes",
@@ -64,12 +64,13 @@ int take_answer(struct tally *tally, const char *path, const struct file *file, 
     if (number < ANSWERS) tally->by[number]++;
     if (has_picture(number)) tally->pictures++;
     if (!number) return STATUS_WHOLE;
-    fprintf(stderr, "%s%s: ", isatty(STDERR_FILENO) ? "\033[K" : "", path);
-    if (p && file->kind == KIND_IVF) fprintf(stderr, "frame %zu: ", file->frames - 1);
-    fprintf(stderr, "%s: ", outcome_of(number, tally->rescue));
-    print_answer(stderr, number, p);
-    if (p && has_picture(number)) print_rest(stderr, p);
-    fprintf(stderr, "\n");
+    FILE *out = tally->said ? tally->said : stderr;
+    fprintf(out, "%s%s: ", out == stderr && isatty(STDERR_FILENO) ? "\033[K" : "", path);
+    if (p && file->kind == KIND_IVF) fprintf(out, "frame %zu: ", file->frames - 1);
+    fprintf(out, "%s: ", outcome_of(number, tally->rescue));
+    print_answer(out, number, p);
+    if (p && has_picture(number)) print_rest(out, p);
+    fprintf(out, "\n");
     return STATUS_REFUSED;
 }
 

@@ -18,6 +18,7 @@ enum {
 /* How often each answer was given. */
 struct tally {
     int rescue; /* the pictures go through picture_rescue */
+    FILE *said; /* where answers that are not 0 are said; NULL: standard error */
     size_t files, pictures, by[ANSWERS];
 };
 
@@ -30,7 +31,7 @@ const char *outcome_of(uint32_t number, int rescue);
 /* "7, a token partition ran out in macroblock 7 (column 3, row 0), 7 of 256 finished"; `picture` may be NULL. */
 void print_answer(FILE *out, uint32_t number, const struct picture *picture);
 
-/* Counts an answer and, where it is not 0, says it on standard error. Returns the exit status that it asks for. */
+/* Counts an answer and, where it is not 0, says it. Returns the exit status that it asks for. */
 int take_answer(struct tally *tally, const char *path, const struct file *file, uint32_t number, const struct picture *picture);
 
 /* The same for the end of a file's frames: what file_next gave, or that there was none. */

@@ -8,10 +8,14 @@
 
 struct options {
     enum filter filter;
-    enum form to;   /* FORM_NONE where not given */
-    enum tint tint; /* TINT_NONE where not given */
-    int rescue;     /* go on from the modes where tokens run out */
-    char **names;   /* the arguments that are not options */
+    enum form to;     /* FORM_NONE where not given */
+    enum tint tint;   /* TINT_NONE where not given */
+    int rescue;       /* go on from the modes where tokens run out */
+    int json;         /* survey: the record for machines */
+    int add;          /* survey: the names are records */
+    int jobs;         /* survey: so many processes */
+    const char *html; /* survey: where the page goes; NULL where not given */
+    char **names;     /* the arguments that are not options */
     int count;
 };
 
@@ -20,5 +24,6 @@ int info(const struct options *options);
 int fits(const struct options *options);
 int wrap(const struct options *options);
 int explain(const struct options *options);
+int survey(const struct options *options);
 
 #endif

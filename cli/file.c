@@ -55,17 +55,24 @@ static uint8_t *read_all(FILE *in, size_t *length) {
     return bytes;
 }
 
-int file_open(const char *path, struct file *file) {
+int file_read(const char *path, struct file *file) {
     FILE *in = fopen(path, "rb");
     file->bytes = in ? read_all(in, &file->length) : NULL;
-    if (!file->bytes) fprintf(stderr, "hookbarley: %s: %s\n", path, strerror(errno));
+    int why = errno;
     if (in) fclose(in);
+    errno = why;
     if (!file->bytes) return 0;
     file->kind = kind_of(file->bytes, file->length);
     file->at = 0;
     file->frames = 0;
     file->rescue = 0;
     return 1;
+}
+
+int file_open(const char *path, struct file *file) {
+    if (file_read(path, file)) return 1;
+    fprintf(stderr, "hookbarley: %s: %s\n", path, strerror(errno));
+    return 0;
 }
 
 void file_close(struct file *file) {

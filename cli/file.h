@@ -24,7 +24,10 @@ struct frame {
     size_t length;
 };
 
-/* Reads a file, or says on standard error why not and returns 0. */
+/* Reads a file, or returns 0 with the reason in errno. */
+int file_read(const char *path, struct file *file);
+
+/* The same, which says the reason on standard error. */
 int file_open(const char *path, struct file *file);
 
 /* The next frame: 1; none left: 0; a file that is at odds with its kind: 0, with the answer's number in *number, which else is 0. The last

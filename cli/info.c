@@ -34,29 +34,32 @@ static void print_header(const struct picture *p) {
     printf("  skipping    %s\n", h[HOOKBARLEY_HEADER_SKIPPING] ? "macroblocks may be skipped" : "no macroblock is skipped");
 }
 
-/* The finished macroblocks, counted by their records. */
-static void print_modes(const struct picture *p) {
-    size_t luma[5] = {0}, chroma[4] = {0}, segment[4] = {0}, skipped = 0;
-    for (size_t i = 0; i < p->finished; i++) {
-        const uint8_t *record = p->memory.modes + HOOKBARLEY_MODE_BYTES * i;
-        luma[record[HOOKBARLEY_MODE_SMALL] ? 4 : record[HOOKBARLEY_MODE_LUMA] & 3]++;
-        chroma[record[HOOKBARLEY_MODE_CHROMA] & 3]++;
-        segment[record[HOOKBARLEY_MODE_SEGMENT] & 3]++;
-        skipped += record[HOOKBARLEY_MODE_SKIP];
-    }
-    printf("  luma        DC %zu, TM %zu, V %zu, H %zu, small %zu\n", luma[0], luma[1], luma[2], luma[3], luma[4]);
-    printf("  chroma      DC %zu, TM %zu, V %zu, H %zu\n", chroma[0], chroma[1], chroma[2], chroma[3]);
-    printf("  by segment  %zu, %zu, %zu, %zu; skipped %zu\n", segment[0], segment[1], segment[2], segment[3], skipped);
+/* A table of the record: "DC 3, TM 0". */
+static void print_counts(const char *name, const uint64_t *counts, int count, const char *const *words) {
+    printf("  %-12s", name);
+    for (int i = 0; i < count; i++) printf("%s%s%s%" PRIu64, i ? ", " : "", words ? words[i] : "", words ? " " : "", counts[i]);
+}
+
+/* The finished macroblocks, as the library counted them. */
+static void print_modes(const uint64_t *record) {
+    static const char *const words[] = {"DC", "TM", "V", "H", "small"};
+    print_counts("luma", record + HOOKBARLEY_SURVEY_LUMA, 5, words);
+    printf("\n");
+    print_counts("chroma", record + HOOKBARLEY_SURVEY_CHROMA, 4, words);
+    printf("\n");
+    print_counts("by segment", record + HOOKBARLEY_SURVEY_SEGMENTS, 4, NULL);
+    printf("; skipped %" PRIu64 "\n", record[HOOKBARLEY_SURVEY_SKIP + 1]);
 }
 
 /* The symbols read, beside the most that as many macroblocks can read: those finished and, where it was cut, one more. */
-static void print_cost(const struct picture *p) {
+static void print_cost(const struct picture *p, const uint64_t *record) {
     uint64_t asked = p->finished + (p->number != HOOKBARLEY_WHOLE);
-    printf("  symbols     %" PRIu64 " of at most %" PRIu64 " from the first partition", p->first_reads, asked * HOOKBARLEY_FIRST_MOST);
-    printf(", %" PRIu64 " of at most %" PRIu64 " of tokens\n", p->token_reads, asked * HOOKBARLEY_TOKEN_MOST);
+    printf("  symbols     %" PRIu64 " of at most %" PRIu64 " from the first partition", record[HOOKBARLEY_SURVEY_FIRST_READS],
+           asked * HOOKBARLEY_FIRST_MOST);
+    printf(", %" PRIu64 " of at most %" PRIu64 " of tokens\n", record[HOOKBARLEY_SURVEY_TOKEN_READS], asked * HOOKBARLEY_TOKEN_MOST);
 }
 
-static void print_frame(struct frame frame, const struct picture *p) {
+static void print_frame(struct frame frame, const struct picture *p, const uint64_t *record) {
     printf("  frame       %zu bytes", frame.length);
     if (has_picture(p->number)) {
         printf(", version %d\n", frame.bytes[0] >> 1 & 7);
@@ -67,22 +70,23 @@ static void print_frame(struct frame frame, const struct picture *p) {
     print_answer(stdout, p->number, p);
     printf("\n");
     if (!has_picture(p->number)) return;
-    print_cost(p);
-    print_modes(p);
+    print_cost(p, record);
+    print_modes(record);
 }
 
 static int info_file(const char *path, struct tally *tally) {
     struct file file;
     struct frame frame;
     struct picture picture;
+    uint64_t record[HOOKBARLEY_SURVEY_COUNTS];
     uint32_t number;
     int status = STATUS_WHOLE;
     tally->files++;
     if (!file_open(path, &file)) return STATUS_USAGE;
     printf("%s: %s, %zu bytes\n", path, kind_name(file.kind), file.length);
     while (file_next(&file, &frame, &number)) {
-        picture_decode(&picture, frame, FILTER_NONE);
-        print_frame(frame, &picture);
+        picture_survey(&picture, frame, record);
+        print_frame(frame, &picture, record);
         fflush(stdout);
         status = worse(status, take_answer(tally, path, &file, picture.number, &picture));
         picture_free(&picture);

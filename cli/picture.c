@@ -33,10 +33,18 @@ static void deblock(struct picture *p, enum filter filter) {
 
 void picture_decode(struct picture *p, struct frame frame, enum filter filter) {
     if (prepare(p, frame, filter)) return;
-    p->number = hookbarley_picture(frame.bytes, frame.length, p->header, &p->tile, &p->memory, &p->finished, &p->first_reads,
-                                   &p->token_reads);
+    uint64_t first_reads, token_reads;
+    p->number = hookbarley_picture(frame.bytes, frame.length, p->header, &p->tile, &p->memory, &p->finished, &first_reads, &token_reads);
     p->kept = p->finished;
     deblock(p, filter);
+}
+
+void picture_survey(struct picture *p, struct frame frame, uint64_t record[HOOKBARLEY_SURVEY_COUNTS]) {
+    memset(record, 0, HOOKBARLEY_SURVEY_COUNTS * sizeof *record);
+    if (prepare(p, frame, FILTER_NONE)) return;
+    p->number = hookbarley_survey_picture(frame.bytes, frame.length, p->header, &p->tile, &p->memory, record);
+    for (int i = 0; i < 4; i++) p->finished += record[HOOKBARLEY_SURVEY_SEGMENTS + i]; /* each finished macroblock has a segment */
+    p->kept = p->finished;
 }
 
 /* What the picture call would have answered: the rescue call answers 0, and its marks tell what ran out and where. */

@@ -17,7 +17,6 @@ struct picture {
     uint8_t *marks;          /* HOOKBARLEY_MARK_.. of each macroblock after picture_rescue, else NULL */
     size_t blocks, finished; /* macroblocks, and those finished */
     size_t kept;             /* those finished or rebuilt from their modes: the others are grey */
-    uint64_t first_reads, token_reads; /* symbols read from the first partition and from token partitions */
     int level;               /* the frame's filter level; where it is 0 nothing is filtered (docs/DIFFERENCES.md) */
     const char *filtered;    /* "unfiltered", "simple filter" or "normal filter" */
 };
@@ -31,7 +30,10 @@ uint32_t picture_header(struct picture *picture, struct frame frame);
 /* Decodes a frame and deblocks it. */
 void picture_decode(struct picture *picture, struct frame frame, enum filter filter);
 
-/* The same, where tokens run out going on from the modes alone. The symbols read are not counted. */
+/* Decodes a frame and counts it, by the library's record: `record` has the counts of this picture alone. Nothing is deblocked. */
+void picture_survey(struct picture *picture, struct frame frame, uint64_t record[HOOKBARLEY_SURVEY_COUNTS]);
+
+/* As picture_decode, where tokens run out going on from the modes alone. */
 void picture_rescue(struct picture *picture, struct frame frame, enum filter filter);
 
 /* Whether a frame fits the cockpit profile: the rule that fails and the macroblock that it names. Only number, header and tile stand. */

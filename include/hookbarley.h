@@ -5,8 +5,8 @@
  *   - A pointer and its length name memory that is there, aligned as C asks of its type. A length counts elements, not bytes. Where it
  *     is 0 the pointer is not looked at and may be NULL. The pointers without a length are always written through: they are never NULL.
  *   - Memory that is only read (const) has been written, all of it: also what does not decide the answer may be loaded. So have the
- *     planes of hookbarley_deblock and the samples of hookbarley_filter, which are changed in place. All other memory that is lent to be
- *     written may come fresh from malloc: what it held decides nothing.
+ *     planes of hookbarley_deblock, the samples of hookbarley_filter and a survey's record, which are changed in place. All other memory
+ *     that is lent to be written may come fresh from malloc: what it held decides nothing.
  *   - Memory lent to be written overlaps nothing else that is lent. Memory that is only read may overlap memory that is only read.
  *   - Nobody else writes to what is lent during the call, and nobody reads what is lent to be written.
  */
@@ -23,7 +23,7 @@
 extern "C" {
 #endif
 
-/* What the calls return. No call returns 8, 10 or 15. */
+/* What the calls return. No call returns 8 or 10. */
 enum hookbarley_number {
     HOOKBARLEY_WHOLE = 0,         /* All of it was done: of hookbarley_decode, every macroblock is finished. */
     HOOKBARLEY_SIZE = 1,          /* Width or height is not a multiple of 16 in 16..16384. */
@@ -33,11 +33,12 @@ enum hookbarley_number {
     HOOKBARLEY_PARTITION = 5,     /* A partition lies outside the bytes, or the starting reader is out of range. */
     HOOKBARLEY_NO_MODES = 6,      /* The first partition ran out in macroblock *finished. */
     HOOKBARLEY_NO_TOKENS = 7,     /* A token partition ran out in macroblock *finished. */
-    HOOKBARLEY_ARGUMENT = 9,      /* A tile has not 28 numbers, hookbarley_frame not 1096 entries, or a list of eight samples not eight. */
+    HOOKBARLEY_ARGUMENT = 9,      /* Not 28 numbers of a tile, 1096 entries for hookbarley_frame, 37 counts of a record or eight samples. */
     HOOKBARLEY_LIMIT = 11,        /* A strength record's limit is above 189. */
     HOOKBARLEY_NO_KEY_FRAME = 12, /* Under 10 bytes, no key frame, another start code, a version above 3, or a size of zero. */
     HOOKBARLEY_PAST_END = 13,     /* The first partition, the sizes of the token partitions or one of these is past the end. */
     HOOKBARLEY_NO_HEADER = 14,    /* The coded header ran out, or the first partition has under two bytes. */
+    HOOKBARLEY_FULL = 15,         /* A count of a record would pass 2^63-1. */
     HOOKBARLEY_ROOM = 16,         /* The room to write the WebP file into is too small. */
     HOOKBARLEY_MARKS = 17,        /* 'RIFF' or 'WEBP' is missing or wrong. */
     HOOKBARLEY_SIZES = 18,        /* A size is at odds with the bytes, a pad byte is not 0, or the frame to be wrapped is too long. */
@@ -52,6 +53,7 @@ enum {
     HOOKBARLEY_COLUMN_BYTES = 4,   /* column memory, a macroblock column */
     HOOKBARLEY_MODE_BYTES = 20,    /* mode memory, a macroblock */
     HOOKBARLEY_STRENGTH_BYTES = 6, /* strength memory, a macroblock */
+    HOOKBARLEY_SURVEY_COUNTS = 37, /* counts of a survey's record */
     HOOKBARLEY_FIRST_MOST = 119,   /* symbols that a macroblock reads from the first partition, at most */
     HOOKBARLEY_TOKEN_MOST = 7296   /* and from its token partition */
 };
@@ -227,6 +229,49 @@ uint32_t hookbarley_profile(const uint8_t *bytes, size_t bytes_len,
                             uint8_t *strengths, size_t strengths_len,
                             uint32_t *rule, size_t *macroblock);
 
+/* The tables of a survey's record: where each starts, and how many counts it has. The first table counts calls, the next five finished
+ * macroblocks, then come sub-blocks and symbols. Modes have the numbers of mode records. */
+enum hookbarley_survey_place {
+    HOOKBARLEY_SURVEY_ANSWERS = 0,    /* eight, by the picture call's answer: 0 to 7 */
+    HOOKBARLEY_SURVEY_SEGMENTS = 8,   /* four */
+    HOOKBARLEY_SURVEY_LUMA = 12,      /* five: large modes 0 DC, 1 TM, 2 V, 3 H; then small */
+    HOOKBARLEY_SURVEY_SMALL = 16,     /* that fifth one */
+    HOOKBARLEY_SURVEY_CHROMA = 17,    /* four */
+    HOOKBARLEY_SURVEY_SKIP = 21,      /* two: not skipped, skipped */
+    HOOKBARLEY_SURVEY_INSIDE = 23,    /* two, by the strength record: inner edges not filtered, filtered */
+    HOOKBARLEY_SURVEY_SUBBLOCKS = 25, /* ten: the sub-blocks of small macroblocks, by mode */
+    HOOKBARLEY_SURVEY_FIRST_READS = 35, /* symbols read from the first partition */
+    HOOKBARLEY_SURVEY_TOKEN_READS = 36  /* and from token partitions */
+};
+
+/* Decodes one picture as hookbarley_decode does and counts it into a record; fill the record with zeros before the first call. The answer,
+ * the lent memory and the outputs are those of hookbarley_decode. A call adds 1 for its answer, also for 1 to 7; for each finished
+ * macroblock 1 in each of five tables, and 16 among the sub-blocks if it is small; and the symbols that it read. So over many calls the
+ * answers sum to the number of calls, each of the five tables to the macroblocks finished, and the sub-blocks to 16 times the small ones.
+ * The order of the calls does not matter.
+ *
+ * 9 where there are not HOOKBARLEY_SURVEY_COUNTS counts or not 28 numbers of a tile: nothing is decoded, nothing lent has changed, and the
+ * outputs are 0. 15 where a count would pass 2^63-1: the picture is decoded, the outputs are set, and the record is as it was.
+ *
+ * bytes .. token_reads   as of hookbarley_decode
+ * record           HOOKBARLEY_SURVEY_COUNTS counts, changed in place
+ */
+uint32_t hookbarley_survey(const uint8_t *bytes, size_t bytes_len,
+                           const int32_t *header, size_t header_len,
+                           const size_t *tile, size_t tile_len,
+                           uint8_t *y, size_t y_len,
+                           uint8_t *u, size_t u_len,
+                           uint8_t *v, size_t v_len,
+                           uint8_t *columns, size_t columns_len,
+                           uint8_t *modes, size_t modes_len,
+                           uint8_t *strengths, size_t strengths_len,
+                           size_t *finished, uint64_t *first_reads, uint64_t *token_reads,
+                           uint64_t *record, size_t record_len);
+
+/* Adds one record to another, count by count: the records of two parts make the record of the whole. 0; or 9 where one of them has not
+ * HOOKBARLEY_SURVEY_COUNTS counts; or 15 where a sum would pass 2^63-1. After 9 and 15 the record is as it was. */
+uint32_t hookbarley_survey_add(uint64_t *record, size_t record_len, const uint64_t *other, size_t other_len);
+
 /* Deblocks a picture in place (RFC 6386, section 15): macroblocks in raster order, in each the left edge unless column 0, inner vertical
  * edges, the top edge unless row 0, inner horizontal edges. What hookbarley_decode or hookbarley_rescue left is never refused. Checks
  * are made in this order, and after a refusal nothing has changed: 1 width or height, 4 a length, 11 a limit above 189 in any record. After
@@ -388,6 +433,18 @@ static inline uint32_t hookbarley_profile_picture(const uint8_t *bytes, size_t l
     return hookbarley_profile(bytes, length, header, HOOKBARLEY_ENTRIES, (const size_t *)t, HOOKBARLEY_TILE_NUMBERS,
                               m->y, n.y, m->u, n.u, m->v, n.v, m->columns, n.columns, m->modes, n.modes, m->strengths, n.strengths,
                               rule, macroblock);
+}
+
+/* hookbarley_survey of what was taken, into a record of HOOKBARLEY_SURVEY_COUNTS counts. What it adds to the record says what was finished
+ * and read. */
+static inline uint32_t hookbarley_survey_picture(const uint8_t *bytes, size_t length, const int32_t *header,
+                                                 const struct hookbarley_tile *t, const struct hookbarley_memory *m, uint64_t *record) {
+    struct hookbarley_lengths n = hookbarley_lengths_of(t);
+    size_t finished;
+    uint64_t first_reads, token_reads;
+    return hookbarley_survey(bytes, length, header, HOOKBARLEY_ENTRIES, (const size_t *)t, HOOKBARLEY_TILE_NUMBERS,
+                             m->y, n.y, m->u, n.u, m->v, n.v, m->columns, n.columns, m->modes, n.modes, m->strengths, n.strengths,
+                             &finished, &first_reads, &token_reads, record, HOOKBARLEY_SURVEY_COUNTS);
 }
 
 /* hookbarley_deblock of what was decoded. */

@@ -1,10 +1,13 @@
 #!/usr/bin/env python3
 """The program on cut and damaged files: damaged.py ROOM N SEED CHECKED PLAIN FILE.. where CHECKED is the program built with sanitizers and
-PLAIN the one that valgrind runs. Every cut of each FILE and N damaged copies go, one by one, through `decode`, `decode --rescue`, `info`
-and `fits` of CHECKED: the exit status is 0 or 1, standard error says what happened where it is 1 and nothing where it is 0, and there is a picture
-exactly where it is whole, cut or rescued. `info` says what `decode` says. `fits` refuses what `decode` refuses and says a line of every
-other picture. `decode --rescue` stops where `decode` does, except in a WebP file that `decode` refuses for its sizes. Then all of them, a hundred at a time, go through `decode` under valgrind, with and without
---rescue, which must find no error and no leak."""
+PLAIN the one that valgrind runs. Every cut of each FILE and N damaged copies go, one by one, through `decode`, `decode --rescue`, `info`,
+`fits` and `survey` of CHECKED: the exit status is 0 or 1, standard error says what happened where it is 1 and nothing where it is 0, and
+there is a picture exactly where it is whole, cut or rescued. `info` and `survey` say what `decode` says. `fits` refuses what `decode`
+refuses and says a line of every other picture. `decode --rescue` stops where `decode` does, except in a WebP file that `decode` refuses
+for its sizes. The surveys of each, added, are the survey of all; N damaged records are joined or refused. Then all files, a hundred at a
+time, go through `decode` under valgrind, with and without --rescue, and through `survey`, in one process and in two; it must find no
+error and no leak."""
+import json
 import os
 import random
 import re
@@ -96,6 +99,14 @@ def one(path):
     judge(path, plainly)
     if plainly.returncode != info.returncode or plainly.stderr != info.stderr:
         fail(path, "decode and info differ", info)
+    survey = run(checked, "survey", "--json", path)
+    if plainly.returncode != survey.returncode or plainly.stderr != survey.stderr:
+        fail(path, "decode and survey differ", survey)
+    told = json.loads(survey.stdout)
+    pictures, not_whole = sum(told["answers"]), sum(told["answers"][1:]) + sum(told["apart"].values())
+    if pictures != plainly.stdout.count(b"\n") or not_whole != plainly.stderr.count(b"\n"):
+        fail(path, "survey counts other pictures", survey)
+    surveys.append(survey.stdout)
     said_of[answer(plainly)] += 1
     if answer(plainly) == "18":
         rescued_of[answer(rescue)] += 1
@@ -103,7 +114,7 @@ def one(path):
         fail(path, "--rescue stopped elsewhere", rescue)
 
 
-paths = []
+paths, surveys = [], []
 
 
 def keep(name, content):
@@ -129,9 +140,29 @@ def listed(counts):
 
 print(f"{cuts} cuts of {len(originals)} files and {n} damaged ones, one by one: answers {listed(said_of)}; "
       f"of those refused with 18, with --rescue {listed(rescued_of)}; rules of the profile {listed(judged_of)}")
+with open(f"{room}/surveys.json", "wb") as f:
+    f.write(b"".join(surveys))
+together, added = run(checked, "survey", "-j", "2", "--json", *paths), run(checked, "survey", "--add", "--json", f"{room}/surveys.json")
+if together.returncode != 1 or together.stdout != added.stdout:
+    fail(room, "the survey of all is not the sum of all", together)
+
+# Damaged records: `survey --add` joins them or says why not, and prints nothing then.
+joined = 0
+for i in range(n):
+    with open(f"{room}/record.json", "wb") as f:
+        f.write(damaged(draw.choice(surveys)))
+    result = run(checked, "survey", "--add", "--json", f"{room}/record.json")
+    if result.returncode not in (0, 1, 2) or bool(result.stdout) == bool(result.stderr):
+        fail(f"record {i}", "neither joined nor refused", result)
+    joined += bool(result.stdout)
+print(f"{n} damaged records: {joined} joined, {n - joined} refused")
 batches = [paths[i:i + 100] for i in range(0, len(paths), 100)]
+valgrind = ["valgrind", "-q", "--error-exitcode=99", "--leak-check=full", "--errors-for-leak-kinds=all"]
+for i, batch in enumerate(batches):
+    result = run(*valgrind, plain, "survey", "-j", str(1 + i % 2), "--html", f"{room}/page.html", *batch)
+    if result.returncode not in (0, 1) or b"==" in result.stderr:
+        fail(batch[0], "valgrind found something", result)
 for batch, options in [(batch, options) for batch in batches for options in ([], ["--rescue"])]:
-    valgrind = ["valgrind", "-q", "--error-exitcode=99", "--leak-check=full", "--errors-for-leak-kinds=all"]
     result = run(*valgrind, plain, "decode", *options, *batch, f"{room}/pictures")
     if result.returncode not in (0, 1):
         fail(batch[0], "valgrind found something", result)
@@ -139,6 +170,6 @@ for batch, options in [(batch, options) for batch in batches for options in ([],
         fail(batch[0], "no summary", result)
     for name in os.listdir(f"{room}/pictures"):
         os.remove(f"{room}/pictures/{name}")
-print(f"{len(paths)} files under valgrind in {2 * len(batches)} runs: no error, no leak")
+print(f"{len(paths)} files under valgrind in {3 * len(batches)} runs: no error, no leak")
 if cuts < 3 or not paths or len(originals) < 3 or not rescued_of["7"]:
     sys.exit("FAILED: too few files")

@@ -38,6 +38,7 @@ common() { # common A B RUNS: which macroblocks of 256 by 256 samples both have
 
 # Usage: status 2.
 hb 0 --help && said 'hookbarley decode' && said 'hookbarley info' && said 'hookbarley fits' && said 'hookbarley wrap' && said '--rescue' && said 'Exit status' && quiet
+said 'hookbarley survey' && said '--html OUT'
 hb 0 --version && said "hookbarley $(sed -n 's/^#define HOOKBARLEY_VERSION "\(.*\)"$/\1/p' include/hookbarley.h)"
 hb 2 && warned 'no command'
 hb 2 paint && warned 'what is paint'
@@ -240,6 +241,109 @@ for wrong in $out/wrong.yuv $out/wrong.pgm "--to yuv $out/wrong.ppm" "--to pgm b
 done
 none wrong.yuv && none wrong.pgm && none wrong.ppm
 
+# Surveyed: three forms of one record, whatever the number of processes; parts joined; files that are no frames apart.
+delivery=$out/delivery
+mkdir -p $delivery/b/c
+cp $kept/*.webp $kept/two-partitions.ivf $delivery/b
+cp bench/tile-q50.webp $delivery/b/c
+cp $out/cut.vp8 $out/modes.vp8 $out/short.ivf $delivery
+cp $out/empty $out/inter.vp8 $out/short.vp8 $out/first.vp8 $out/marks.webp $out/size.webp $out/none.ivf $delivery
+cp tests/outside/webp/lossless.webp $delivery
+cp $out/tile.vp8 "$delivery/<b>&\"é.vp8" # a name that HTML must escape
+ln -s b $delivery/again && ln -s cut.vp8 $delivery/link.vp8 && mkfifo $delivery/pipe
+surveyed() { tests/cli/survey.py "$@" >$out/survey.log 2>&1 || bad "$what: $(tail -n 1 $out/survey.log)"; }
+hb 1 survey $delivery && mv $out/said $out/survey.txt && mv $out/err $out/survey.err
+hb 1 survey --json --html $out/survey.html $delivery && mv $out/said $out/survey.json && same $out/err $out/survey.err
+surveyed $out/survey.json $out/survey.txt $out/survey.html
+cp $out/survey.json $out/said
+said '"files": 23,' && said '"unread": 0,' && said '"lost": 0,' && said '"answers": [13, 0, 0, 0, 0, 0, 1, 3],'
+said '"apart": {"12": 2, "13": 1, "14": 1, "15": 0, "17": 1, "18": 1, "19": 1, "ivf": 1},'
+grep -q '<li>.*/cut.vp8: cut: 7, a token' $out/survey.html || bad "$what: the page does not name what was cut"
+cp $out/survey.err $out/err
+warned '/cut.vp8: cut: 7, ' && warned '/short.ivf: frame 1: cut: 7, ' && warned '/inter.vp8: refused: 12, '
+warned 'none.ivf: refused: the IVF file'
+sed 's/: .*//' $out/err | LC_ALL=C sort -c 2>/dev/null || bad "$what: not in the order of the names"
+for jobs in 1 2 3 7; do # the same with any number of processes
+    hb 1 survey -j $jobs --json --html $out/j.html $delivery
+    same $out/said $out/survey.json && same $out/err $out/survey.err && same $out/j.html $out/survey.html
+done
+hb 0 survey --json $delivery/b && mv $out/said $out/part-1.json
+# shellcheck disable=SC2046
+hb 1 survey -j2 --json $(find $delivery -maxdepth 1 -type f ! -name '<*') $delivery/link.vp8 && mv $out/said $out/part-2.json
+hb 0 survey --json "$delivery/<b>&\"é.vp8" && mv $out/said $out/part-3.json
+hb 1 survey --add --json $out/part-*.json && same $out/said $out/survey.json && quiet
+cat $out/part-*.json >$out/parts.json # records one after the other
+hb 1 survey --add --html $out/j.html $out/parts.json && same $out/said $out/survey.txt && surveyed $out/survey.json $out/j.html
+hb 0 survey --add $out/part-1.json && said '10 files: 11 pictures, 11 of them whole'
+hb 0 survey bench/tile-q50.webp && said '  segment 1             99   38.7 %  #########' && quiet
+said '  small (B_PRED)       230   89.8 %  ####################'
+# shellcheck disable=SC2086
+surveyed --bar $X86RUN target/cli/hookbarley survey -j 2 $delivery/b
+
+# A folder of more names than are kept at a time: each once, in order.
+mkdir $out/flat
+for i in $(seq 2100); do : >$out/flat/$((i * 7919 % 100000)); done
+hb 1 survey -j 2 --html $out/flat.html $out/flat && said '2100 files: 0 pictures, 0 of them whole; 2100 apart'
+sed 's/: .*//' $out/err | LC_ALL=C sort -c -u 2>/dev/null && [ "$(wc -l <$out/err)" -eq 2100 ] || bad "$what: not all names in order"
+[ "$(grep -c '<li>' $out/flat.html)" -eq 200 ] && grep -q 'and 1900 more' $out/flat.html || bad "$what: the page names too many or too few"
+
+# A survey that cannot be whole: status 2, and what can be counted is.
+hb 2 survey --json $out/absent bench/tile-q50.webp && warned 'absent: No such file' && said '"unread": 1,' && said '"answers": [1, 0,'
+mkdir $out/broken && ln -s nowhere $out/broken/link
+hb 2 survey --json -j 2 $out/broken && warned 'broken/link: No such file' && said '"files": 1,' && said '"unread": 1,'
+hb 2 survey && warned 'survey takes'
+hb 2 survey --add && warned 'takes records'
+hb 2 survey --rescue bench/tile-q50.webp && warned 'what is --rescue'
+hb 2 decode --json bench/tile-q50.webp $out/a.yuv && warned 'what is --json'
+for jobs in 0 257 -1 x ''; do hb 2 survey -j "$jobs" bench/tile-q50.webp && warned '1 to 256'; done
+hb 2 survey --html $out/absent/a.html bench/tile-q50.webp && warned 'No such file'
+[ ! -s $out/said ] || bad "$what: surveys before it finds that it cannot write"
+hb 2 survey --html /dev/full bench/tile-q50.webp && warned 'No space' && said '1 file: 1 picture, 1 of them whole'
+hb 2 survey --json --html $out $delivery/b && warned 'irectory'
+ls $out/*.part >/dev/null 2>&1 && bad "$what: a part of a page is left"
+# Records: those that are none, at odds, or would pass the limit, which the library judges.
+odd() { # odd NAME SED: the record changed so
+    sed "$2" $out/part-1.json >$out/odd.json
+    hb 2 survey --add --json $out/part-2.json $out/odd.json && warned "odd.json: $1"
+    [ ! -s $out/said ] || bad "$what ($2): is joined"
+}
+odd 'not a record' 's/"files"/"flies"/'
+odd 'not a record' 's/"lost": 0/"lost": -1/'
+odd 'not a record' 's/"hookbarley_survey": 1/"hookbarley_survey": 2/'
+odd 'not a record' 's/"lost": 0,/"lost": 0, "lost": 0,/'
+odd 'not a record' 's/"symbols": \[/"symbols": [1, /'
+odd 'not a record' 's/"files": .*,/"files": 18446744073709551616,/'
+odd 'not a record' '$d'
+odd 'its tables are at odds' 's/"skip": \[/"skip": [1/'
+: >$out/odd.json
+hb 2 survey --add $out/odd.json && warned 'no record in it'
+hb 2 survey --add $out/absent && warned 'No such file'
+most=9223372036854775807
+sed "s/\"symbols\": .*/\"symbols\": [$most, 0]/" $out/part-1.json >$out/full.json
+hb 0 survey --add --json $out/full.json && said "[$most, 0]"
+hb 1 survey --add --json $out/full.json $out/part-1.json && warned 'part-1.json: refused: 15, a count would pass'
+[ ! -s $out/said ] || bad "$what: is joined"
+
+# A process that ends is said, its file is lost and nothing else; Ctrl-C leaves no page.
+need pgrep procps || exit 1
+$X86RUN target/cli/hookbarley survey -j 2 --json $delivery/pipe bench/tile-q??.webp >$out/said 2>$out/err &
+survey=$!
+what='hookbarley survey -j 2 with a process that is killed'
+for _ in $(seq 100); do [ "$(pgrep -c -P $survey)" -eq 2 ] && break; sleep 0.1; done
+sleep 0.5
+kill -9 "$(pgrep -P $survey | head -n 1)" # the first waits for the pipe
+{ sleep 20; kill -9 $survey 2>/dev/null; } & # where it waits for ever
+watch=$!
+wait $survey
+[ $? -eq 2 ] || bad "$what: another status than 2"
+kill $watch 2>/dev/null
+tried=$((tried + 1))
+warned 'pipe: lost: its process ended with signal 9' && said '"files": 4,' && said '"lost": 1,' && said '"answers": [3, 0,'
+what='hookbarley survey and Ctrl-C'
+timeout -s INT 1 $X86RUN target/cli/hookbarley survey -j 2 --html $out/ended.html bench/tile-q50.webp $delivery/pipe >/dev/null 2>&1
+[ $? -eq 124 ] || bad "$what: ended by itself"
+[ -z "$(find $out -maxdepth 1 -name 'ended.html*')" ] || bad "$what: a part of a page is left"
+
 # Installed: the example through pkg-config; one version everywhere.
 if tools/install.sh $out/prefix >$out/install.log 2>&1; then
     export PKG_CONFIG_PATH=$PWD/$out/prefix/lib/pkgconfig
@@ -257,6 +361,6 @@ else
     tail -n 5 $out/install.log
     bad "tools/install.sh"
 fi
-[ $tried -ge 135 ] || bad "only $tried runs of the program"
+[ $tried -ge 176 ] || bad "only $tried runs of the program"
 [ $failed -eq 0 ] && echo "cli: passed, $tried runs of the program"
 exit $failed

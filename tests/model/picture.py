@@ -101,10 +101,16 @@ def memory(case, reading, known):
     return [y, u, v, fnv(b"".join(packed(*c) for c in reading.columns)), records, filters]
 
 
+def case_of(f):
+    """A case file taken apart, or None where the case program does not take it: malformed, over 64 KiB, a side above 64."""
+    case = taken_apart(f)
+    return case if case and len(f) <= 65536 and max(case[:2]) <= 64 else None
+
+
 def line(f, rescue, known):
     """A case file's line; `known` is kept for cuts of one file only."""
-    case = taken_apart(f)
-    if not case or len(f) > 65536 or max(case[:2]) > 64:
+    case = case_of(f)
+    if not case:
         return "10 0"
     number, k = refusal(*case), 0
     if number:

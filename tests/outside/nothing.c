@@ -93,6 +93,27 @@ static void profiling(unsigned out) {
     if (!all(square_room, n.y + n.u + n.v, refused ? 0xA5 : 128)) fail("other planes");
 }
 
+static void surveying(unsigned out) {
+    struct hookbarley_lengths n = hookbarley_lengths_of(&tile);
+    struct hookbarley_memory m = lent();
+    uint64_t record[HOOKBARLEY_SURVEY_COUNTS] = {0}, first_reads, token_reads;
+    size_t finished;
+    uint32_t refused = out & 512 ? HOOKBARLEY_ARGUMENT : refusal(out), want = refused ? refused : HOOKBARLEY_NO_MODES;
+    trying("survey without %#x", out);
+    must_be(hookbarley_survey(GIVEN_TILE(tile), &finished, &first_reads, &token_reads, GIVEN(9, record, HOOKBARLEY_SURVEY_COUNTS)), want);
+    if (finished || first_reads || token_reads) fail("something was read");
+    for (uint32_t i = 0; i < HOOKBARLEY_SURVEY_COUNTS; i++)
+        if (record[i] != (i == want && want != HOOKBARLEY_ARGUMENT)) fail("count %u is %llu", i, (unsigned long long)record[i]);
+    planes_are(&n, refused);
+}
+
+static void adding(unsigned out) {
+    uint64_t record[HOOKBARLEY_SURVEY_COUNTS] = {0}, other[HOOKBARLEY_SURVEY_COUNTS] = {0};
+    trying("survey_add without %#x", out);
+    must_be(hookbarley_survey_add(GIVEN(0, record, HOOKBARLEY_SURVEY_COUNTS), GIVEN(1, other, HOOKBARLEY_SURVEY_COUNTS)),
+            out ? HOOKBARLEY_ARGUMENT : HOOKBARLEY_WHOLE);
+}
+
 static void deblocking(unsigned out) {
     struct hookbarley_lengths n = hookbarley_lengths_of(&tile);
     struct hookbarley_memory m;
@@ -134,6 +155,8 @@ int main(void) {
     for (unsigned out = 0; out < 512; out++) decoding(out);
     for (unsigned out = 0; out < 1024; out++) rescuing(out);
     for (unsigned out = 0; out < 512; out++) profiling(out);
+    for (unsigned out = 0; out < 1024; out++) surveying(out);
+    for (unsigned out = 0; out < 4; out++) adding(out);
     for (unsigned out = 0; out < 16; out++) deblocking(out);
     for (unsigned out = 0; out < 8; out++) taking(out);
     for (unsigned out = 0; out < 8; out++) explaining(out);

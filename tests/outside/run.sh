@@ -291,12 +291,62 @@ part_profile() {
     say profile "$(wc -l <$out/profile-lines.txt) tiles as tests/model/profile.py has them, $(cat $made/*.txt | wc -l) as they were made"
 }
 
+# The survey calls between guard pages, beside the picture call and a tally of the test's own; the faults that the test must find.
+part_survey() {
+    run_test survey tests/outside/survey.c $cases/real "$N" "$SEED"
+    least survey "cuts" "$(counted $out/survey.log '^cut: \([0-9]*\) cuts')" 1700
+    least survey "counts up to their limit" "$(counted $out/survey.log '^full: \([0-9]*\) counts')" 1480
+    least survey "random inputs" "$(counted $out/survey.log '^random: \([0-9]*\) inputs')" "$N"
+    least survey "pairs added" "$(counted $out/survey.log '^add: \([0-9]*\) pairs')" "$N"
+    least survey "deliveries" "$(counted $out/survey.log '^fold: \([0-9]*\) deliveries')" 1
+    few $out/few-survey
+    faults survey tests/outside/survey.c tests/outside/survey_mutants.c "$(upto 25)" plainly $out/few-survey 300 1
+}
+
+# What the survey call counts: of every case file and of each folder folded as expected; of real tiles, a token partition cut length after
+# length, as tests/model/survey.py tallies it; and faults that this must find.
+recount_survey() { # recount_survey PROGRAM: its lines beside the expected ones and the model's, the first that differs told
+    local set tile partition step different
+    for set in named real fuzz; do
+        different=$({ plainly "$1" $cases/$set/*.case && plainly "$1" --all $cases/$set/*.case; } |
+            diff - <(cat $cases/$set/expected-survey.txt $cases/$set/expected-survey-all.txt) | sed -n 2p)
+        [ -z "$different" ] || { echo "FAILED at $set: $different"; return 1; }
+    done
+    while read -r tile partition step; do
+        different=$(cut_by "$tile" "$partition" "$step" plainly "$1" | diff - $out/surveys/"$tile-$partition" | sed -n 2p)
+        [ -z "$different" ] || { echo "FAILED at tile $tile, partition $partition: $different"; return 1; }
+    done < <(survey_tiles)
+    cat $out/surveys/* | wc -l
+}
+survey_tiles() { cut_tiles | sed 's/ 1$/ 3/'; } # every third length
+part_surveyed() {
+    local model=tests/model/survey.py tile partition step set told tried
+    rm -rf $out/surveys
+    mkdir $out/surveys
+    while read -r tile partition step; do
+        cut_by "$tile" "$partition" "$step" python3 $model >$out/surveys/"$tile-$partition" || { bad surveyed "$model"; return; }
+    done < <(survey_tiles)
+    for set in named real fuzz; do
+        { python3 $model $cases/$set/*.case && python3 $model --all $cases/$set/*.case; } |
+            cmp -s - <(cat $cases/$set/expected-survey.txt $cases/$set/expected-survey-all.txt) || bad surveyed "$model and what is expected of $set"
+    done
+    tried=$(cat $cases/*/expected-survey.txt | wc -l)
+    least surveyed "case files" "$tried" 151
+    if build surveyed tests/outside/survey_lines.c && told=$(recount_survey $out/surveyed); then
+        least surveyed "cuts" "$told" 500
+        say surveyed "$tried case files and three folders as expected, $told cuts as $model has them"
+        faults surveyed tests/outside/survey_lines.c tests/outside/survey_mutants.c '3 4 5 6 7 8 9 10' recount_survey
+    else
+        bad surveyed "$told"
+    fi
+}
+
 # NULL with length 0 in every call, and faults that look behind it.
 part_nothing() {
     local which
     run_test nothing tests/outside/nothing.c
-    least nothing "calls" "$(counted $out/nothing.log '^ok: \([0-9]*\) calls')" 2088
-    for which in '' explain_ frame_ profile_ rescue_ webp_; do faults nothing tests/outside/nothing.c tests/outside/${which}mutants.c 1 plainly; done
+    least nothing "calls" "$(counted $out/nothing.log '^ok: \([0-9]*\) calls')" 3116
+    for which in '' explain_ frame_ profile_ rescue_ survey_ webp_; do faults nothing tests/outside/nothing.c tests/outside/${which}mutants.c 1 plainly; done
 }
 
 # The WebP calls between guard pages, on files of encoders and damaged ones; the faults that the test must find.
@@ -367,10 +417,10 @@ part_products() {
 
 # As many parts at a time as there are processors, the longest first; what they say is printed in the order above. A part that does not come to
 # its end leaves no status, and has not passed.
-parts="calls example counts readme damaged faults rescue rescued profile nothing webp explain frame rust products"
+parts="calls example counts readme damaged faults rescue rescued profile survey surveyed nothing webp explain frame rust products"
 for part in $parts; do rm -f $out/part-$part.txt $out/part-$part.status; done
 running=0
-for part in frame webp damaged faults rescue profile counts example explain rescued rust nothing products readme calls; do
+for part in frame webp damaged faults rescue profile survey counts surveyed example explain rescued rust nothing products readme calls; do
     if [ $running -ge "$(nproc)" ]; then
         wait -n
         running=$((running - 1))

@@ -39,6 +39,20 @@ extern "C" {
         strengths: *mut u8, strengths_len: usize,
         rule: *mut u32, macroblock: *mut usize,
     ) -> u32;
+    fn hookbarley_survey(
+        bytes: *const u8, bytes_len: usize,
+        header: *const i32, header_len: usize,
+        tile: *const usize, tile_len: usize,
+        y: *mut u8, y_len: usize,
+        u: *mut u8, u_len: usize,
+        v: *mut u8, v_len: usize,
+        columns: *mut u8, columns_len: usize,
+        modes: *mut u8, modes_len: usize,
+        strengths: *mut u8, strengths_len: usize,
+        finished: *mut usize, first_reads: *mut u64, token_reads: *mut u64,
+        record: *mut u64, record_len: usize,
+    ) -> u32;
+    fn hookbarley_survey_add(record: *mut u64, record_len: usize, other: *const u64, other_len: usize) -> u32;
     fn hookbarley_deblock(
         y: *mut u8, y_len: usize,
         u: *mut u8, u_len: usize,
@@ -74,6 +88,7 @@ pub mod answer {
     pub const NO_KEY_FRAME: u32 = 12;
     pub const PAST_END: u32 = 13;
     pub const NO_HEADER: u32 = 14;
+    pub const FULL: u32 = 15;
     pub const ROOM: u32 = 16;
     pub const MARKS: u32 = 17;
     pub const SIZES: u32 = 18;
@@ -153,6 +168,35 @@ pub mod profile_rule {
     pub const WHOLE: u32 = 5;
     pub const SKIPPED: u32 = 6;
 }
+
+/// The tables of a survey's record: where each starts. include/hookbarley.h says what its counts are.
+pub mod record {
+    /// So many counts has a record.
+    pub const COUNTS: usize = 37;
+    /// Eight: calls by their answer, 0 to 7.
+    pub const ANSWERS: usize = 0;
+    /// Four: finished macroblocks by segment.
+    pub const SEGMENTS: usize = 8;
+    /// Five: by large mode, then small.
+    pub const LUMA: usize = 12;
+    /// That fifth one.
+    pub const SMALL: usize = 16;
+    /// Four: by chroma mode.
+    pub const CHROMA: usize = 17;
+    /// Two: not skipped, skipped.
+    pub const SKIP: usize = 21;
+    /// Two: inner edges not filtered, filtered.
+    pub const INSIDE: usize = 23;
+    /// Ten: the sub-blocks of small macroblocks by mode.
+    pub const SUBBLOCKS: usize = 25;
+    /// Symbols read from the first partition.
+    pub const FIRST_READS: usize = 35;
+    /// Symbols read from token partitions.
+    pub const TOKEN_READS: usize = 36;
+}
+
+/// What pictures are counted into (`survey`), zeros before the first.
+pub type Record = [u64; record::COUNTS];
 
 /// A key frame's tile, as the library takes it: 28 numbers.
 #[repr(C)]
@@ -310,13 +354,49 @@ pub fn decode_counted(frame: &Frame, mem: &mut Memory) -> (Decoded, Reads) {
     let mut reads = Reads { first: 0, tokens: 0 };
     // Safe: as `on_tile` says; the three numbers stand alone.
     let number = unsafe { on_tile!(hookbarley_decode, frame, mem, &mut k, &mut reads.first, &mut reads.tokens) };
-    let answer = match number {
+    (decoded(number, k), reads)
+}
+
+/// The picture call's answer, of its number and the macroblocks finished.
+fn decoded(number: u32, k: usize) -> Decoded {
+    match number {
         answer::WHOLE => Decoded::Whole(k),
         answer::NO_MODES => Decoded::NoModes(k),
         answer::NO_TOKENS => Decoded::NoTokens(k),
         n => Decoded::Refused(n),
-    };
-    (answer, reads)
+    }
+}
+
+/// How a survey of one picture ended.
+#[derive(Clone, Copy, Debug, PartialEq, Eq)]
+pub enum Surveyed {
+    /// The picture is decoded and counted, one that was refused or cut too.
+    Counted(Decoded),
+    /// A count would pass 2^63-1 (15): the picture is decoded, so many macroblocks are finished, and the record is as it was.
+    Full(usize),
+}
+
+/// Decodes a picture as `decode` does and counts it into a record: its answer, its finished macroblocks, the symbols read. Over many calls
+/// each table sums to what they finished (`record`), and their order does not matter.
+pub fn survey(frame: &Frame, mem: &mut Memory, record: &mut Record) -> Surveyed {
+    let (mut k, mut first, mut tokens) = (0usize, 0u64, 0u64);
+    let counts = record.as_mut_ptr();
+    // Safe: as `on_tile` says; the record overlaps none of the vectors, and the three numbers stand alone.
+    let number = unsafe { on_tile!(hookbarley_survey, frame, mem, &mut k, &mut first, &mut tokens, counts, record::COUNTS) };
+    match number {
+        answer::FULL => Surveyed::Full(k),
+        n => Surveyed::Counted(decoded(n, k)),
+    }
+}
+
+/// Adds one record to another: of two deliveries surveyed apart it makes the record of both. Or 15 where a sum would pass 2^63-1; then
+/// `record` is as it was.
+pub fn survey_add(record: &mut Record, other: &Record) -> Result<(), u32> {
+    // Safe: two arrays that do not overlap.
+    match unsafe { hookbarley_survey_add(record.as_mut_ptr(), record.len(), other.as_ptr(), other.len()) } {
+        answer::WHOLE => Ok(()),
+        n => Err(n),
+    }
 }
 
 /// How a rescue ended.

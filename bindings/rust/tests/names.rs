@@ -1,6 +1,6 @@
 //! The numbers that this crate has beside include/hookbarley.h are the header's.
-use hookbarley::{answer, header, mark, mode, profile_rule, strength};
-use hookbarley::{Reads, COLUMN_BYTES, ENTRIES, MODE_BYTES, PARTITIONS, STRENGTH_BYTES, TILE_NUMBERS};
+use hookbarley::{answer, header, mark, mode, profile_rule, record, strength, Reads};
+use hookbarley::{COLUMN_BYTES, ENTRIES, MODE_BYTES, PARTITIONS, STRENGTH_BYTES, TILE_NUMBERS};
 
 #[test]
 fn names_and_numbers_are_those_of_c() {
@@ -27,14 +27,18 @@ fn names_and_numbers_are_those_of_c() {
         ("STRENGTH_LIMIT", strength::LIMIT), ("STRENGTH_INNER", strength::INNER), ("STRENGTH_THRESHOLD", strength::THRESHOLD),
         ("STRENGTH_INSIDE", strength::INSIDE), ("STRENGTH_SEGMENT", strength::SEGMENT), ("STRENGTH_SMALL", strength::SMALL),
         ("MARK_WHOLE", mark::WHOLE as usize), ("MARK_MODES", mark::MODES as usize), ("MARK_GREY", mark::GREY as usize),
+        ("SURVEY_COUNTS", record::COUNTS), ("SURVEY_ANSWERS", record::ANSWERS), ("SURVEY_SEGMENTS", record::SEGMENTS),
+        ("SURVEY_LUMA", record::LUMA), ("SURVEY_SMALL", record::SMALL), ("SURVEY_CHROMA", record::CHROMA), ("SURVEY_SKIP", record::SKIP),
+        ("SURVEY_INSIDE", record::INSIDE), ("SURVEY_SUBBLOCKS", record::SUBBLOCKS), ("SURVEY_FIRST_READS", record::FIRST_READS),
+        ("SURVEY_TOKEN_READS", record::TOKEN_READS),
     ];
     let answers = [
         ("WHOLE", answer::WHOLE), ("SIZE", answer::SIZE), ("COUNT", answer::COUNT),
         ("ENTRY", answer::ENTRY), ("LENGTH", answer::LENGTH), ("PARTITION", answer::PARTITION),
         ("NO_MODES", answer::NO_MODES), ("NO_TOKENS", answer::NO_TOKENS), ("ARGUMENT", answer::ARGUMENT),
         ("LIMIT", answer::LIMIT), ("NO_KEY_FRAME", answer::NO_KEY_FRAME), ("PAST_END", answer::PAST_END),
-        ("NO_HEADER", answer::NO_HEADER), ("ROOM", answer::ROOM), ("MARKS", answer::MARKS),
-        ("SIZES", answer::SIZES), ("KIND", answer::KIND),
+        ("NO_HEADER", answer::NO_HEADER), ("FULL", answer::FULL), ("ROOM", answer::ROOM),
+        ("MARKS", answer::MARKS), ("SIZES", answer::SIZES), ("KIND", answer::KIND),
         ("PROFILE_FITS", profile_rule::FITS), ("PROFILE_SIZE", profile_rule::SIZE), ("PROFILE_PARTITIONS", profile_rule::PARTITIONS),
         ("PROFILE_SEGMENTS", profile_rule::SEGMENTS), ("PROFILE_SHARPNESS", profile_rule::SHARPNESS),
         ("PROFILE_WHOLE", profile_rule::WHOLE), ("PROFILE_SKIPPED", profile_rule::SKIPPED),
