@@ -11,3 +11,4 @@ pub mod Take
 pub mod TakeLaws
 pub mod Passes
 pub mod PassesLaws
+pub mod HeadLaws

@@ -7,6 +7,8 @@ use lib.IntN.{ℤ, pos, negsuc}
 use lib.ListN.{length}
 use Rattle.numbers.specs.In.{Each}
 use Rattle.header.specs.Entries.{entryCount}
+use Rattle.tile.specs.declared.Tile.{Tile}
+use Rattle.tile.specs.Partitions.{spanAt}
 use Rattle.tile.specs.Checks.{Sides, Counted, Cut}
 use Rattle.frame.specs.declared.take.Taken.{Taken}
 use Rattle.frame.specs.Take.{refusedAnswer, nothingTaken}
@@ -26,6 +28,11 @@ pub record Passes (b : List ℕ) (t : Taken) : Type 0 where
   pub cut : Cut b (t .answer .tile)
   pub width : Covers (t .answer .shown .width) (t .answer .tile .width)
   pub height : Covers (t .answer .shown .height) (t .answer .tile .height)
+
+-- the partitions of a tile follow one another: the first, then the token partitions in order
+pub record InOrder (t : Tile) : Type 0 where
+  pub first : t .first .start + t .first .len ≤ spanAt t 0 .start
+  pub tokens : (i k : ℕ) → i < k → k < t .count → spanAt t i .start + spanAt t i .len ≤ spanAt t k .start
 
 -- a refusal gives its number and zeros, and the number is 12, 13 or 14
 pub record FrameRefused (t : Taken) : Type 0 where

@@ -17,7 +17,7 @@ use Rattle.reader.specs.declared.boolean.Reader.{Reader}
 use Rattle.reader.specs.Boolean.{Given, given, missing, firstReader}
 use Rattle.reader.specs.BooleanLaws.{Bytes, first-valid}
 use Rattle.reader.specs.ReadingLaws.{Ended, run-valid}
-use Rattle.tile.specs.Partitions.{noSpan, contentsOf}
+use Rattle.tile.specs.Partitions.{noSpan, spanAt, contentsOf}
 use Rattle.tile.specs.PartitionsLaws.{part-bytes, span-at}
 use Rattle.tile.specs.Checks.{Side, Counted, Inside}
 use Rattle.frame.specs.declared.fields.Header.{Header}
@@ -26,42 +26,42 @@ use Rattle.frame.specs.Fine.{FineTaken}
 use Rattle.frame.specs.HeaderLaws.{header-within}
 use Rattle.frame.specs.Tag.{firstSize, widthOf, heightOf, roundedOf, startCodeOf, versionOf, interOf, tagFine}
 use Rattle.frame.specs.Places.{partitionCount, partitionStart, lengthOf, partitionSpan, tokenSpans, tokensInside}
-use Rattle.frame.specs.PlacesLaws.{span-is}
+use Rattle.frame.specs.PlacesLaws.{span-is, place-apart, place-after}
 use Rattle.frame.specs.EntriesLaws.{entries-length, entries-each}
 use Rattle.frame.specs.Take.{nothingTaken, firstOf, sizesPlace, tileOf, wholeOf, partitionsPlaced, codedOf, givenHeader, takenOf, intoOf}
 use Rattle.frame.specs.TakeLaws.{take-tag, take-first, take-short, take-coded}
-use Rattle.frame.specs.Passes.{Covers, Passes, FrameRefused, FrameKept}
+use Rattle.frame.specs.Passes.{Covers, Passes, InOrder, FrameRefused, FrameKept}
 
 -- ---- every way through the call: a refusal, or the whole with what was tried on the way
 abbrev Number : ℕ → Type 0
 Number n = (n ≡ 12) ⊎ (n ≡ 13) ⊎ (n ≡ 14)
 
-data Way (b : List ℕ) : Taken → Type 0 where
+pub data Way (b : List ℕ) : Taken → Type 0 where
   refused : (n : ℕ) → Number n → Way b (nothingTaken n)
-  whole : (h : Header) (r : Reader) → tagFine b ≡ true → sizesPlace b ≤ length b → givenHeader b ≡ given h r → tokensInside b (sizesPlace b) (partitionCount (h .partitions)) ≡ true → Way b (wholeOf b h r)
+  whole : (h : Header) (r : Reader) → tagFine b ≡ true → sizesPlace b ≤ length b → 2 ≤ firstSize b → givenHeader b ≡ given h r → tokensInside b (sizesPlace b) (partitionCount (h .partitions)) ≡ true → Way b (wholeOf b h r)
 
 module _ (b : List ℕ) where
   no-way : (n : ℕ) {t : Taken} → Number n → nothingTaken n ≡ t → Way b t
   no-way n k e = let w : Way b (nothingTaken n) = refused n k in rw e at w
 
-  way : Way b (takenOf b)
+  pub way : Way b (takenOf b)
   unfolding partitionsPlaced givenHeader
   way = tag (tagFine b) refl
     where
-      placed : (h : Header) (r : Reader) → tagFine b ≡ true → sizesPlace b ≤ length b → givenHeader b ≡ given h r → (v : Bool) → tokensInside b (sizesPlace b) (partitionCount (h .partitions)) ≡ v → Way b (partitionsPlaced b h r)
-      placed h r e l g true i = rw (i, partitionsPlaced) (whole h r e l g i)
-      placed h r e l g false i = rw (i, partitionsPlaced) (refused 13 (inr (inl refl)))
+      placed : (h : Header) (r : Reader) → tagFine b ≡ true → sizesPlace b ≤ length b → 2 ≤ firstSize b → givenHeader b ≡ given h r → (v : Bool) → tokensInside b (sizesPlace b) (partitionCount (h .partitions)) ≡ v → Way b (partitionsPlaced b h r)
+      placed h r e l k g true i = rw (i, partitionsPlaced) (whole h r e l k g i)
+      placed h r e l k g false i = rw (i, partitionsPlaced) (refused 13 (inr (inl refl)))
 
-      coded : tagFine b ≡ true → sizesPlace b ≤ length b → (x : Given Header) → givenHeader b ≡ x → Way b (codedOf b x)
-      coded e l (given h r) g = placed h r e l g (tokensInside b (sizesPlace b) (partitionCount (h .partitions))) refl
-      coded e l missing g = refused 14 (inr (inr refl))
+      coded : tagFine b ≡ true → sizesPlace b ≤ length b → 2 ≤ firstSize b → (x : Given Header) → givenHeader b ≡ x → Way b (codedOf b x)
+      coded e l k (given h r) g = placed h r e l k g (tokensInside b (sizesPlace b) (partitionCount (h .partitions))) refl
+      coded e l k missing g = refused 14 (inr (inr refl))
 
       inside : tagFine b ≡ true → sizesPlace b ≤ length b → Way b (takenOf b)
       inside e l =
           let f = le-leb (sizesPlace b) (length b) l in
           ⊎-elim
           (λ k. no-way 14 (inr (inr refl)) (take-short b e refl f k))
-          (λ k. rw (take-coded b e refl f k refl) at (coded e l (givenHeader b) refl))
+          (λ k. rw (take-coded b e refl f k refl) at (coded e l k (givenHeader b) refl))
           (lt-or (firstSize b) 2)
 
       tag : (v : Bool) → tagFine b ≡ v → Way b (takenOf b)
@@ -127,6 +127,17 @@ whole-passes b y h r e l g i =
       height = rounded-covers (heightOf b);
     }
 
+-- ---- the partitions of the whole follow one another
+whole-ordered : (b : List ℕ) (h : Header) (r : Reader) → Counted (partitionCount (h .partitions)) → tokensInside b (sizesPlace b) (partitionCount (h .partitions)) ≡ true → InOrder (tileOf b h r)
+whole-ordered b h r c inside =
+    let n = partitionCount (h .partitions) in
+    let at : (i : ℕ) → i < n → spanAt (tileOf b h r) i ≡ record { start = partitionStart b (sizesPlace b) n i; len = lengthOf b (sizesPlace b) n i (partitionStart b (sizesPlace b) n i) } =
+    λ i l. span-at (tileOf b h r) i (omega (arith, c .most)) ∙ token-at b (sizesPlace b) n inside (c .most) i l in
+    record {
+      first = rw (at 0 (c .least)) (omega (arith, place-after b (sizesPlace b) n 0));
+      tokens = λ i k l m. rw (at i (omega arith), at k m) (place-apart b (sizesPlace b) n i k l m);
+    }
+
 -- ---- THE LAWS: what is taken of any bytes passes; what is not taken is refused
 pub taken-is-fine : (b : List ℕ) → Bytes b → takenOf b .answer .number ≡ 0 → Passes b (takenOf b)
 unfolding nothingTaken
@@ -134,7 +145,15 @@ taken-is-fine b y z = go (way b) z
   where
     go : {t : Taken} → Way b t → t .answer .number ≡ 0 → Passes b t
     go (refused n k) e = absurd (⊎-elim (λ p. omega (arith, p, e)) (λ q. ⊎-elim (λ p. omega (arith, p, e)) (λ p. omega (arith, p, e)) q) k)
-    go (whole h r g l f i) e = whole-passes b y h r g l f i
+    go (whole h r g l k f i) e = whole-passes b y h r g l f i
+
+pub taken-in-order : (b : List ℕ) → Bytes b → takenOf b .answer .number ≡ 0 → InOrder (takenOf b .answer .tile)
+unfolding nothingTaken wholeOf
+taken-in-order b y z = go (way b) z (taken-is-fine b y z .counted)
+  where
+    go : {t : Taken} → Way b t → t .answer .number ≡ 0 → Counted (t .answer .tile .count) → InOrder (t .answer .tile)
+    go (refused n k) e c = absurd (⊎-elim (λ p. omega (arith, p, e)) (λ q. ⊎-elim (λ p. omega (arith, p, e)) (λ p. omega (arith, p, e)) q) k)
+    go (whole h r g l k f i) e c = whole-ordered b h r c i
 
 pub taken-or-refused : (b : List ℕ) → (takenOf b .answer .number ≡ 0) ⊎ FrameRefused (takenOf b)
 unfolding nothingTaken wholeOf
@@ -142,7 +161,7 @@ taken-or-refused b = go (way b)
   where
     go : {t : Taken} → Way b t → (t .answer .number ≡ 0) ⊎ FrameRefused t
     go (refused n k) = inr (record { number = k; zeros = refl })
-    go (whole h r g l f i) = inl refl
+    go (whole h r g l k f i) = inl refl
 
 -- the same of the call that is lent the entries
 pub into-or-kept : (b : List ℕ) (old : List ℤ) → ((takenOf b .answer .number ≡ 0) × (intoOf b old ≡ takenOf b)) ⊎ FrameKept old (intoOf b old)
@@ -165,4 +184,13 @@ tokens-eight b = go (way b)
   where
     go : {t : Taken} → Way b t → length (t .answer .tile .tokens) ≡ 8
     go (refused n k) = refl
-    go (whole h r g l f i) = length-build 8 (λ i. partitionSpan b (sizesPlace b) (partitionCount (h .partitions)) i (partitionStart b (sizesPlace b) (partitionCount (h .partitions)) i))
+    go (whole h r g l k f i) = length-build 8 (λ i. partitionSpan b (sizesPlace b) (partitionCount (h .partitions)) i (partitionStart b (sizesPlace b) (partitionCount (h .partitions)) i))
+
+-- and 1096 entries
+pub entries-whole : (b : List ℕ) → length (takenOf b .header) ≡ 1096
+unfolding nothingTaken wholeOf
+entries-whole b = go (way b)
+  where
+    go : {t : Taken} → Way b t → length (t .header) ≡ 1096
+    go (refused n k) = refl
+    go (whole h r g l k f i) = entries-length h

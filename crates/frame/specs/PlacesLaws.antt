@@ -5,7 +5,7 @@ use mathlib.Core.Bool.{Bool, true, false, _&&_}
 use mathlib.Core.List.{List}
 use mathlib.Core.Logic.{⊎-elim}
 use native.Mathlib.Omega.{arith}
-use native.Mathlib.Nat.{add-suc, add-zero}
+use native.Mathlib.Nat.{add-suc, add-zero, zero-add}
 use lib.Dec.{ltb, leb}
 use lib.ListN.{length}
 use borrow.Author.Tests.{lt-ltb, le-ltb, le-leb, lt-leb, leb-true}
@@ -58,6 +58,17 @@ module _ (b : List ℕ) (table count : ℕ) where
   place-up : (i k : ℕ) → partitionStart b table count i ≤ partitionStart b table count (i + k)
   place-up i zero = rw (add-zero i) (omega arith)
   place-up i (suc k) = rw (add-suc i k) (omega (arith, place-up i k, place-next (i + k)))
+
+  -- each partition ends before a later one starts
+  pub place-apart : (i k : ℕ) → i < k → k < count → partitionStart b table count i + lengthOf b table count i (partitionStart b table count i) ≤ partitionStart b table count k
+  place-apart i k l m =
+      let e : suc i + (k - suc i) ≡ k = omega arith in
+      let u : partitionStart b table count (suc i) ≤ partitionStart b table count k = rw e at (place-up (suc i) (k - suc i)) in
+      rw (length-sized i (partitionStart b table count i) (omega arith)) (omega (arith, place-next i, u))
+
+  pub place-after : (i : ℕ) → table + 3 * (count - 1) ≤ partitionStart b table count i
+  unfolding partitionStart
+  place-after i = rw (zero-add i) at (place-up 0 i)
 
   -- from the last on they stay
   place-stays : (i k : ℕ) → count ≤ i + 1 → partitionStart b table count (i + k) ≡ partitionStart b table count i

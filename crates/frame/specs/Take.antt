@@ -92,6 +92,10 @@ takenOf b =
       ]
     ]
 
+-- ---- a list stored over another of its length; over one of another length it is not
+unfoldable pub storedOf : (old new : List ℤ) → List ℤ
+storedOf old new = elim (eqb (length old) (length new)) [ true ↦ new | false ↦ old ]
+
 -- ---- with the entries lent: 9 where there are not 1096, before anything else; a refusal leaves them as they were
 unfoldable pub intoOf : List ℕ → List ℤ → Taken
 intoOf b old =

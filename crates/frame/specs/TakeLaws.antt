@@ -26,7 +26,7 @@ use Rattle.frame.specs.HeaderLaws.{header-within}
 use Rattle.frame.specs.Entries.{entries}
 use Rattle.reader.specs.Reads.{Reads}
 use Rattle.frame.specs.PlacesLaws.{inside-all, inside-not}
-use Rattle.frame.specs.Take.{refusedAnswer, nothingTaken, firstOf, sizesPlace, wholeOf, partitionsPlaced, codedOf, givenHeader, takenOf, intoOf}
+use Rattle.frame.specs.Take.{refusedAnswer, nothingTaken, firstOf, sizesPlace, wholeOf, partitionsPlaced, codedOf, givenHeader, takenOf, storedOf, intoOf}
 
 module _ (b : List ℕ) where
   pub take-tag : tagFine b ≡ false → nothingTaken 12 ≡ takenOf b
@@ -82,18 +82,30 @@ module _ (b : List ℕ) where
     unfolding wholeOf
     taken-whole pa pd pw pt ps pe k = rw (pw, pt, pa, pd, ps, pe, f, e) (placed-all h r (rw f at l) (rw f at m) (rw (g, e, f) at k))
 
+-- a list stored over another
+pub stored-not : (old new : List ℤ) → (length old ≡ length new → ⊥) → old ≡ storedOf old new
+unfolding storedOf
+stored-not old new h = rw (ne-eqb _ _ h, storedOf)
+
+pub stored-is : (old new : List ℤ) → length old ≡ length new → storedOf old new ≡ new
+unfolding storedOf
+stored-is old new h = rw (eq-eqb _ _ h, storedOf)
+
 -- with the entries lent
 module _ (b : List ℕ) (old : List ℤ) where
   pub into-length : {a : Answer} → a ≡ refusedAnswer 9 → (length old ≡ 1096 → ⊥) → record { answer = a; header = old } ≡ intoOf b old
   unfolding intoOf
   into-length e h = rw (e, ne-eqb _ _ h, intoOf)
 
-  pub into-taken : {t : Taken} {l : List ℤ} → t ≡ takenOf b → l ≡ t .header → length old ≡ 1096 → t .answer .number ≡ 0 → record { answer = t .answer; header = l } ≡ intoOf b old
+  into-taken : {t : Taken} {l : List ℤ} → t ≡ takenOf b → l ≡ t .header → length old ≡ 1096 → t .answer .number ≡ 0 → record { answer = t .answer; header = l } ≡ intoOf b old
   unfolding intoOf
   into-taken {t} e g h k = go e g (rw e at k)
     where
       go : {t : Taken} {l : List ℤ} → t ≡ takenOf b → l ≡ t .header → takenOf b .answer .number ≡ 0 → record { answer = t .answer; header = l } ≡ intoOf b old
       go e g k = rw (g, e, eq-eqb _ _ h, eq-eqb _ _ k, intoOf)
+
+  pub into-stored : {t : Taken} {l : List ℤ} → t ≡ takenOf b → l ≡ storedOf old (t .header) → length old ≡ 1096 → length (t .header) ≡ 1096 → t .answer .number ≡ 0 → record { answer = t .answer; header = l } ≡ intoOf b old
+  into-stored e g h n k = into-taken e (g ∙ stored-is old _ (h ∙ sym n)) h k
 
   pub into-refused : {t : Taken} → t ≡ takenOf b → length old ≡ 1096 → (t .answer .number ≡ 0 → ⊥) → record { answer = t .answer; header = old } ≡ intoOf b old
   unfolding intoOf

@@ -5,16 +5,19 @@ use crate::take::refused;
 use crate::take::take;
 use header::entries;
 ghost use mathlib.Core.Path.{_≡_};
-ghost use lib.ListN.{length};
 ghost use Rattle.frame.specs.declared.take.Taken.{Taken};
-ghost use Rattle.frame.specs.Take.{intoOf};
+ghost use Rattle.frame.specs.Take.{storedOf, intoOf};
 
-fn put(header: &mut [i32], entries: [i32; 1096])
-    requires { ⌜ (length (now header) ≡ 1096) × (length entries ≡ 1096) ⌝ }
-    ensures { λ _. ⌜ now (header .exit) ≡ entries ⌝ }
+// Copies the entries, where there are as many as are lent; else nothing.
+pub fn store(header: &mut [i32], entries: &[i32])
+    ensures { λ _. ⌜ now (header .exit) ≡ storedOf (now (header .entry)) (now (entries .entry)) ⌝ }
 {
+    let n = header.len();
+    if n != entries.len() {
+        return;
+    }
     let mut i = 0;
-    while i < entries::ENTRY_COUNT {
+    while i < n {
         header[i] = entries[i];
         i = i + 1;
     }
@@ -32,7 +35,7 @@ pub fn take_into(bytes: &[u8], header: &mut [i32]) -> Answer
     let answer = t.answer;
     if answer.number == 0 {
         let entries = t.header;
-        put(header, entries);
+        store(header, &entries);
     }
     answer
 }

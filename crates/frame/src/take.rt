@@ -43,7 +43,7 @@ pub struct Taken {
     pub header: [i32; 1096],
 }
 
-pub(crate) fn refused(number: u32) -> Answer
+pub fn refused(number: u32) -> Answer
     ensures { λ r. ⌜ r ≡ refusedAnswer number ⌝ }
 {
     Answer {

@@ -16,17 +16,20 @@ use Rattle.hookbarley.specs.FrameCalls.{numbersOf, FrameCalled, toFrameC
 use Rattle.hookbarley.specs.TileNumbers.{numbersOfTile, FieldsFit, tileOfNumbers}
 use Rattle.hookbarley.specs.TileNumbersLaws.{valid-fits, tile-back}
 
+-- what was taken, stored as 28 numbers
+pub taken-put : (a : Answer) {s : ℕ} {n l : List ℕ} → s ≡ bitOf (a .simple) → n ≡ numbersOfTile (a .tile) (a .shown) s → l ≡ n → l ≡ numbersOf a
+taken-put a q g k = k ∙ g ∙ ap (numbersOfTile (a .tile) (a .shown)) q
+
 module _ (b : List ℕ) (header : List ℤ) (tile : List ℕ) where
   pub frame-refused : (length tile ≡ 28 → ⊥) → record { number = 9; header = header; tile = tile } ≡ frameCalledOf b header tile
   unfolding frameCalledOf
   frame-refused e = rw (ne-eqb _ _ e, frameCalledOf)
 
-  pub frame-called : length tile ≡ 28 → {a : Answer} {h : List ℤ} {s : ℕ} {n l : List ℕ} → record { answer = a; header = h } ≡ intoOf b header → s ≡ bitOf (a .simple) → n ≡ numbersOfTile (a .tile) (a .shown) s → l ≡ n
-      → record { number = a .number; header = h; tile = l } ≡ frameCalledOf b header tile
+  pub frame-called : length tile ≡ 28 → {a : Answer} {h : List ℤ} {l : List ℕ} → record { answer = a; header = h } ≡ intoOf b header → l ≡ numbersOf a → record { number = a .number; header = h; tile = l } ≡ frameCalledOf b header tile
   unfolding frameCalledOf
-  frame-called e {a} {h} f q g k =
+  frame-called e {a} {h} f k =
       let z : frameCalledOf b header tile ≡ toFrameCalled (intoOf b header) = rw (eq-eqb _ _ e, frameCalledOf) in
-      ap (λ (l : List ℕ). record { number = a .number; header = h; tile = l }) (k ∙ g ∙ ap (numbersOfTile (a .tile) (a .shown)) q) ∙ ap toFrameCalled f ∙ sym z
+      ap (λ (l : List ℕ). record { number = a .number; header = h; tile = l }) k ∙ ap toFrameCalled f ∙ sym z
 
 -- ---- THE LAW: what the call returns, hookbarley_decode takes as the same tile
 reader-fits : (b : List ℕ) → Bytes b → let r = takenOf b .answer .tile .reader in FieldsFit (r .range) (r .shifts) (r .window)

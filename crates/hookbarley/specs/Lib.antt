@@ -8,6 +8,8 @@ pub mod ProfileCalls
 pub mod ProfileCallsLaws
 pub mod RescueCalls
 pub mod RescueCallsLaws
+pub mod ShowCalls
+pub mod ShowCallsLaws
 pub mod SurveyCalls
 pub mod SurveyCallsLaws
 pub mod TileNumbers

@@ -8,6 +8,7 @@ pub mod filtering;
 pub mod frame_header;
 pub mod profiling;
 pub mod rescuing;
+pub mod showing;
 pub mod surveying;
 pub mod tile_numbers;
 pub mod webp_find;

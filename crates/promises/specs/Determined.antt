@@ -77,7 +77,9 @@ use Rattle.hookbarley.specs.SurveyCalls.{surveyCalledOf}
 use Rattle.picture.specs.Counts.{costOf}
 use Rattle.hookbarley.specs.FrameCalls.{frameCalledOf}
 use Rattle.hookbarley.specs.WebpCalls.{webpFoundOf, webpWrappedOf}
-use Rattle.frame.specs.Take.{takenOf, intoOf}
+use Rattle.frame.specs.Take.{refusedAnswer, takenOf, storedOf, intoOf}
+use Rattle.key_frame.specs.KeyFrame.{keyFrameOf}
+use Rattle.hookbarley.specs.ShowCalls.{showCalledOf}
 use Rattle.webp.specs.Webp.{findOf, wrapOf}
 
 -- one answer meets the promise, and no other
@@ -562,6 +564,19 @@ frame-take bytes = determined (takenOf bytes)
 pub frame-take-into : (bytes : List ℕ) (header : List ℤ) → One (λ o. o ≡ intoOf bytes header)
 frame-take-into bytes header = determined (intoOf bytes header)
 
+-- frame::take::refused
+pub frame-refused : (number : ℕ) → One (λ o. o ≡ refusedAnswer number)
+frame-refused number = determined (refusedAnswer number)
+
+-- frame::into::store
+pub frame-store : (header entries : List ℤ) → One (λ o. o ≡ storedOf header entries)
+frame-store header entries = determined (storedOf header entries)
+
+-- ---- key_frame
+-- key_frame::key_frame
+pub key-frame : (bytes : List ℕ) (header : List ℤ) (y u v columns modes strengths : List ℕ) → One (λ o. o ≡ keyFrameOf bytes header (memoryOf y u v columns modes strengths))
+key-frame bytes header y u v columns modes strengths = determined (keyFrameOf bytes header (memoryOf y u v columns modes strengths))
+
 -- ---- webp
 -- webp::read::find
 pub webp-find : (bytes : List ℕ) → One (λ o. o ≡ findOf bytes)
@@ -591,6 +606,10 @@ hookbarley-survey bytes header tile y u v columns modes strengths counts = deter
 -- hookbarley::surveying::hookbarley_survey_add
 pub hookbarley-survey-add : (counts other : List ℕ) → One (λ o. o ≡ addOf counts other)
 hookbarley-survey-add counts other = determined (addOf counts other)
+
+-- hookbarley::showing::hookbarley_key_frame
+pub hookbarley-key-frame : (bytes : List ℕ) (header : List ℤ) (tile y u v columns modes strengths : List ℕ) → One (λ o. o ≡ showCalledOf bytes header tile (memoryOf y u v columns modes strengths))
+hookbarley-key-frame bytes header tile y u v columns modes strengths = determined (showCalledOf bytes header tile (memoryOf y u v columns modes strengths))
 
 -- hookbarley::deblocking::hookbarley_deblock
 pub hookbarley-deblock : (y u v strengths : List ℕ) (width height simple : ℕ) → One (λ o. o ≡ deblockCalledOf (planesOf y u v) strengths width height simple)

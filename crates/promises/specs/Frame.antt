@@ -8,18 +8,14 @@ use Rattle.reader.specs.Boolean.{Bytes}
 use Rattle.lent.specs.Memory.{Memory, sizesOf}
 use Rattle.lent.specs.Records.{packed}
 use Rattle.lent.specs.Sizes.{Sized}
-use Rattle.picture.specs.Checks.{Call, callOf}
 use Rattle.picture.specs.ChecksLaws.{refusal-none}
 use Rattle.picture.specs.Picture.{Picture, State, Ended, numberOf}
 use Rattle.frame.specs.Take.{takenOf}
 use Rattle.frame.specs.PassesLaws.{taken-is-fine}
+use Rattle.key_frame.specs.KeyFrame.{frameCall}
 use Rattle.promises.specs.Refusals.{Fine, number}
 use Rattle.promises.specs.Reached.{Ending, whole, modes-out, tokens-out}
 use Rattle.promises.specs.Stops.{stops-at}
-
--- what the picture call is given of a frame
-abbrev pub frameCall : List ℕ → Call
-frameCall b = callOf b (takenOf b .answer .tile) (takenOf b .header)
 
 module _ (b : List ℕ) (y : Bytes b) (e : takenOf b .answer .number ≡ 0) (m : Memory) (s : Sized packed (takenOf b .answer .tile .width) (takenOf b .answer .tile .height) (sizesOf m)) where
   -- THE PROMISE: a frame that is taken, with memory of the lengths that check 4 asks, passes all five checks

@@ -21,6 +21,8 @@ pub mod Frame
 pub mod Webp
 pub mod Deblocked
 pub mod DeblockedLaws
+pub mod KeyFrame
+pub mod KeyFrameLaws
 pub mod Packed
 pub mod PackedLaws
 pub mod Segments

@@ -71,6 +71,8 @@ use Rattle.hookbarley.specs.ProfileCalls.{profileNumbers, profileCalledOf}
 use Rattle.hookbarley.specs.SurveyCalls.{surveyNumbers, toSurveyCalled, surveyCalledOf}
 use Rattle.hookbarley.specs.ExplainCalls.{ruleNumberOf, pairNumberOf, explainCalledOf}
 use Rattle.hookbarley.specs.FrameCalls.{numbersOf, frameCalledOf}
+use Rattle.key_frame.specs.KeyFrame.{keyFrameOf}
+use Rattle.hookbarley.specs.ShowCalls.{shownNumbers, toShowCalled, showCalledOf}
 use Rattle.hookbarley.specs.WebpCalls.{webpFoundOf, webpWrappedOf}
 use Rattle.webp.specs.Webp.{riffSize, mostSize, fileOf, markedOf, sizedOf, lossyOf, filledOf, findOf, foundNumberOf, foundStartOf, foundLengthOf, wrapOf, wrappedNumberOf, wrappedLengthOf}
 
@@ -270,6 +272,9 @@ pub record Numbers : Type 0 where
       → frameCalledOf b header tile ≡ record { number = 9; header = header; tile = tile }
   pub c-frame : (b : List ℕ) (header : List ℤ) (tile : List ℕ) → eqb (length tile) 28 ≡ true
       → frameCalledOf b header tile ≡ record { number = intoOf b header .answer .number; header = intoOf b header .header; tile = numbersOf (intoOf b header .answer) }
+  -- hookbarley::showing::hookbarley_key_frame: 9 and nothing changed where there are not 28 numbers, else the number of `key_frame` (KeyFrame)
+  pub c-show-room : (b : List ℕ) (header : List ℤ) (tile : List ℕ) (m : Memory) → eqb (length tile) 28 ≡ false → showCalledOf b header tile m ≡ shownNumbers 9 0 0 0 header tile m
+  pub c-show : (b : List ℕ) (header : List ℤ) (tile : List ℕ) (m : Memory) → eqb (length tile) 28 ≡ true → showCalledOf b header tile m ≡ toShowCalled tile (keyFrameOf b header m)
   -- hookbarley::rescuing::hookbarley_rescue: 9 and nothing changed where there are not 28 numbers, else the number of `rescue`
   pub c-rescue-room : (b : List ℕ) (header : List ℤ) (tile : List ℕ) (m : Memory) (marks : List ℕ) → eqb (length tile) 28 ≡ false → rescueCalledOf b header tile m marks ≡ rescueNumbers 9 0 m marks
   pub c-rescue : (b : List ℕ) (header : List ℤ) (tile : List ℕ) (m : Memory) (marks : List ℕ) → eqb (length tile) 28 ≡ true

@@ -52,6 +52,7 @@ use Rattle.hookbarley.specs.RescueCalls.{rescueCalledOf}
 use Rattle.hookbarley.specs.ProfileCalls.{profileCalledOf}
 use Rattle.hookbarley.specs.SurveyCalls.{surveyCalledOf}
 use Rattle.macroblock.specs.Rebuilt.{rebuiltOf, rebuildCallOf}
+use Rattle.hookbarley.specs.ShowCalls.{showCalledOf}
 use Rattle.hookbarley.specs.WebpCalls.{webpFoundOf, webpWrappedOf}
 use Rattle.webp.specs.Webp.{findOf, foundNumberOf, foundStartOf, foundLengthOf, wrapOf, wrappedNumberOf, wrappedLengthOf}
 use mathlib.Core.Logic.{⊎-elim}
@@ -200,7 +201,7 @@ wrap-numbers frame out = record {
 
 -- ---- THE PROMISE
 pub numbers-bind : Numbers
-unfolding wrap16Of symbolAnswer walkOf walkAnswer extraOf extraAnswer tokenOf tokenAnswer quantizersOf levelAnswer framedOf magnitudeOf numberAnswer signedOf signedAnswer Tokens.blockOf Tokens.blockCallOf Tokens.blockByHeaderOf tableOf transformOf pixelOf strengthAnswer prefixAnswer mainAnswer blockAnswer smallAnswer modesAnswer Residual.residualAnswer Residual.residualCallOf Residual.residualByHeaderOf paintOf recordWritten recordFound digitsOf Macroblock.macroblockCallOf Macroblock.stepOf ranOf intoOf filteredOf explainCalledOf frameCalledOf rescueCalledOf profileCalledOf surveyCalledOf rebuildCallOf rebuiltOf deblockCalledOf webpFoundOf webpWrappedOf
+unfolding wrap16Of symbolAnswer walkOf walkAnswer extraOf extraAnswer tokenOf tokenAnswer quantizersOf levelAnswer framedOf magnitudeOf numberAnswer signedOf signedAnswer Tokens.blockOf Tokens.blockCallOf Tokens.blockByHeaderOf tableOf transformOf pixelOf strengthAnswer prefixAnswer mainAnswer blockAnswer smallAnswer modesAnswer Residual.residualAnswer Residual.residualCallOf Residual.residualByHeaderOf paintOf recordWritten recordFound digitsOf Macroblock.macroblockCallOf Macroblock.stepOf ranOf intoOf filteredOf explainCalledOf frameCalledOf rescueCalledOf profileCalledOf surveyCalledOf showCalledOf rebuildCallOf rebuiltOf deblockCalledOf webpFoundOf webpWrappedOf
 numbers-bind = record {
   wrap16 = λ v. checked-cond _ Wrap.wrap16NumberOf Wrap.wrap16ValuesOf refl refl refl refl;
   symbol = λ short s r prob. reads _ (symbolOf s r prob) toSymbol (symbolNumberOf short) symbolValuesOf refl refl refl refl (λ b q. (refl, refl));
@@ -245,6 +246,8 @@ numbers-bind = record {
   c-explain = λ e simple edge limit inner threshold after steps. checked _ (λ (c : ExplainCalled). c .number) (λ (c : ExplainCalled). ((c .rule, c .pair), c .after, c .steps)) refl refl refl refl;
   c-frame-room = λ b header tile e. rw (e, frameCalledOf);
   c-frame = λ b header tile e. rw (e, frameCalledOf);
+  c-show-room = λ b header tile m e. rw (e, showCalledOf);
+  c-show = λ b header tile m e. rw (e, showCalledOf);
   c-rescue-room = λ b header tile m marks e. rw (e, rescueCalledOf);
   c-rescue = λ b header tile m marks e. rw (e, rescueCalledOf);
   c-profile-room = λ b header tile m e. rw (e, profileCalledOf);

@@ -1,0 +1,40 @@
+-- What the call from a key frame's bytes to the screen answers, as its code finds it.
+use Prim.Native.Nat.{ℕ, zero, suc}
+use mathlib.Core.Path.{_≡_, refl, sym, _∙_, ap}
+use mathlib.Core.List.{List}
+use lib.IntN.{ℤ}
+use lib.ListN.{length}
+use borrow.Author.Tests.{eq-eqb, ne-eqb}
+use Rattle.lent.specs.Memory.{Memory}
+use Rattle.frame.specs.declared.take.Answer.{Answer}
+use Rattle.key_frame.specs.declared.Shown.{Shown}
+use Rattle.key_frame.specs.KeyFrame.{KeyFramed, keyFramed, keyFrameOf}
+use Rattle.hookbarley.specs.FrameCalls.{numbersOf}
+use Rattle.hookbarley.specs.ShowCalls.{ShowCalled, shownNumbers, tileAfter, toShowCalled, showCalledOf}
+
+-- the tile after the call
+pub tile-taken : (old : List ℕ) (a : Answer) → a .number ≡ 0 → {l : List ℕ} → l ≡ numbersOf a → l ≡ tileAfter old a
+unfolding tileAfter
+tile-taken old a e f = f ∙ rw (e, tileAfter) refl
+
+pub tile-kept : (old : List ℕ) (a : Answer) → (a .number ≡ 0 → ⊥) → old ≡ tileAfter old a
+unfolding tileAfter
+tile-kept old a n = go (a .number) refl n
+  where
+    go : (k : ℕ) → a .number ≡ k → (k ≡ 0 → ⊥) → old ≡ tileAfter old a
+    go zero e n = absurd (n refl)
+    go (suc k) e n = rw (e, tileAfter) refl
+
+module _ (b : List ℕ) (header : List ℤ) (tile : List ℕ) (m : Memory) where
+  pub show-refused : (length tile ≡ 28 → ⊥) → shownNumbers 9 0 0 0 header tile m ≡ showCalledOf b header tile m
+  unfolding showCalledOf
+  show-refused e = rw (ne-eqb _ _ e, showCalledOf)
+
+  pub show-called : length tile ≡ 28 → showCalledOf b header tile m ≡ toShowCalled tile (keyFrameOf b header m)
+  unfolding showCalledOf
+  show-called e = rw (eq-eqb _ _ e, showCalledOf)
+
+  pub show-found : length tile ≡ 28 → {q : Shown} {h : List ℤ} {n : Memory} {l : List ℕ} → keyFramed q h n ≡ keyFrameOf b header m → l ≡ tileAfter tile (q .taken)
+      → shownNumbers (q .number) (q .finished) (q .reads .first) (q .reads .tokens) h l n ≡ showCalledOf b header tile m
+  show-found e {q} {h} {n} f g =
+      ap (λ (l : List ℕ). shownNumbers (q .number) (q .finished) (q .reads .first) (q .reads .tokens) h l n) g ∙ ap (toShowCalled tile) f ∙ sym (show-called e)

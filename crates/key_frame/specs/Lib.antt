@@ -1,0 +1,2 @@
+pub mod KeyFrame
+pub mod KeyFrameLaws
