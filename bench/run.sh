@@ -96,7 +96,7 @@ echo
 echo "Stack, bytes:"
 echo
 $X86CC -O2 -Wall -Iinclude -o $out/stack bench/stack.c "$ARCHIVE" -lpthread
-$qemu $out/stack bench/tile-q90.case | sed 's/^/- /'
+$qemu $out/stack bench/tile-q90.case bench/tile-q90.webp | sed 's/^/- /'
 echo
 
 $X86CC -O2 -Iinclude -o $out/needed bench/needed.c "$ARCHIVE"

@@ -1,6 +1,6 @@
-/* How much stack the calls use: stack FILE.case. Each runs on a stack of its own, filled with one byte before it; what is no longer that
- * byte was used. The case is decoded whole, then deblocked in both kinds; then each partition is cut to half, so that the way of a missing
- * byte is measured too. No call uses a heap. */
+/* How much stack the calls use: stack FILE.case FILE.webp, the same tile twice. Each runs on a stack of its own, filled with one byte before
+ * it; what is no longer that byte was used. The case is decoded whole, then deblocked in both kinds; then each partition is cut to half, so
+ * that the way of a missing byte is measured too; then the file's frame is taken and shown. No call uses a heap. */
 #include "../examples/c/case_file.h"
 #include <pthread.h>
 
@@ -29,6 +29,31 @@ static void *deblock(void *simple) {
     return NULL;
 }
 
+/* The file's frame: its header taken, and all the way to the screen. Entries and tile do not stand on this stack. */
+static uint8_t file[1 << 20];
+static size_t frame_start, frame_length;
+static int32_t header[HOOKBARLEY_ENTRIES];
+
+static void *take(void *unused) {
+    static struct hookbarley_tile taken;
+    number = hookbarley_take(file + frame_start, frame_length, header, &taken);
+    return unused;
+}
+
+static void *show(void *unused) {
+    size_t finished;
+    number = hookbarley_show(file + frame_start, frame_length, header, &c.tile, &memory, &finished);
+    return unused;
+}
+
+static int read_webp(const char *name) {
+    FILE *f = fopen(name, "rb");
+    if (!f) return 0;
+    size_t n = fread(file, 1, sizeof file, f);
+    fclose(f);
+    return hookbarley_webp_find(file, n, &frame_start, &frame_length) == 0;
+}
+
 /* The bytes of stack that a thread running it has used. */
 static size_t used(void *(*run)(void *), void *argument) {
     static uint8_t room[ROOM] __attribute__((aligned(4096)));
@@ -44,7 +69,7 @@ static size_t used(void *(*run)(void *), void *argument) {
 }
 
 int main(int argc, char **argv) {
-    if (argc != 2 || !case_read(argv[1], &c) || !case_side(c.tile.width) || !case_side(c.tile.height)) return 2;
+    if (argc != 3 || !case_read(argv[1], &c) || !case_side(c.tile.width) || !case_side(c.tile.height) || !read_webp(argv[2])) return 2;
     hookbarley_lend(&c.tile, malloc(hookbarley_room(&c.tile)), &memory);
     if (!memory.y) return 2;
     size_t none = used(nothing, NULL), ways[3][2] = {{1, 1}, {2, 1}, {1, 2}};
@@ -59,5 +84,9 @@ int main(int argc, char **argv) {
     printf("deblock, answer %u: %zu bytes\n", number, n);
     n = used(deblock, &c) - none;
     printf("deblock, simple, answer %u: %zu bytes\n", number, n);
+    n = used(take, NULL) - none;
+    printf("frame, answer %u: %zu bytes\n", number, n);
+    n = used(show, NULL) - none;
+    printf("key_frame, answer %u: %zu bytes\n", number, n);
     return 0;
 }

@@ -18,6 +18,12 @@ static void print_picture(const char *out, enum tint tint, const struct picture 
         printf("  whole %zu, soft %zu, grey %zu\n", p->finished, p->kept - p->finished, p->blocks - p->kept);
 }
 
+static void decode_frame(const struct options *o, struct frame frame, struct picture *p) {
+    if (o->rescue) picture_rescue(p, frame, o->filter);
+    else if (o->filter == FILTER_CODED) picture_show(p, frame);
+    else picture_decode(p, frame, o->filter);
+}
+
 /* Decodes every frame of a file into `out`, which is made when the first picture is there. */
 static int decode_file(const struct options *o, const char *path, const char *out, enum form form, struct tally *tally, int quiet) {
     struct file file;
@@ -30,7 +36,7 @@ static int decode_file(const struct options *o, const char *path, const char *ou
     if (!file_open(path, &file)) return STATUS_USAGE;
     file.rescue = o->rescue;
     while (good && file_next(&file, &frame, &number)) {
-        (o->rescue ? picture_rescue : picture_decode)(&picture, frame, o->filter);
+        decode_frame(o, frame, &picture);
         status = worse(status, take_answer(tally, path, &file, picture.number, &picture));
         if (has_picture(picture.number)) {
             if (!to) to = fopen(out, "wb");

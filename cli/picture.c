@@ -23,12 +23,24 @@ static uint32_t prepare(struct picture *p, struct frame frame, enum filter filte
     return 0;
 }
 
+static const char *kind_of(const struct picture *p) {
+    return !p->level ? "unfiltered" : p->tile.simple ? "simple filter" : "normal filter";
+}
+
+/* What was decoded without the call that deblocks by itself. */
 static void deblock(struct picture *p, enum filter filter) {
     p->filtered = "unfiltered";
     if (!has_picture(p->number) || filter == FILTER_NONE || !p->level) return;
     uint32_t refused = hookbarley_deblock_picture(&p->tile, &p->memory);
     if (refused) p->number = refused; /* never: that is proved of what both calls leave */
-    p->filtered = p->tile.simple ? "simple filter" : "normal filter";
+    p->filtered = kind_of(p);
+}
+
+void picture_show(struct picture *p, struct frame frame) {
+    if (prepare(p, frame, FILTER_CODED)) return;
+    p->number = hookbarley_show(frame.bytes, frame.length, p->header, &p->tile, &p->memory, &p->finished);
+    p->kept = p->finished;
+    p->filtered = kind_of(p);
 }
 
 void picture_decode(struct picture *p, struct frame frame, enum filter filter) {

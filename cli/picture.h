@@ -17,7 +17,7 @@ struct picture {
     uint8_t *marks;          /* HOOKBARLEY_MARK_.. of each macroblock after picture_rescue, else NULL */
     size_t blocks, finished; /* macroblocks, and those finished */
     size_t kept;             /* those finished or rebuilt from their modes: the others are grey */
-    int level;               /* the frame's filter level; where it is 0 nothing is filtered (docs/DIFFERENCES.md) */
+    int level;               /* the frame's filter level; where it is 0 nothing is filtered */
     const char *filtered;    /* "unfiltered", "simple filter" or "normal filter" */
 };
 
@@ -27,7 +27,10 @@ int has_picture(uint32_t number);
 /* The frame's header alone: entries and tile, or the number of the refusal. */
 uint32_t picture_header(struct picture *picture, struct frame frame);
 
-/* Decodes a frame and deblocks it. */
+/* From a frame's bytes to the picture on the screen, by the one call that is proved to do all of it. */
+void picture_show(struct picture *picture, struct frame frame);
+
+/* The same call by call, for another filter than the frame's or none. */
 void picture_decode(struct picture *picture, struct frame frame, enum filter filter);
 
 /* Decodes a frame and counts it, by the library's record: `record` has the counts of this picture alone. Nothing is deblocked. */

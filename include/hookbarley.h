@@ -25,7 +25,7 @@ extern "C" {
 
 /* What the calls return. No call returns 8 or 10. */
 enum hookbarley_number {
-    HOOKBARLEY_WHOLE = 0,         /* All of it was done: of hookbarley_decode, every macroblock is finished. */
+    HOOKBARLEY_WHOLE = 0,         /* All of it was done: of a picture, every macroblock is finished. */
     HOOKBARLEY_SIZE = 1,          /* Width or height is not a multiple of 16 in 16..16384. */
     HOOKBARLEY_COUNT = 2,         /* The count of token partitions is not 1..8. */
     HOOKBARLEY_ENTRY = 3,         /* A header entry is outside -255..255. */
@@ -33,7 +33,7 @@ enum hookbarley_number {
     HOOKBARLEY_PARTITION = 5,     /* A partition lies outside the bytes, or the starting reader is out of range. */
     HOOKBARLEY_NO_MODES = 6,      /* The first partition ran out in macroblock *finished. */
     HOOKBARLEY_NO_TOKENS = 7,     /* A token partition ran out in macroblock *finished. */
-    HOOKBARLEY_ARGUMENT = 9,      /* Not 28 numbers of a tile, 1096 entries for hookbarley_frame, 37 counts of a record or eight samples. */
+    HOOKBARLEY_ARGUMENT = 9,      /* Not 28 numbers of a tile, 1096 entries of a header to fill, 37 counts of a record or eight samples. */
     HOOKBARLEY_LIMIT = 11,        /* A strength record's limit is above 189. */
     HOOKBARLEY_NO_KEY_FRAME = 12, /* Under 10 bytes, no key frame, another start code, a version above 3, or a size of zero. */
     HOOKBARLEY_PAST_END = 13,     /* The first partition, the sizes of the token partitions or one of these is past the end. */
@@ -282,7 +282,8 @@ uint32_t hookbarley_survey_add(uint64_t *record, size_t record_len, const uint64
  * width, height    in samples, multiples of 16
  * simple           not 0: the simple filter, which touches luma only. The frame header's filter_type says which
  *
- * Other decoders filter nothing where the frame's level (HOOKBARLEY_HEADER_LEVEL) is 0, whatever its segments say: skip the call then.
+ * A frame whose level (HOOKBARLEY_HEADER_LEVEL) is 0 is not to be filtered, whatever its segments say: skip the call then, as
+ * hookbarley_key_frame does.
  */
 uint32_t hookbarley_deblock(uint8_t *y, size_t y_len,
                             uint8_t *u, size_t u_len,
@@ -336,6 +337,32 @@ uint32_t hookbarley_explain(const uint8_t *samples, size_t samples_len, uint8_t 
  */
 uint32_t hookbarley_frame(const uint8_t *bytes, size_t length, int32_t *header, size_t header_len, size_t *tile, size_t tile_len);
 
+/* From a key frame's bytes to the picture on the screen: hookbarley_frame, hookbarley_decode and hookbarley_deblock one after the other.
+ * The loop filter is of the header's kind; where the frame's level (HOOKBARLEY_HEADER_LEVEL) is 0 nothing is filtered, whatever its
+ * segments and deltas say (RFC 6386, section 15).
+ *
+ * Checked in this order: 9 not 28 numbers, not 1096 entries; 12 to 14 as hookbarley_frame; 4 a lent length is not what the frame's size
+ * asks. After these nothing lent has changed, header and tile included, and *finished and both counts are 0. Else 0, 6 or 7 as
+ * hookbarley_decode: header and tile are the frame's, the planes are deblocked, and after 6 and 7 every sample of an unfinished macroblock
+ * is 128. What was lent before never matters. For samples before the loop filter there are the three calls.
+ *
+ * bytes            the frame, all of it
+ * header           lent: HOOKBARLEY_ENTRIES entries
+ * tile             lent: HOOKBARLEY_TILE_NUMBERS numbers
+ * y .. strengths   lent: of the lengths that hookbarley_decode asks for the frame's size
+ * finished, first_reads, token_reads   as of hookbarley_decode
+ */
+uint32_t hookbarley_key_frame(const uint8_t *bytes, size_t length,
+                              int32_t *header, size_t header_len,
+                              size_t *tile, size_t tile_len,
+                              uint8_t *y, size_t y_len,
+                              uint8_t *u, size_t u_len,
+                              uint8_t *v, size_t v_len,
+                              uint8_t *columns, size_t columns_len,
+                              uint8_t *modes, size_t modes_len,
+                              uint8_t *strengths, size_t strengths_len,
+                              size_t *finished, uint64_t *first_reads, uint64_t *token_reads);
+
 /* Finds the key frame in a WebP file of the simple lossy layout (RFC 9649, sections 2.3 to 2.5): 'RIFF', size, 'WEBP', 'VP8 ', size, the
  * frame, and a pad byte of 0 where it is odd; sizes are little-endian. The file is all of the bytes: the RIFF size plus 8 is `length`, and
  * the one chunk fills it. Checked in this order: 17 the marks; 18 the RIFF size; 19 the chunk's kind; 18 the chunk's size and the pad byte.
@@ -352,15 +379,11 @@ uint32_t hookbarley_webp_wrap(const uint8_t *frame, size_t frame_length, uint8_t
 
 /* ---- From a frame to its planes. The calls above take every length by itself; these hand over what a tile asks.
  *
- *     int32_t header[HOOKBARLEY_ENTRIES];
- *     struct hookbarley_tile tile;
- *     struct hookbarley_memory memory;
- *     size_t finished; uint64_t first_reads, token_reads;
- *     uint32_t number = hookbarley_take(frame, length, header, &tile);
- *     if (number) return number;
+ * Memory is lent once for a size, by the first frame of it; then each is shown in it:
+ *
+ *     if (hookbarley_take(frame, length, header, &tile)) return;
  *     hookbarley_lend(&tile, malloc(hookbarley_room(&tile)), &memory);
- *     number = hookbarley_picture(frame, length, header, &tile, &memory, &finished, &first_reads, &token_reads);
- *     if (header[HOOKBARLEY_HEADER_LEVEL]) hookbarley_deblock_picture(&tile, &memory);
+ *     number = hookbarley_show(frame, length, header, &tile, &memory, &finished);
  */
 struct hookbarley_memory {
     uint8_t *y, *u, *v, *columns, *modes, *strengths;
@@ -403,6 +426,17 @@ static inline void hookbarley_lend(const struct hookbarley_tile *t, uint8_t *roo
 /* hookbarley_frame. */
 static inline uint32_t hookbarley_take(const uint8_t *frame, size_t length, int32_t *header, struct hookbarley_tile *t) {
     return hookbarley_frame(frame, length, header, HOOKBARLEY_ENTRIES, (size_t *)t, HOOKBARLEY_TILE_NUMBERS);
+}
+
+/* hookbarley_key_frame, into memory that was lent by this tile: the one that hookbarley_take gave of this frame or of another of its size,
+ * or that the last hookbarley_show left. 4: this frame has another size. Tile and memory stay as they were: take it, and lend anew. */
+static inline uint32_t hookbarley_show(const uint8_t *frame, size_t length, int32_t *header, struct hookbarley_tile *t,
+                                       const struct hookbarley_memory *m, size_t *finished) {
+    struct hookbarley_lengths n = hookbarley_lengths_of(t);
+    uint64_t first_reads, token_reads;
+    return hookbarley_key_frame(frame, length, header, HOOKBARLEY_ENTRIES, (size_t *)t, HOOKBARLEY_TILE_NUMBERS,
+                                m->y, n.y, m->u, n.u, m->v, n.v, m->columns, n.columns, m->modes, n.modes, m->strengths, n.strengths,
+                                finished, &first_reads, &token_reads);
 }
 
 /* hookbarley_decode of what was taken. */

@@ -31,6 +31,7 @@ CHAPTERS = [
      ["filter/Strengths", "filter/Kernel", "filter/Straight", "filter/Rfc15", "filter/Source", "filter/Explain", "filter/Moves", "deblock/Deblock", "deblock/Moves"]),
     ("Lent memory", "", ["lent/Records", "lent/Sizes", "lent/Memory"]),
     ("One macroblock, all of them, the call", "section 2", ["macroblock/Macroblock", "macroblock/Source", "picture/Checks", "picture/Picture"]),
+    ("From a frame's bytes to the screen", "sections 9 to 15", ["key_frame/KeyFrame"]),
     ("What a cut tile still tells", "request M-108", ["macroblock/Rebuilt", "picture/Halt", "rescue/Rescue"]),
     ("Whether a tile fits the cockpit profile", "request M-111", ["profile/Profile"]),
     ("A survey over a delivery", "request M-110", ["survey/Survey"]),
@@ -38,7 +39,7 @@ CHAPTERS = [
     ("Case files", "", ["casefile/CaseFile", "casefile/Measures", "casefile/Run"]),
     ("The calls as C sees them", "",
      ["hookbarley/TileNumbers", "hookbarley/Calls", "hookbarley/ExplainCalls", "hookbarley/FrameCalls", "hookbarley/WebpCalls", "hookbarley/RescueCalls",
-      "hookbarley/ProfileCalls", "hookbarley/SurveyCalls"]),
+      "hookbarley/ProfileCalls", "hookbarley/SurveyCalls", "hookbarley/ShowCalls"]),
 ]
 
 # ---- the page of notation: forms of the language, then the kit's names by module

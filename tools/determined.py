@@ -225,7 +225,7 @@ def definition(full):
     if not file or not file.exists():
         return None
     text = file.read_text()
-    found = re.findall(rf"^{re.escape(m.group(3))}((?: \w+)*) = (.*(?:\n[ \t].*|\n\}}.*)*)", text, re.M)
+    found = re.findall(rf"^{re.escape(m.group(3))}((?: \w+)*) =\s+(.*(?:\n[ \t].*|\n\}}.*)*)", text, re.M)
     if len(found) != 1:
         return None
     variables = found[0][0].split()

@@ -11,19 +11,18 @@ static int refused(uint32_t number) {
     return 1;
 }
 
-/* The ten lines that a loader has: what stands before them is reading the file, what stands behind them drawing it. */
+/* What a loader has: before it stands reading the file, behind it drawing the picture. A loader that decodes many frames of one size lends
+ * once and shows each. */
 static int decode(const uint8_t *frame, size_t length) {
     int32_t header[HOOKBARLEY_ENTRIES];
     struct hookbarley_tile tile;
     struct hookbarley_memory memory;
     size_t finished;
-    uint64_t first_reads, token_reads; /* what it cost, for whoever plans by it */
     uint32_t number = hookbarley_take(frame, length, header, &tile);
     if (number) return refused(number);
     hookbarley_lend(&tile, malloc(hookbarley_room(&tile)), &memory);
     if (!memory.y) return 2;
-    number = hookbarley_picture(frame, length, header, &tile, &memory, &finished, &first_reads, &token_reads);
-    if (header[HOOKBARLEY_HEADER_LEVEL]) hookbarley_deblock_picture(&tile, &memory);
+    number = hookbarley_show(frame, length, header, &tile, &memory, &finished);
     fprintf(stderr, "%u %zu %zu %zu\n", number, finished, tile.true_width, tile.true_height);
     printf("P5\n%zu %zu\n255\n", tile.true_width, tile.true_height);
     for (size_t row = 0; row < tile.true_height; row++) fwrite(memory.y + row * tile.width, 1, tile.true_width, stdout);

@@ -56,6 +56,11 @@ none a.ppm
 # The three forms. The md5 of the .yuv is of what ffmpeg 5.1.9 gave, that of the .ppm of `dwebp -nofancy -ppm` (1.2.4).
 hb 0 decode bench/tile-q90.webp $out/a.yuv && md5 a.yuv 3b66ffdc9cc18e21bfe8f556a77df122 && said '256 x 256, whole, normal filter' && quiet
 hb 0 decode --unfiltered bench/tile-q90.webp $out/u.yuv && md5 u.yuv 58ff2dd3bdddfede31b9249dae58c48b && said unfiltered
+# A level of 0 beside levels of segments: nothing is filtered, by the call itself, by a kind that is asked for, or after a rescue.
+for option in '' --unfiltered --normal --rescue; do
+    # shellcheck disable=SC2086
+    hb 0 decode $option $kept/level-0-segments.webp $out/z.yuv && md5 z.yuv 13c7a639dfc99418fd96dcf9f1c6d954 && said unfiltered
+done
 hb 0 decode bench/tile-q90.webp $out/a.ppm && md5 a.ppm 545488b137f7e681cbccbcff6c38a6c5
 hb 0 decode bench/tile-q90.webp $out/a.pgm
 { printf 'P5\n256 256\n255\n' && head -c 65536 $out/a.yuv; } >$out/luma.pgm
@@ -150,8 +155,8 @@ refused 18 $out/extended.webp
 refused 19 $out/extended.webp --rescue
 
 # Many: a folder, a summary by number.
-hb 0 decode $kept/*.webp $out/all && said '8 files, 8 pictures' && said '8  whole: 0, every macroblock is finished' && quiet
-[ "$(find $out/all -name '*.ppm' | wc -l)" -eq 8 ] || bad "$what: not eight pictures"
+hb 0 decode $kept/*.webp $out/all && said '9 files, 9 pictures' && said '9  whole: 0, every macroblock is finished' && quiet
+[ "$(find $out/all -name '*.ppm' | wc -l)" -eq 9 ] || bad "$what: not nine pictures"
 hb 1 decode --to yuv bench/tile-q90.webp $out/cut.vp8 $out/inter.vp8 $kept/two-partitions.ivf $out/some
 said '4 files, 4 pictures' && said '3  whole: 0' && said '1  cut: 7' && said '1  refused: 12' && same $out/some/tile-q90.yuv $out/a.yuv
 hb 1 decode --rescue --unfiltered --to yuv bench/tile-q90.webp $out/cut.vp8 $out/disk.webp $out/modes.vp8 $out/first.vp8 $out/rescued

@@ -34,10 +34,12 @@ static void must_be(uint32_t got, uint32_t want) {
 }
 
 /* What the calls on a tile take first, nine slices. */
+#define GIVEN_MEMORY                                                                                                                       \
+    GIVEN(3, m.y, n.y), GIVEN(4, m.u, n.u), GIVEN(5, m.v, n.v), GIVEN(6, m.columns, n.columns), GIVEN(7, m.modes, n.modes),                \
+        GIVEN(8, m.strengths, n.strengths)
 #define GIVEN_TILE(tile)                                                                                                                   \
     GIVEN(0, bytes, sizeof bytes), GIVEN(1, header, HOOKBARLEY_ENTRIES), GIVEN(2, (const size_t *)&tile, HOOKBARLEY_TILE_NUMBERS),         \
-        GIVEN(3, m.y, n.y), GIVEN(4, m.u, n.u), GIVEN(5, m.v, n.v), GIVEN(6, m.columns, n.columns), GIVEN(7, m.modes, n.modes),            \
-        GIVEN(8, m.strengths, n.strengths)
+        GIVEN_MEMORY
 
 /* Their refusal without these; 0 where nothing but the bytes is left out. */
 static uint32_t refusal(unsigned out) { return out & 4 ? HOOKBARLEY_ARGUMENT : out & ~1u ? HOOKBARLEY_LENGTH : HOOKBARLEY_WHOLE; }
@@ -131,6 +133,24 @@ static void taking(unsigned out) {
                              GIVEN(2, (size_t *)&taken, HOOKBARLEY_TILE_NUMBERS)), out & 6 ? HOOKBARLEY_ARGUMENT : HOOKBARLEY_NO_KEY_FRAME);
 }
 
+/* A frame of one macroblock whose token partition has no bytes: where all is lent it is grey. */
+static void showing(unsigned out) {
+    static const uint8_t frame[70] = {[0] = (60 << 5 & 255) | 16, [1] = 60 >> 3, [3] = 0x9d, 0x01, 0x2a, 16, 0, 16, 0};
+    struct hookbarley_lengths n = hookbarley_lengths_of(&tile);
+    struct hookbarley_memory m = lent();
+    struct hookbarley_tile taken;
+    int32_t entries[HOOKBARLEY_ENTRIES];
+    size_t finished;
+    uint64_t first_reads, token_reads;
+    uint32_t refused = out & 6 ? HOOKBARLEY_ARGUMENT : out & 1 ? HOOKBARLEY_NO_KEY_FRAME : refusal(out);
+    trying("key_frame without %#x", out);
+    must_be(hookbarley_key_frame(GIVEN(0, frame, sizeof frame), GIVEN(1, entries, HOOKBARLEY_ENTRIES),
+                                 GIVEN(2, (size_t *)&taken, HOOKBARLEY_TILE_NUMBERS), GIVEN_MEMORY, &finished, &first_reads, &token_reads),
+            refused ? refused : HOOKBARLEY_NO_TOKENS);
+    if (finished || token_reads || (refused && first_reads)) fail("something was read");
+    planes_are(&n, refused);
+}
+
 static void explaining(unsigned out) {
     uint8_t samples[8] = {0}, after[8];
     int32_t steps[8];
@@ -157,6 +177,7 @@ int main(void) {
     for (unsigned out = 0; out < 512; out++) profiling(out);
     for (unsigned out = 0; out < 1024; out++) surveying(out);
     for (unsigned out = 0; out < 4; out++) adding(out);
+    for (unsigned out = 0; out < 512; out++) showing(out);
     for (unsigned out = 0; out < 16; out++) deblocking(out);
     for (unsigned out = 0; out < 8; out++) taking(out);
     for (unsigned out = 0; out < 8; out++) explaining(out);

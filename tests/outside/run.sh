@@ -163,13 +163,13 @@ part_readme() {
     {
         echo '#include "hookbarley.h"'
         echo 'uint8_t *room_of(size_t);'
-        echo 'void draw(const struct hookbarley_tile *, const struct hookbarley_memory *);'
-        echo 'uint32_t show(const uint8_t *frame, size_t length);'
-        echo 'uint32_t show(const uint8_t *frame, size_t length) {'
+        echo 'void draw(uint32_t, const struct hookbarley_tile *, const struct hookbarley_memory *);'
+        echo 'void shown(const uint8_t *frame, size_t length);'
+        echo 'void shown(const uint8_t *frame, size_t length) {'
         awk '/^```c$/ {on = 1; next} /^```$/ {if (on) exit} on' README.md
-        echo 'return number; }'
+        echo '}'
     } >$out/readme.c
-    grep -q hookbarley_picture $out/readme.c || bad readme "it shows no call"
+    grep -q hookbarley_show $out/readme.c || bad readme "it shows no call"
     compile -c -o $out/readme.o $out/readme.c || bad readme "its call does not compile"
 }
 
@@ -345,8 +345,8 @@ part_surveyed() {
 part_nothing() {
     local which
     run_test nothing tests/outside/nothing.c
-    least nothing "calls" "$(counted $out/nothing.log '^ok: \([0-9]*\) calls')" 3116
-    for which in '' explain_ frame_ profile_ rescue_ survey_ webp_; do faults nothing tests/outside/nothing.c tests/outside/${which}mutants.c 1 plainly; done
+    least nothing "calls" "$(counted $out/nothing.log '^ok: \([0-9]*\) calls')" 3628
+    for which in '' explain_ frame_ profile_ rescue_ show_ survey_ webp_; do faults nothing tests/outside/nothing.c tests/outside/${which}mutants.c 1 plainly; done
 }
 
 # The WebP calls between guard pages, on files of encoders and damaged ones; the faults that the test must find.
@@ -391,6 +391,19 @@ part_frame() {
     faults frame tests/outside/frame.c tests/outside/frame_mutants.c "$(upto 14)" plainly 2000 1 $small
 }
 
+# The call from a frame's bytes to the screen between guard pages, beside the three calls; the faults that the test must find.
+# shellcheck disable=SC2086
+part_show() {
+    local kept
+    kept=$(echo tests/second/kept/*.webp tests/second/kept/*.ivf)
+    run_test show tests/outside/show.c "$N" "$SEED" $small bench/*.webp $kept
+    least show "cuts" "$(counted $out/show.log '^cut: \([0-9]*\) cuts')" 1800
+    least show "pairs" "$(counted $out/show.log '^apart: \([0-9]*\) pairs')" 160
+    least show "random inputs" "$(counted $out/show.log '^random: \([0-9]*\) inputs')" "$N"
+    least show "frames of level 0" "$(counted $out/show.log '^level 0: \([0-9]*\) frames')" 500
+    faults show tests/outside/show.c tests/outside/show_mutants.c "$(upto 20)" plainly 200 1 tests/outside/webp/even.webp $kept
+}
+
 # The Rust wrapper.
 part_rust() {
     local passed
@@ -417,10 +430,10 @@ part_products() {
 
 # As many parts at a time as there are processors, the longest first; what they say is printed in the order above. A part that does not come to
 # its end leaves no status, and has not passed.
-parts="calls example counts readme damaged faults rescue rescued profile survey surveyed nothing webp explain frame rust products"
+parts="calls example counts readme damaged faults rescue rescued profile survey surveyed nothing webp explain frame show rust products"
 for part in $parts; do rm -f $out/part-$part.txt $out/part-$part.status; done
 running=0
-for part in frame webp damaged faults rescue profile survey counts surveyed example explain rescued rust nothing products readme calls; do
+for part in frame webp damaged show faults rescue profile survey counts surveyed example explain rescued rust nothing products readme calls; do
     if [ $running -ge "$(nproc)" ]; then
         wait -n
         running=$((running - 1))

@@ -29,7 +29,7 @@ while read -r name count before after; do
     files=$((files + 1))
     frames=$((frames + count))
 done <$kept/expected.txt
-[ $files -ge 15 ] && [ $frames -ge 22 ] || bad "only $files files and $frames key frames"
+[ $files -ge 17 ] && [ $frames -ge 25 ] || bad "only $files files and $frames key frames"
 for kind in ' 1 of tokens' ' 2 of tokens' ' 4 of tokens' ' 8 of tokens' 'segments    q' 'filter .*level 0' 'normal, level [1-9]' \
     'simple, level [1-9]' 'size  *[0-9]*[13579] x [0-9]*[13579],'; do
     grep -q "$kind" $out/all.log || bad "no file of the kind '$kind'"

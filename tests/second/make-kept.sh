@@ -41,6 +41,8 @@ ivf eight-partitions 51 24 145 --profile=0 --token-parts=3 --min-q=40 --max-q=50
 ivf eight-partitions-version-2 54 31 130 --profile=2 --token-parts=3 --min-q=50 --max-q=60
 ivf empty-partitions 56 33 17 --profile=3 --token-parts=3 --min-q=50 --max-q=63
 ivf finest-vpx 20 32 16 --profile=0 --token-parts=0 --min-q=0 --max-q=0
+python3 tests/second/level_zero.py $kept/normal-segments.webp $kept/level-0-segments.webp
+python3 tests/second/level_zero.py $kept/two-partitions.ivf $kept/level-0-deltas.ivf
 samples() { ffmpeg -nostdin -v error "$@" -fps_mode passthrough -f rawvideo -pix_fmt yuv420p - | md5sum | cut -d' ' -f1; }
 for f in $kept/*.webp $kept/*.ivf; do
     frames=$(ffmpeg -nostdin -v error -i "$f" -fps_mode passthrough -f framecrc - | grep -vc '^#')

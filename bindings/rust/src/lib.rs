@@ -61,6 +61,18 @@ extern "C" {
         width: usize, height: usize, simple: u32,
     ) -> u32;
     fn hookbarley_frame(bytes: *const u8, length: usize, header: *mut i32, header_len: usize, tile: *mut usize, tile_len: usize) -> u32;
+    fn hookbarley_key_frame(
+        bytes: *const u8, length: usize,
+        header: *mut i32, header_len: usize,
+        tile: *mut usize, tile_len: usize,
+        y: *mut u8, y_len: usize,
+        u: *mut u8, u_len: usize,
+        v: *mut u8, v_len: usize,
+        columns: *mut u8, columns_len: usize,
+        modes: *mut u8, modes_len: usize,
+        strengths: *mut u8, strengths_len: usize,
+        finished: *mut usize, first_reads: *mut u64, token_reads: *mut u64,
+    ) -> u32;
     fn hookbarley_filter(samples: *mut u8, samples_len: usize, simple: u8, edge: u8, limit: u8, inner: u8, threshold: u8) -> u32;
     fn hookbarley_explain(
         samples: *const u8, samples_len: usize,
@@ -302,12 +314,23 @@ impl Memory {
 pub enum Decoded {
     /// Every macroblock is finished.
     Whole(usize),
-    /// An argument was refused, 1 to 5; nothing lent has changed.
+    /// An argument was refused, 1 to 5, or 12 to 14 a frame; nothing lent has changed.
     Refused(u32),
     /// The first partition ran out in this macroblock (6).
     NoModes(usize),
     /// A token partition ran out in this macroblock (7).
     NoTokens(usize),
+}
+
+impl Decoded {
+    fn of(number: u32, k: usize) -> Decoded {
+        match number {
+            answer::WHOLE => Decoded::Whole(k),
+            answer::NO_MODES => Decoded::NoModes(k),
+            answer::NO_TOKENS => Decoded::NoTokens(k),
+            n => Decoded::Refused(n),
+        }
+    }
 }
 
 /// What a picture cost: the symbols read from the first partition and from token partitions, those of a macroblock that ran out too, up to
@@ -324,14 +347,14 @@ impl Reads {
     pub const MOST: Reads = Reads { first: 119, tokens: 7296 };
 }
 
-/// A call of the library on a frame and lent memory, and what it takes besides. Each pointer and length is of a slice or of the tile's
-/// numbers, and what is lent to be written are six different vectors.
+/// A call of the library on a frame and lent memory, and what it takes besides; `header` and `tile` are pointers, which the call reads or
+/// writes. Each pointer and length is of a slice or of the tile's numbers, and what is lent to be written are different vectors.
 macro_rules! on_tile {
-    ($call:ident, $frame:expr, $mem:expr, $($besides:expr),+) => {
+    ($call:ident, $frame:expr, $header:expr, $tile:expr, $mem:expr, $($besides:expr),+) => {
         $call(
             $frame.bytes.as_ptr(), $frame.bytes.len(),
-            $frame.header.as_ptr(), $frame.header.len(),
-            &$frame.tile as *const Tile as *const usize, TILE_NUMBERS,
+            $header, $frame.header.len(),
+            $tile, TILE_NUMBERS,
             $mem.y.as_mut_ptr(), $mem.y.len(),
             $mem.u.as_mut_ptr(), $mem.u.len(),
             $mem.v.as_mut_ptr(), $mem.v.len(),
@@ -353,18 +376,27 @@ pub fn decode_counted(frame: &Frame, mem: &mut Memory) -> (Decoded, Reads) {
     let mut k = 0usize;
     let mut reads = Reads { first: 0, tokens: 0 };
     // Safe: as `on_tile` says; the three numbers stand alone.
-    let number = unsafe { on_tile!(hookbarley_decode, frame, mem, &mut k, &mut reads.first, &mut reads.tokens) };
-    (decoded(number, k), reads)
+    let (header, tile) = (frame.header.as_ptr(), &frame.tile as *const Tile as *const usize);
+    let number = unsafe { on_tile!(hookbarley_decode, frame, header, tile, mem, &mut k, &mut reads.first, &mut reads.tokens) };
+    (Decoded::of(number, k), reads)
 }
 
-/// The picture call's answer, of its number and the macroblocks finished.
-fn decoded(number: u32, k: usize) -> Decoded {
-    match number {
-        answer::WHOLE => Decoded::Whole(k),
-        answer::NO_MODES => Decoded::NoModes(k),
-        answer::NO_TOKENS => Decoded::NoTokens(k),
-        n => Decoded::Refused(n),
-    }
+/// From a key frame's bytes to the picture on the screen: what `Frame::take`, `decode` and `deblock` make of `frame.bytes`, in one call. A
+/// frame whose level (`header::LEVEL`) is 0 is not filtered. Header and tile become the frame's, whatever they and the memory held. After a
+/// refusal nothing has changed, header and tile included: 12 to 14 as `Frame::take`, 4 where the memory is of another size, 9 where the
+/// header is not `ENTRIES` long. After `NoModes` and `NoTokens` the rest is grey.
+pub fn show(frame: &mut Frame, mem: &mut Memory) -> Decoded {
+    show_counted(frame, mem).0
+}
+
+/// The same, with what it cost.
+pub fn show_counted(frame: &mut Frame, mem: &mut Memory) -> (Decoded, Reads) {
+    let mut k = 0usize;
+    let mut reads = Reads { first: 0, tokens: 0 };
+    let (header, tile) = (frame.header.as_mut_ptr(), &mut frame.tile as *mut Tile as *mut usize);
+    // Safe: as `on_tile` says; header and tile, which is so many numbers (`repr(C)`), overlap nothing; the three numbers stand alone.
+    let number = unsafe { on_tile!(hookbarley_key_frame, frame, header, tile, mem, &mut k, &mut reads.first, &mut reads.tokens) };
+    (Decoded::of(number, k), reads)
 }
 
 /// How a survey of one picture ended.
@@ -381,11 +413,12 @@ pub enum Surveyed {
 pub fn survey(frame: &Frame, mem: &mut Memory, record: &mut Record) -> Surveyed {
     let (mut k, mut first, mut tokens) = (0usize, 0u64, 0u64);
     let counts = record.as_mut_ptr();
+    let (header, tile) = (frame.header.as_ptr(), &frame.tile as *const Tile as *const usize);
     // Safe: as `on_tile` says; the record overlaps none of the vectors, and the three numbers stand alone.
-    let number = unsafe { on_tile!(hookbarley_survey, frame, mem, &mut k, &mut first, &mut tokens, counts, record::COUNTS) };
+    let number = unsafe { on_tile!(hookbarley_survey, frame, header, tile, mem, &mut k, &mut first, &mut tokens, counts, record::COUNTS) };
     match number {
         answer::FULL => Surveyed::Full(k),
-        n => Surveyed::Counted(decoded(n, k)),
+        n => Surveyed::Counted(Decoded::of(n, k)),
     }
 }
 
@@ -414,7 +447,8 @@ pub enum Rescued {
 pub fn rescue(frame: &Frame, mem: &mut Memory, marks: &mut [u8]) -> Rescued {
     let mut kept = 0usize;
     // Safe: as `on_tile` says; the marks are a slice that overlaps none of the vectors, and the number stands alone.
-    let number = unsafe { on_tile!(hookbarley_rescue, frame, mem, marks.as_mut_ptr(), marks.len(), &mut kept) };
+    let (header, tile) = (frame.header.as_ptr(), &frame.tile as *const Tile as *const usize);
+    let number = unsafe { on_tile!(hookbarley_rescue, frame, header, tile, mem, marks.as_mut_ptr(), marks.len(), &mut kept) };
     match number {
         answer::WHOLE => Rescued::Kept(kept),
         n => Rescued::Refused(n),
@@ -439,7 +473,8 @@ pub enum Profiled {
 pub fn profile(frame: &Frame, mem: &mut Memory) -> Profiled {
     let (mut rule, mut macroblock) = (0u32, 0usize);
     // Safe: as `on_tile` says; the two numbers stand alone.
-    let number = unsafe { on_tile!(hookbarley_profile, frame, mem, &mut rule, &mut macroblock) };
+    let (header, tile) = (frame.header.as_ptr(), &frame.tile as *const Tile as *const usize);
+    let number = unsafe { on_tile!(hookbarley_profile, frame, header, tile, mem, &mut rule, &mut macroblock) };
     match (number, rule) {
         (answer::WHOLE, profile_rule::FITS) => Profiled::Fits,
         (answer::WHOLE, profile_rule::SKIPPED) => Profiled::Skipped(macroblock),
@@ -458,8 +493,8 @@ pub enum Deblocked {
 }
 
 /// Deblocks the planes in place by the strengths that `decode` or `rescue` left; what they left is never refused. Of the tile its sides and
-/// its kind of filter are looked at; the simple kind touches luma only. Other decoders filter nothing where `header::LEVEL` is 0: skip the
-/// call then.
+/// its kind of filter are looked at; the simple kind touches luma only. A frame whose `header::LEVEL` is 0 is not to be filtered: skip the
+/// call then, as `show` does.
 pub fn deblock(tile: &Tile, mem: &mut Memory) -> Deblocked {
     // Safe: each pointer and length is of a slice, and the lent ones are three different vectors.
     let number = unsafe {

@@ -194,7 +194,7 @@ module _ (p : ℕ) (b c : List ℕ) (y : Bytes b) (z : Bytes c) (a : AlikeFrames
     second-fine : Fine second n
     second-fine = rw one-header at (shown-fine c z new n t)
 
-    pub key-frame-isolated : KeyFrameIsolated p wide (frameTile b .height / 16) (keyFrameOf b old m) (keyFrameOf c new n)
+    pub key-frame-isolated : KeyFrameIsolated p (frameTile b .width / 16) (frameTile b .height / 16) (keyFrameOf b old m) (keyFrameOf c new n)
     key-frame-isolated =
         let f = shown-fine b y old m s in
         let i = isolated p (frameCall b) second m n alike f second-fine y z in
