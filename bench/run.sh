@@ -1,6 +1,6 @@
 #!/usr/bin/env bash
 # Counts instructions a luma sample: bench/run.sh [ARCHIVE]. Prints markdown tables: the three bench tiles beside libwebp 1.2.4
-# (scalar and SSE4.1, its loop filter bypassed and on, all in this run), the rescue call and the survey call beside the picture call, and
+# (scalar and SSE4.1, its loop filter bypassed and on, all in this run), the rescue, survey and recode calls beside the picture call, and
 # the growth with macroblocks and with bytes.
 # Counted by qemu's plugin insncount.c, which counts the same everywhere. A count is of some decodes more less that of one,
 # so starting the program and reading the file is not in it.
@@ -61,23 +61,28 @@ beside() {
 beside "Instructions a luma sample, 256 by 256 samples, before the loop filter:"
 beside "The same with the loop filter (the picture call, then deblocking, the normal kind):" deblock
 
-# The rescue call on whole tiles: what the marks and the place where a picture stops cost. The survey call: what counting costs.
-for call in rescue survey; do
-    $X86CC -O2 -Wall -Iinclude -o $out/$call bench/$call.c "$ARCHIVE"
-    echo "The $call call on whole tiles, instructions a luma sample:"
+# call NAME WHAT LINES DIGITS: another call on whole tiles beside the picture call. LINES are what bench/NAME.c prints of the three.
+call() {
+    local q f a b line
+    $X86CC -O2 -Wall -Iinclude -o $out/"$1" bench/"$1".c "$ARCHIVE"
+    echo "$2, instructions a luma sample:"
     echo
-    echo "| tile | picture call | $call call | ratio |"
+    echo "| tile | picture call | $1 call | ratio |"
     echo "|---|---|---|---|"
-    for q in 50 75 90; do
+    while read -r q line; do
         f=bench/tile-q$q.case
-        line=$($qemu $out/$call $f 1)
-        [ "$line" = "0 256" ] || { echo "tile-q$q, $call: $line" >&2; exit 1; }
+        [ "$line" = "$($qemu $out/"$1" $f 1)" ] || { echo "tile-q$q, $1: not $line" >&2; exit 1; }
         a=$(count $out/bench $f 10)
-        b=$(count $out/$call $f 10)
-        echo "| tile-q$q | $(div "$a" 655360 1) | $(div "$b" 655360 1) | $(div "$b" "$a" 4) |"
-    done
+        b=$(count $out/"$1" $f 10)
+        echo "| tile-q$q | $(div "$a" 655360 1) | $(div "$b" 655360 1) | $(div "$b" "$a" "$4") |"
+    done <<<"$3"
     echo
-done
+}
+
+# What the marks and the place where a picture stops cost; what counting costs; what the tokens written again cost (at most three times the picture call).
+call rescue "The rescue call on whole tiles" $'50 0 256\n75 0 256\n90 0 256' 4
+call survey "The survey call on whole tiles" $'50 0 256\n75 0 256\n90 0 256' 4
+call recode "The recode call, into a room that is long enough" $'50 0 959 10313\n75 0 1208 14481\n90 0 1535 27392' 2
 
 # The dearest tile: as many symbols a macroblock as the format allows (request M-103). Each tile's symbols are those that the call counts.
 python3 bench/dearest.py $out/dearest.case

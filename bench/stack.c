@@ -1,6 +1,6 @@
 /* How much stack the calls use: stack FILE.case FILE.webp, the same tile twice. Each runs on a stack of its own, filled with one byte before
- * it; what is no longer that byte was used. The case is decoded whole, then deblocked in both kinds; then each partition is cut to half, so
- * that the way of a missing byte is measured too; then the file's frame is taken and shown. No call uses a heap. */
+ * it; what is no longer that byte was used. The case is decoded, whole and with each partition cut to half, so that the way of a missing
+ * byte is measured too; it is recoded and deblocked in both kinds; then the file's frame is taken and shown. No call uses a heap. */
 #include "../examples/c/case_file.h"
 #include <pthread.h>
 
@@ -20,6 +20,13 @@ static void *decode(void *unused) {
     cut.first_length /= cut_first;
     for (int i = 0; i < HOOKBARLEY_PARTITIONS; i++) cut.token_lengths[i] /= cut_tokens;
     number = hookbarley_picture(c.bytes, c.length, c.header, &cut, &memory, &finished, &first_reads, &token_reads);
+    return unused;
+}
+
+static void *recode(void *unused) {
+    static uint8_t out[sizeof c.bytes];
+    struct hookbarley_tile result;
+    number = hookbarley_recode_picture(c.bytes, c.length, c.header, &c.tile, &memory, out, sizeof out, &result);
     return unused;
 }
 
@@ -78,9 +85,9 @@ int main(int argc, char **argv) {
         size_t n = used(decode, NULL) - none;
         printf("decode, answer %u: %zu bytes\n", number, n);
     }
-    cut_first = cut_tokens = 1;
-    used(decode, NULL);
-    size_t n = used(deblock, NULL) - none;
+    size_t n = used(recode, NULL) - none;
+    printf("recode, answer %u: %zu bytes\n", number, n);
+    n = used(deblock, NULL) - none;
     printf("deblock, answer %u: %zu bytes\n", number, n);
     n = used(deblock, &c) - none;
     printf("deblock, simple, answer %u: %zu bytes\n", number, n);

@@ -39,7 +39,7 @@ enum hookbarley_number {
     HOOKBARLEY_PAST_END = 13,     /* The first partition, the sizes of the token partitions or one of these is past the end. */
     HOOKBARLEY_NO_HEADER = 14,    /* The coded header ran out, or the first partition has under two bytes. */
     HOOKBARLEY_FULL = 15,         /* A count of a record would pass 2^63-1. */
-    HOOKBARLEY_ROOM = 16,         /* The room to write the WebP file into is too small. */
+    HOOKBARLEY_ROOM = 16,         /* The room to write into, the WebP file or the recoded tile, is too small. */
     HOOKBARLEY_MARKS = 17,        /* 'RIFF' or 'WEBP' is missing or wrong. */
     HOOKBARLEY_SIZES = 18,        /* A size is at odds with the bytes, a pad byte is not 0, or the frame to be wrapped is too long. */
     HOOKBARLEY_KIND = 19          /* The first chunk is not 'VP8 ', or there is none. */
@@ -272,6 +272,35 @@ uint32_t hookbarley_survey(const uint8_t *bytes, size_t bytes_len,
  * HOOKBARLEY_SURVEY_COUNTS counts; or 15 where a sum would pass 2^63-1. After 9 and 15 the record is as it was. */
 uint32_t hookbarley_survey_add(uint64_t *record, size_t record_len, const uint64_t *other, size_t other_len);
 
+/* Decodes one picture and writes its tile again with one token partition: the same tokens with the same probabilities, in raster order
+ * (RFC 6386, section 7.3), behind a copy of the first partition. The two partitions stand at the start of `out`, and the result is the
+ * 28 numbers of the tile that they are. `out`, those numbers and the same header are what hookbarley_decode takes next: it answers 0 and
+ * leaves the same samples, modes, strengths and columns. Recoding what was recoded writes the same bytes.
+ *
+ * The checks are those of hookbarley_decode, in its order, where 9 covers the result too; then 6 and 7; then 16, exactly where the two
+ * partitions are longer than the room. After any number but 0 `out` is as it was and the numbers of the result are 0, but after 9 nothing
+ * has changed at all. Else the other lent memory is always as hookbarley_decode leaves it. What lies in `out` behind the two partitions
+ * is as it was.
+ *
+ * bytes .. tile    as of hookbarley_decode
+ * y .. strengths   lent: as of hookbarley_decode
+ * out              lent: the first partition stands at its start, the token partition behind it. first_length + 4 bytes, and one for each
+ *                  symbol that hookbarley_decode counts in *token_reads, are always enough
+ * result           lent: HOOKBARLEY_TILE_NUMBERS numbers. The partitions lie in `out`, the count is 1, the rest is the tile's: sides, true
+ *                  sizes, filter kind, reader
+ */
+uint32_t hookbarley_recode(const uint8_t *bytes, size_t bytes_len,
+                           const int32_t *header, size_t header_len,
+                           const size_t *tile, size_t tile_len,
+                           uint8_t *y, size_t y_len,
+                           uint8_t *u, size_t u_len,
+                           uint8_t *v, size_t v_len,
+                           uint8_t *columns, size_t columns_len,
+                           uint8_t *modes, size_t modes_len,
+                           uint8_t *strengths, size_t strengths_len,
+                           uint8_t *out, size_t room,
+                           size_t *result, size_t result_len);
+
 /* Deblocks a picture in place (RFC 6386, section 15): macroblocks in raster order, in each the left edge unless column 0, inner vertical
  * edges, the top edge unless row 0, inner horizontal edges. What hookbarley_decode or hookbarley_rescue left is never refused. Checks
  * are made in this order, and after a refusal nothing has changed: 1 width or height, 4 a length, 11 a limit above 189 in any record. After
@@ -479,6 +508,16 @@ static inline uint32_t hookbarley_survey_picture(const uint8_t *bytes, size_t le
     return hookbarley_survey(bytes, length, header, HOOKBARLEY_ENTRIES, (const size_t *)t, HOOKBARLEY_TILE_NUMBERS,
                              m->y, n.y, m->u, n.u, m->v, n.v, m->columns, n.columns, m->modes, n.modes, m->strengths, n.strengths,
                              &finished, &first_reads, &token_reads, record, HOOKBARLEY_SURVEY_COUNTS);
+}
+
+/* hookbarley_recode of what was taken; `result` is the tile that was written to `out`. */
+static inline uint32_t hookbarley_recode_picture(const uint8_t *bytes, size_t length, const int32_t *header,
+                                                 const struct hookbarley_tile *t, const struct hookbarley_memory *m,
+                                                 uint8_t *out, size_t room, struct hookbarley_tile *result) {
+    struct hookbarley_lengths n = hookbarley_lengths_of(t);
+    return hookbarley_recode(bytes, length, header, HOOKBARLEY_ENTRIES, (const size_t *)t, HOOKBARLEY_TILE_NUMBERS,
+                             m->y, n.y, m->u, n.u, m->v, n.v, m->columns, n.columns, m->modes, n.modes, m->strengths, n.strengths,
+                             out, room, (size_t *)result, HOOKBARLEY_TILE_NUMBERS);
 }
 
 /* hookbarley_deblock of what was decoded. */

@@ -35,11 +35,12 @@ CHAPTERS = [
     ("What a cut tile still tells", "request M-108", ["macroblock/Rebuilt", "picture/Halt", "rescue/Rescue"]),
     ("Whether a tile fits the cockpit profile", "request M-111", ["profile/Profile"]),
     ("A survey over a delivery", "request M-110", ["survey/Survey"]),
+    ("One partition", "request M-112; section 7.3, the encoder", ["writer/Encoder", "recode/Recode"]),
     ("The WebP file", "RFC 9649", ["webp/Webp", "webp/Worked"]),
     ("Case files", "", ["casefile/CaseFile", "casefile/Measures", "casefile/Run"]),
     ("The calls as C sees them", "",
      ["hookbarley/TileNumbers", "hookbarley/Calls", "hookbarley/ExplainCalls", "hookbarley/FrameCalls", "hookbarley/WebpCalls", "hookbarley/RescueCalls",
-      "hookbarley/ProfileCalls", "hookbarley/SurveyCalls", "hookbarley/ShowCalls"]),
+      "hookbarley/ProfileCalls", "hookbarley/SurveyCalls", "hookbarley/ShowCalls", "hookbarley/RecodeCalls"]),
 ]
 
 # ---- the page of notation: forms of the language, then the kit's names by module

@@ -116,6 +116,22 @@ static void adding(unsigned out) {
             out ? HOOKBARLEY_ARGUMENT : HOOKBARLEY_WHOLE);
 }
 
+static void recoding(unsigned out) {
+    struct hookbarley_lengths n = hookbarley_lengths_of(&tile);
+    struct hookbarley_memory m = lent();
+    struct hookbarley_tile result;
+    uint8_t written[64];
+    uint32_t refused = out >> 10 & 1 ? HOOKBARLEY_ARGUMENT : refusal(out & 511);
+    trying("recode without %#x", out);
+    memset(written, 0xA5, sizeof written);
+    memset(&result, 0xA5, sizeof result);
+    must_be(hookbarley_recode(GIVEN_TILE(tile), GIVEN(9, written, sizeof written), GIVEN(10, (size_t *)&result, HOOKBARLEY_TILE_NUMBERS)),
+            refused ? refused : HOOKBARLEY_NO_MODES);
+    if (!all(written, sizeof written, 0xA5)) fail("something is written");
+    if (!all((const uint8_t *)&result, sizeof result, refused == HOOKBARLEY_ARGUMENT ? 0xA5 : 0)) fail("there is a result");
+    planes_are(&n, refused);
+}
+
 static void deblocking(unsigned out) {
     struct hookbarley_lengths n = hookbarley_lengths_of(&tile);
     struct hookbarley_memory m;
@@ -178,6 +194,7 @@ int main(void) {
     for (unsigned out = 0; out < 1024; out++) surveying(out);
     for (unsigned out = 0; out < 4; out++) adding(out);
     for (unsigned out = 0; out < 512; out++) showing(out);
+    for (unsigned out = 0; out < 2048; out++) recoding(out);
     for (unsigned out = 0; out < 16; out++) deblocking(out);
     for (unsigned out = 0; out < 8; out++) taking(out);
     for (unsigned out = 0; out < 8; out++) explaining(out);

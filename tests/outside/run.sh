@@ -341,12 +341,53 @@ part_surveyed() {
     fi
 }
 
+# The recode call between guard pages, beside the picture call; the faults that the test must find.
+part_recode() {
+    run_test recode tests/outside/recode.c $cases/real "$N" "$SEED"
+    least recode "rooms" "$(counted $out/recode.log '^rooms: \([0-9]*\) rooms')" 9000
+    least recode "cuts" "$(counted $out/recode.log '^cut: \([0-9]*\) cuts')" 800
+    least recode "random inputs" "$(counted $out/recode.log '^random: \([0-9]*\) inputs')" "$N"
+    few $out/few-recode
+    faults recode tests/outside/recode.c tests/outside/recode_mutants.c "$(upto 16)" plainly $out/few-recode 300 1
+}
+
+# What the recode call writes: of every case file as expected and as tests/model/recode.py works it out; of real ones coded afresh into 1 to
+# 8 partitions the same bytes; and faults that this must find.
+respread() { # respread PROGRAM: its lines beside the model's, the first that differs told
+    local different
+    different=$(plainly "$1" $out/spread/*.case 2>&1 | diff - $out/spread.txt | sed -n 2p)
+    [ -z "$different" ] || { echo "FAILED at a copy: $different"; return 1; }
+    wc -l <$out/spread.txt
+}
+part_recoded() {
+    local model=tests/model/recode.py set different told tried=0
+    rm -rf $out/spread
+    mkdir $out/spread
+    python3 $model --spread $out/spread $cases/real/*.case >$out/spread.txt || { bad recoded "$model"; return; }
+    build recoded tests/outside/recode_lines.c || { bad recoded "does not build"; return; }
+    for set in named real fuzz; do
+        different=$(plainly $out/recoded $cases/$set/*.case | diff - $cases/$set/expected-recoded.txt | sed -n 2p)
+        [ -z "$different" ] || bad recoded "$set: $different"
+        different=$(python3 $model $cases/$set/*.case | diff - $cases/$set/expected-recoded.txt | sed -n 2p)
+        [ -z "$different" ] || bad recoded "$model and what is expected of $set: $different"
+        tried=$((tried + $(wc -l <$cases/$set/expected-recoded.txt)))
+    done
+    least recoded "case files" $tried 151
+    if told=$(respread $out/recoded); then
+        least recoded "copies" "$told" 320
+        say recoded "$tried case files as expected, $told copies with 1 to 8 partitions as $model has them"
+        faults recoded tests/outside/recode_lines.c tests/outside/recode_mutants.c '13 15' respread
+    else
+        bad recoded "$told"
+    fi
+}
+
 # NULL with length 0 in every call, and faults that look behind it.
 part_nothing() {
     local which
     run_test nothing tests/outside/nothing.c
-    least nothing "calls" "$(counted $out/nothing.log '^ok: \([0-9]*\) calls')" 3628
-    for which in '' explain_ frame_ profile_ rescue_ show_ survey_ webp_; do faults nothing tests/outside/nothing.c tests/outside/${which}mutants.c 1 plainly; done
+    least nothing "calls" "$(counted $out/nothing.log '^ok: \([0-9]*\) calls')" 5676
+    for which in '' explain_ frame_ profile_ recode_ rescue_ show_ survey_ webp_; do faults nothing tests/outside/nothing.c tests/outside/${which}mutants.c 1 plainly; done
 }
 
 # The WebP calls between guard pages, on files of encoders and damaged ones; the faults that the test must find.
@@ -430,10 +471,10 @@ part_products() {
 
 # As many parts at a time as there are processors, the longest first; what they say is printed in the order above. A part that does not come to
 # its end leaves no status, and has not passed.
-parts="calls example counts readme damaged faults rescue rescued profile survey surveyed nothing webp explain frame show rust products"
+parts="calls example counts readme damaged faults rescue rescued profile survey surveyed recode recoded nothing webp explain frame show rust products"
 for part in $parts; do rm -f $out/part-$part.txt $out/part-$part.status; done
 running=0
-for part in frame webp damaged show faults rescue profile survey counts surveyed example explain rescued rust nothing products readme calls; do
+for part in frame webp damaged show faults recode rescue profile survey counts surveyed example explain rescued recoded rust nothing products readme calls; do
     if [ $running -ge "$(nproc)" ]; then
         wait -n
         running=$((running - 1))

@@ -1,4 +1,4 @@
-/* The picture call, the rescue call and the profile as tests make them: arguments of any length between guard pages (guard.h), read from
+/* The calls on a tile as tests make them, picture, rescue, profile and recode: arguments of any length between guard pages (guard.h), read from
  * case files; the refusal that they ask for; what holds of an answer's macroblocks and what those of two answers have in common. */
 #ifndef TILE_CALLS_H
 #define TILE_CALLS_H
@@ -8,7 +8,7 @@
 
 /* What is lent to every call on a tile is below LENT; the rescue call is lent the marks too. */
 enum { Y, U, V, COLUMNS, MODES, STRENGTHS, LENT, MARKS = LENT, LENT_MARKED };
-enum { BYTES = LENT_MARKED, TILE, HEADER, FINISHED, FIRST_READS, TOKEN_READS, RULE, BUFFERS };
+enum { BYTES = LENT_MARKED, TILE, HEADER, FINISHED, FIRST_READS, TOKEN_READS, RULE, OUT, RESULT, BUFFERS };
 enum { SLACK = 64 };
 static struct guarded buffers[BUFFERS] = {
     [Y] = {.name = "y", .capacity = 1 << 18},
@@ -25,6 +25,8 @@ static struct guarded buffers[BUFFERS] = {
     [FIRST_READS] = {.name = "first_reads", .capacity = 1 << 12},
     [TOKEN_READS] = {.name = "token_reads", .capacity = 1 << 12},
     [RULE] = {.name = "rule", .capacity = 1 << 12},
+    [OUT] = {.name = "out", .capacity = 1 << 20},
+    [RESULT] = {.name = "result", .capacity = 1 << 12},
 };
 
 /* One call's arguments and lent lengths. */
@@ -110,6 +112,35 @@ static inline void run_profile(const struct call *c, int end, int poison, struct
     r->first = r->tokens = 0;
     take_back(c, &a, LENT, end, poison, r);
     untouched(&buffers[RULE], sizeof *rule, end, poison, SLACK);
+}
+
+/* What the recode call leaves besides: the room, and the numbers of the result. */
+struct recoded {
+    struct result left;
+    uint8_t *out;
+    size_t room, result_len;
+    union {
+        struct hookbarley_tile tile;
+        size_t numbers[HOOKBARLEY_TILE_NUMBERS + 12];
+    };
+};
+
+static inline struct recoded new_recoded(void) {
+    return (struct recoded){.left = new_result(), .out = malloc(buffers[OUT].capacity), .result_len = HOOKBARLEY_TILE_NUMBERS};
+}
+
+/* Runs the recode call with the room and the numbers that `r` says; it tells neither k nor what it read. */
+static inline void run_recode(const struct call *c, int end, int poison, struct recoded *r) {
+    struct laid a = lay_call(c, LENT, end, poison);
+    uint8_t *out = poisoned(&buffers[OUT], r->room, end, poison, SLACK);
+    size_t *result = poisoned(&buffers[RESULT], r->result_len * sizeof *result, end, poison, SLACK);
+    r->left.number = hookbarley_recode(ON_TILE(a, c), out, r->room, result, r->result_len);
+    take_back(c, &a, LENT, end, poison, &r->left);
+    r->left.k = r->left.first = r->left.tokens = 0;
+    memcpy(r->out, out, r->room);
+    memcpy(r->numbers, result, r->result_len * sizeof *result);
+    untouched(&buffers[OUT], r->room, end, poison, SLACK);
+    untouched(&buffers[RESULT], r->result_len * sizeof *result, end, poison, SLACK);
 }
 
 /* The refusal that the picture call must answer with, worked out from the header's text; 0 where it must be decoded. */

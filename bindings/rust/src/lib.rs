@@ -53,6 +53,19 @@ extern "C" {
         record: *mut u64, record_len: usize,
     ) -> u32;
     fn hookbarley_survey_add(record: *mut u64, record_len: usize, other: *const u64, other_len: usize) -> u32;
+    fn hookbarley_recode(
+        bytes: *const u8, bytes_len: usize,
+        header: *const i32, header_len: usize,
+        tile: *const usize, tile_len: usize,
+        y: *mut u8, y_len: usize,
+        u: *mut u8, u_len: usize,
+        v: *mut u8, v_len: usize,
+        columns: *mut u8, columns_len: usize,
+        modes: *mut u8, modes_len: usize,
+        strengths: *mut u8, strengths_len: usize,
+        out: *mut u8, room: usize,
+        result: *mut usize, result_len: usize,
+    ) -> u32;
     fn hookbarley_deblock(
         y: *mut u8, y_len: usize,
         u: *mut u8, u_len: usize,
@@ -480,6 +493,21 @@ pub fn profile(frame: &Frame, mem: &mut Memory) -> Profiled {
         (answer::WHOLE, profile_rule::SKIPPED) => Profiled::Skipped(macroblock),
         (answer::WHOLE, rule) => Profiled::Rule(rule),
         (n, _) => Profiled::Refused(n),
+    }
+}
+
+/// Decodes a picture and writes its tile again with one token partition: the same tokens, in raster order, behind a copy of the first
+/// partition, at the start of `out`. Gives the tile that was written: with `out` and the same header it makes a frame that `decode` answers
+/// `Whole`, leaving the same memory. Or the number of the refusal: that of `decode` (1 to 7), or 16 where `out` is too small; then `out` is
+/// as it was. Memory is always as `decode` leaves it.
+pub fn recode(frame: &Frame, mem: &mut Memory, out: &mut [u8]) -> Result<Tile, u32> {
+    let mut tile = Tile::default();
+    let result = &mut tile as *mut Tile as *mut usize;
+    let (header, given) = (frame.header.as_ptr(), &frame.tile as *const Tile as *const usize);
+    // Safe: as `on_tile` says; `out` is a slice that overlaps none of the vectors, and the tile, so many numbers (`repr(C)`), stands alone.
+    match unsafe { on_tile!(hookbarley_recode, frame, header, given, mem, out.as_mut_ptr(), out.len(), result, TILE_NUMBERS) } {
+        answer::WHOLE => Ok(tile),
+        refused => Err(refused),
     }
 }
 

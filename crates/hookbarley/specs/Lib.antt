@@ -6,6 +6,8 @@ pub mod FrameCalls
 pub mod FrameCallsLaws
 pub mod ProfileCalls
 pub mod ProfileCallsLaws
+pub mod RecodeCalls
+pub mod RecodeCallsLaws
 pub mod RescueCalls
 pub mod RescueCallsLaws
 pub mod ShowCalls

@@ -27,6 +27,14 @@ module _ (n : ℕ) where
   unfolding fieldOf
   field-large h = rw (le-ltb n 4294967296 h, fieldOf)
 
+-- a field's number is small
+field-small : (n : ℕ) → fieldOf n < 4294967296
+field-small n = ⊎-elim (λ l. rw (field-fits n l) l) (λ g. rw (field-large n g) (omega arith)) (lt-or n 4294967296)
+
+-- a tile's reader fits whatever the numbers are
+pub fields-fit : (n : List ℕ) → let r = tileOfNumbers n .reader in FieldsFit (r .range) (r .shifts) (r .window)
+fields-fit n = record { range = field-small (getD n 25 0); shifts = field-small (getD n 26 0); window = field-small (getD n 27 0) }
+
 -- of a reader in range they do
 pub valid-fits : {s : List ℕ} {r : Reader} → Valid s r → FieldsFit (r .range) (r .shifts) (r .window)
 valid-fits v = record { range = omega (arith, v .most); shifts = omega (arith, v .few); window = omega (arith, v .small) }

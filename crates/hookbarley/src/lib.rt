@@ -7,6 +7,7 @@ pub mod explaining;
 pub mod filtering;
 pub mod frame_header;
 pub mod profiling;
+pub mod recoding;
 pub mod rescuing;
 pub mod showing;
 pub mod surveying;

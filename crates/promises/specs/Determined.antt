@@ -74,6 +74,7 @@ use Rattle.profile.specs.declared.Profiled.{Profiled}
 use Rattle.profile.specs.Profile.{profileOf, profileRuleOf, profileBlockOf, profileNumberOf}
 use Rattle.hookbarley.specs.ProfileCalls.{profileCalledOf}
 use Rattle.hookbarley.specs.SurveyCalls.{surveyCalledOf}
+use Rattle.hookbarley.specs.RecodeCalls.{recodeCalledOf}
 use Rattle.picture.specs.Counts.{costOf}
 use Rattle.hookbarley.specs.FrameCalls.{frameCalledOf}
 use Rattle.hookbarley.specs.WebpCalls.{webpFoundOf, webpWrappedOf}
@@ -81,6 +82,9 @@ use Rattle.frame.specs.Take.{refusedAnswer, takenOf, storedOf, intoOf}
 use Rattle.key_frame.specs.KeyFrame.{keyFrameOf}
 use Rattle.hookbarley.specs.ShowCalls.{showCalledOf}
 use Rattle.webp.specs.Webp.{findOf, wrapOf}
+use Rattle.writer.specs.declared.Writer.{Writer}
+use Rattle.writer.specs.Room.{freshWriter, writeIn, flushAnswer}
+use Rattle.recode.specs.Recode.{recodeOf}
 
 -- one answer meets the promise, and no other
 pub record One {A : Type 0} (Promise : A → Type 0) : Type 0 where
@@ -586,6 +590,25 @@ webp-find bytes = determined (findOf bytes)
 pub webp-wrap : (frame out : List ℕ) → One (λ o. o ≡ wrapOf frame out)
 webp-wrap frame out = determined (wrapOf frame out)
 
+-- ---- writer
+-- writer::Writer::fresh
+pub writer-fresh : One (λ o. o ≡ freshWriter)
+writer-fresh = determined freshWriter
+
+-- writer::Writer::write
+pub writer-write : (self : Writer) (out : List ℕ) (prob : ℕ) (bit : Bool) → One (λ o. o ≡ writeIn self out prob bit)
+writer-write self out prob bit = determined (writeIn self out prob bit)
+
+-- writer::Writer::flush
+pub writer-flush : (self : Writer) (out : List ℕ) → One (λ o. o ≡ flushAnswer self out)
+writer-flush self out = determined (flushAnswer self out)
+
+-- ---- recode
+-- recode::recode
+pub recode-recode : (bytes : List ℕ) (tile : Tile) (header : List ℤ) (y u v columns modes strengths out : List ℕ)
+    → One (λ o. o ≡ recodeOf (callOf bytes tile header) (memoryOf y u v columns modes strengths) out)
+recode-recode bytes tile header y u v columns modes strengths out = determined (recodeOf (callOf bytes tile header) (memoryOf y u v columns modes strengths) out)
+
 -- ---- hookbarley
 -- hookbarley::decoding::hookbarley_decode
 pub hookbarley-decode : (bytes : List ℕ) (header : List ℤ) (tile y u v columns modes strengths : List ℕ) → One (λ o. o ≡ calledOf bytes header tile (memoryOf y u v columns modes strengths))
@@ -610,6 +633,10 @@ hookbarley-survey-add counts other = determined (addOf counts other)
 -- hookbarley::showing::hookbarley_key_frame
 pub hookbarley-key-frame : (bytes : List ℕ) (header : List ℤ) (tile y u v columns modes strengths : List ℕ) → One (λ o. o ≡ showCalledOf bytes header tile (memoryOf y u v columns modes strengths))
 hookbarley-key-frame bytes header tile y u v columns modes strengths = determined (showCalledOf bytes header tile (memoryOf y u v columns modes strengths))
+
+-- hookbarley::recoding::hookbarley_recode
+pub hookbarley-recode : (bytes : List ℕ) (header : List ℤ) (tile y u v columns modes strengths out result : List ℕ) → One (λ o. o ≡ recodeCalledOf bytes header tile (memoryOf y u v columns modes strengths) out result)
+hookbarley-recode bytes header tile y u v columns modes strengths out result = determined (recodeCalledOf bytes header tile (memoryOf y u v columns modes strengths) out result)
 
 -- hookbarley::deblocking::hookbarley_deblock
 pub hookbarley-deblock : (y u v strengths : List ℕ) (width height simple : ℕ) → One (λ o. o ≡ deblockCalledOf (planesOf y u v) strengths width height simple)

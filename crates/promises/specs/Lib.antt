@@ -19,6 +19,9 @@ pub mod Witness
 pub mod Determined
 pub mod Frame
 pub mod Webp
+pub mod Recoded
+pub mod Encoded
+pub mod RecodeCalled
 pub mod Deblocked
 pub mod DeblockedLaws
 pub mod KeyFrame

@@ -69,6 +69,8 @@ use Rattle.hookbarley.specs.RescueCalls.{rescueNumbers, rescueCalledOf}
 use Rattle.profile.specs.Profile.{profileOf, profileRuleOf, profileBlockOf, profileNumberOf}
 use Rattle.hookbarley.specs.ProfileCalls.{profileNumbers, profileCalledOf}
 use Rattle.hookbarley.specs.SurveyCalls.{surveyNumbers, toSurveyCalled, surveyCalledOf}
+use Rattle.recode.specs.Recode.{recodeOf}
+use Rattle.hookbarley.specs.RecodeCalls.{resultOf, recodeNumbers, recodeCalledOf}
 use Rattle.hookbarley.specs.ExplainCalls.{ruleNumberOf, pairNumberOf, explainCalledOf}
 use Rattle.hookbarley.specs.FrameCalls.{numbersOf, frameCalledOf}
 use Rattle.key_frame.specs.KeyFrame.{keyFrameOf}
@@ -288,6 +290,12 @@ pub record Numbers : Type 0 where
   -- hookbarley::surveying::hookbarley_survey: 9 and nothing changed where there are not 28 numbers, else as `survey`, of which Survey.antt speaks
   pub c-survey-room : (b : List ℕ) (header : List ℤ) (tile : List ℕ) (m : Memory) (counts : List ℕ) → eqb (length tile) 28 ≡ false → surveyCalledOf b header tile m counts ≡ surveyNumbers (calledNumbers 9 0 0 0 m) counts
   pub c-survey : (b : List ℕ) (header : List ℤ) (tile : List ℕ) (m : Memory) (counts : List ℕ) → eqb (length tile) 28 ≡ true → surveyCalledOf b header tile m counts ≡ toSurveyCalled (surveyOf (handedCall b header tile) m counts)
+  -- hookbarley::recoding::hookbarley_recode: 9 and nothing changed where there are not 28 numbers, and room for 28, else the number of `recode`
+  pub c-recode-room : (b : List ℕ) (header : List ℤ) (tile : List ℕ) (m : Memory) (out result : List ℕ) → (eqb (length tile) 28 && eqb (length result) 28) ≡ false
+      → recodeCalledOf b header tile m out result ≡ recodeNumbers 9 m out result
+  pub c-recode : (b : List ℕ) (header : List ℤ) (tile : List ℕ) (m : Memory) (out result : List ℕ) → (eqb (length tile) 28 && eqb (length result) 28) ≡ true
+      → let e = recodeOf (handedCall b header tile) m out in
+      recodeCalledOf b header tile m out result ≡ recodeNumbers (e .answer .number) (e .mem) (e .out) (resultOf tile (e .answer))
   -- hookbarley::deblocking::hookbarley_deblock, webp_find::hookbarley_webp_find, webp_wrap::hookbarley_webp_wrap: the number of the call below
   pub c-deblock : (d : Planes) (s : List ℕ) (w h simple : ℕ)
       → let o = deblockOf d s w h (flagOf simple) in

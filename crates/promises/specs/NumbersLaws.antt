@@ -51,6 +51,7 @@ use Rattle.hookbarley.specs.FrameCalls.{frameCalledOf}
 use Rattle.hookbarley.specs.RescueCalls.{rescueCalledOf}
 use Rattle.hookbarley.specs.ProfileCalls.{profileCalledOf}
 use Rattle.hookbarley.specs.SurveyCalls.{surveyCalledOf}
+use Rattle.hookbarley.specs.RecodeCalls.{recodeCalledOf}
 use Rattle.macroblock.specs.Rebuilt.{rebuiltOf, rebuildCallOf}
 use Rattle.hookbarley.specs.ShowCalls.{showCalledOf}
 use Rattle.hookbarley.specs.WebpCalls.{webpFoundOf, webpWrappedOf}
@@ -201,7 +202,7 @@ wrap-numbers frame out = record {
 
 -- ---- THE PROMISE
 pub numbers-bind : Numbers
-unfolding wrap16Of symbolAnswer walkOf walkAnswer extraOf extraAnswer tokenOf tokenAnswer quantizersOf levelAnswer framedOf magnitudeOf numberAnswer signedOf signedAnswer Tokens.blockOf Tokens.blockCallOf Tokens.blockByHeaderOf tableOf transformOf pixelOf strengthAnswer prefixAnswer mainAnswer blockAnswer smallAnswer modesAnswer Residual.residualAnswer Residual.residualCallOf Residual.residualByHeaderOf paintOf recordWritten recordFound digitsOf Macroblock.macroblockCallOf Macroblock.stepOf ranOf intoOf filteredOf explainCalledOf frameCalledOf rescueCalledOf profileCalledOf surveyCalledOf showCalledOf rebuildCallOf rebuiltOf deblockCalledOf webpFoundOf webpWrappedOf
+unfolding wrap16Of symbolAnswer walkOf walkAnswer extraOf extraAnswer tokenOf tokenAnswer quantizersOf levelAnswer framedOf magnitudeOf numberAnswer signedOf signedAnswer Tokens.blockOf Tokens.blockCallOf Tokens.blockByHeaderOf tableOf transformOf pixelOf strengthAnswer prefixAnswer mainAnswer blockAnswer smallAnswer modesAnswer Residual.residualAnswer Residual.residualCallOf Residual.residualByHeaderOf paintOf recordWritten recordFound digitsOf Macroblock.macroblockCallOf Macroblock.stepOf ranOf intoOf filteredOf explainCalledOf frameCalledOf rescueCalledOf profileCalledOf surveyCalledOf showCalledOf recodeCalledOf rebuildCallOf rebuiltOf deblockCalledOf webpFoundOf webpWrappedOf
 numbers-bind = record {
   wrap16 = λ v. checked-cond _ Wrap.wrap16NumberOf Wrap.wrap16ValuesOf refl refl refl refl;
   symbol = λ short s r prob. reads _ (symbolOf s r prob) toSymbol (symbolNumberOf short) symbolValuesOf refl refl refl refl (λ b q. (refl, refl));
@@ -254,6 +255,8 @@ numbers-bind = record {
   c-profile = λ b header tile m e. rw (e, profileCalledOf);
   c-survey-room = λ b header tile m counts e. rw (e, surveyCalledOf);
   c-survey = λ b header tile m counts e. rw (e, surveyCalledOf);
+  c-recode-room = λ b header tile m out result e. rw (e, recodeCalledOf);
+  c-recode = λ b header tile m out result e. rw (e, recodeCalledOf);
   c-deblock = λ d s w h simple. refl;
   c-webp-find = λ s. refl;
   c-webp-wrap = λ frame out. refl;

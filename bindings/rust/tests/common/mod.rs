@@ -1,4 +1,4 @@
-//! Tiles that the tests decode and rescue.
+//! Tiles that the tests decode, rescue and recode.
 use hookbarley::{header, Frame, Memory, Reader, Tile, ENTRIES};
 
 /// The worked tile: 16 by 16, header 0 but 128 as each coefficient probability, both partitions zero bytes.

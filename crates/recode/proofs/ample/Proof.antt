@@ -1,0 +1,29 @@
+use Prim.Native.Nat.{ℕ, _-_}
+use native.Mathlib.Omega.{arith}
+use mathlib.Core.Path.{_≡_, ap}
+use mathlib.Core.Bool.{Bool, true, false}
+use borrow.Author.Tests.{leb-true}
+use Rattle.numbers.specs.Flags.{bitOf}
+use borrow.Author.Needs.{needs}
+use Rattle.recode.proofs.ample.Statement.{statement}
+use Rattle.recode.proofs.ample.Tie as tie
+use Rattle.recode.proofs.ample.Reads as reads
+use Rattle.recode.proofs.ample.Lts as lts
+
+never : false ≡ true → ⊥
+never e = let z : _≡_ {A = ℕ} 0 1 = ap bitOf e in omega arith
+
+returns : tie.Need-returns
+returns c = λ e. absurd (never e)
+
+returns-2 : tie.Need-returns-2
+returns-2 c = λ e. absurd (never e)
+
+sub-result : tie.Need-sub-result
+sub-result c = search needs
+
+returns-3 : tie.Need-returns-3
+returns-3 c = let a = c .before .before .args in λ e. let h = leb-true (a .most) (a .room - a .n - 4) e in omega (arith, c .before .if1 .left, c .if2 .left, h)
+
+pub ample-spec : {M : Type 1} → statement M
+ample-spec = tie.close (tie.spec returns returns-2 sub-result returns-3)

@@ -1,0 +1,28 @@
+use native.Mathlib.Omega.{arith}
+use Rattle.recode.specs.Copies.{asked}
+use borrow.Author.Needs.{needs}
+use Rattle.recode.proofs.pipe.ask.Statement.{statement}
+use Rattle.recode.proofs.pipe.ask.Tie as tie
+use Rattle.recode.proofs.pipe.ask.Reads as reads
+use Rattle.recode.proofs.pipe.ask.Lts as lts
+use Rattle.wide.proofs.wide.Wide.bit.Reads as bit-reads
+use Rattle.wide.proofs.wide.Wide.fill.Reads as fill-reads
+use Rattle.writer.proofs.Writer.write.Reads as write-reads
+
+fill-requires : tie.Need-fill-requires
+fill-requires c κs = search needs
+
+bit-requires : tie.Need-bit-requires
+bit-requires c κs = search needs
+
+write-requires : tie.Need-write-requires
+write-requires c κs = search needs
+
+same-length : tie.Need-same-length
+same-length c = search needs
+
+returns : tie.Need-returns
+returns c = asked _ (c .before .before .before .before .before .before .before .before .before .before .before .args .p) _ (c .before .before .before .before .before .before .before .before .before .before .before .args .prob) (λ i. c .before .before .before .before .before .before .before .before .before .before .shared-slice-known .given i .fits) (omega (arith, c .before .before .before .before .before .before .before .before .before .before .before .good .0)) (omega arith) (c .before .before .before .before .before .before .fill .ensures) (c .before .before .before .before .before .bit .ensures) (c .before .before .write .ensures)
+
+pub ask-spec : {M : Type 1} → statement M
+ask-spec = tie.close (tie.spec fill-requires bit-requires write-requires same-length returns)

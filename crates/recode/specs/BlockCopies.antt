@@ -1,0 +1,317 @@
+-- The blocks of a macroblock, read and written again: the steps of the proofs.
+use Prim.Native.Nat.{ℕ, zero, suc, _+_, _-_, _*_, _/_, _%_, _≤_, _<_}
+use native.Mathlib.Numerals.{add-one}
+use native.Mathlib.Omega.{arith}
+use mathlib.Core.Path.{_≡_, refl, sym, _∙_, ap, subst}
+use mathlib.Core.Bool.{Bool, true, false, _&&_, _||_}
+use mathlib.Core.List.{List}
+use mathlib.Core.Logic.{⊎-elim}
+use lib.Dec.{ltb, leb, eqb}
+use lib.IntN.{ℤ, pos}
+use lib.ListN.{length, getD, set, replicate}
+use borrow.Author.Tests.{le-leb, lt-leb, eq-eqb, ne-eqb}
+use Rattle.numbers.specs.Flags.{bitOf}
+use Rattle.numbers.specs.Tests.{lt-or, eq-or}
+use Rattle.header.specs.declared.quantizers.Factors.{Factors}
+use Rattle.reader.specs.declared.boolean.Reader.{Reader}
+use Rattle.reader.specs.Reading.{Reading, done, _>>=_}
+use Rattle.reader.specs.Token.{token, elevenAt}
+use Rattle.coefficients.specs.Block.{Coefficients, block, blockFrom, probabilityPlace, probabilitiesAt, signedValue, quantizerAt, contextAfter, zigzag}
+use Rattle.transform.specs.Transform.{samplesOf}
+use Rattle.residual.specs.Residual.{Model, Flags, initial, cleared, coordinates, secondKind, lumaKind, coded, flagged, secondPlace, spread, second, emptyOf, advance, blocksFrom, dcStage, residualOf, sixteenAt, stored}
+use Rattle.residual.specs.Residual as residual
+use Rattle.residual.specs.ResidualLaws.{coordinates-in, kind-luma, kind-chroma, flags-flagged, flags-cleared}
+use Rattle.writer.specs.Encoder.{Encoder}
+use Rattle.recode.specs.declared.pipe.Pipe.{Pipe}
+use Rattle.recode.specs.declared.block.Flow.{Flow}
+use Rattle.recode.specs.Copies.{same, nothing, Going, Gave, Copies, Called, going-done, going-as, going-call, gave-as}
+use Rattle.recode.specs.TokenCopies.{Rest}
+
+-- ---- a block
+-- the context after a token 1..11
+unfoldable pub nearOf : ℕ → ℕ
+nearOf t = elim (eqb t 1) [ true ↦ 0 | false ↦ contextAfter t ]
+
+pub near-zero : (t : ℕ) → t ≡ 1 → 0 ≡ nearOf t
+unfolding nearOf
+near-zero t e = rw (eq-eqb _ _ e, nearOf)
+
+pub near-number : (t : ℕ) → (t ≡ 1 → ⊥) → contextAfter t ≡ nearOf t
+unfolding nearOf
+near-number t e = rw (ne-eqb _ _ e, nearOf)
+
+-- a block's end is what its caller sees
+abbrev pub ends : Coefficients → ℕ
+ends c = c .end
+
+abbrev pub BlockCopies : (table : List ℕ) (kind ctx first : ℕ) → (s : List ℕ) → Pipe → List ℕ → ℕ → Pipe → List ℕ → Type 0
+BlockCopies table kind ctx first s p room end q new = (q0 q1 : ℕ) (values : List ℤ) → Copies ends (block table kind q0 q1 ctx first values) s p room end q new
+
+-- what follows a token
+module _ (table : List ℕ) (kind q0 q1 left n : ℕ) (values : List ℤ) where
+  unfoldable restOf : ℕ → Reading Coefficients
+  restOf t =
+      elim (eqb t 0) [
+        | true ↦ done (record { end = n; values = values })
+        | false ↦ elim (eqb t 1) [
+          | true ↦ blockFrom table kind q0 q1 left (n + 1) 0 true values
+          | false ↦ signedValue t (quantizerAt n q0 q1) >>= (λ v. blockFrom table kind q0 q1 left (n + 1) (contextAfter t) false (set values (getD zigzag n 0) v))
+        ]
+      ]
+
+  block-asks : (ctx : ℕ) (z : Bool) → blockFrom table kind q0 q1 (suc left) n ctx z values ≡ (token (probabilitiesAt table kind n ctx) z >>= restOf)
+  unfolding blockFrom restOf
+  block-asks ctx z = refl
+
+  rest-ends : (t : ℕ) → t ≡ 0 → restOf t ≡ done (record { end = n; values = values })
+  unfolding restOf
+  rest-ends t e = rw (eq-eqb _ _ e, restOf)
+
+  rest-zero : (t : ℕ) → t ≡ 1 → restOf t ≡ blockFrom table kind q0 q1 left (n + 1) 0 true values
+  unfolding restOf
+  rest-zero t e = ap restOf e
+
+  rest-number : (t : ℕ) → (t ≡ 0 → ⊥) → (t ≡ 1 → ⊥) → restOf t ≡ (signedValue t (quantizerAt n q0 q1) >>= (λ v. blockFrom table kind q0 q1 left (n + 1) (contextAfter t) false (set values (getD zigzag n 0) v)))
+  unfolding restOf
+  rest-number t e f = rw (ne-eqb _ _ e, restOf, ne-eqb _ _ f, restOf)
+
+block-none : (table : List ℕ) (kind q0 q1 n ctx : ℕ) (z : Bool) (values : List ℤ) → blockFrom table kind q0 q1 0 n ctx z values ≡ done (record { end = n; values = values })
+unfolding blockFrom
+block-none table kind q0 q1 n ctx z values = refl
+
+-- the loop over its positions
+pub record Spot (table : List ℕ) (kind q0 q1 : ℕ) (s : List ℕ) (a : Coefficients) (r2 : Reader) (F : Encoder) (old : List ℕ) (p : Pipe) (n ctx : ℕ) (z : Bool) (room : List ℕ) : Type 0 where
+  pub values : List ℤ
+  pub going : Going s a r2 F old (blockFrom table kind q0 q1 (16 - n) n ctx z values) p room
+
+pub record Blocking (table : List ℕ) (kind ctx₀ first : ℕ) (s : List ℕ) (p₀ : Pipe) (room₀ : List ℕ) (p : Pipe) (n ctx : ℕ) (z : Bool) (room : List ℕ) : Type 0 where
+  pub most : n ≤ 16
+  pub few : ctx < 3
+  pub long : length room ≡ length room₀
+  pub way : (q0 q1 : ℕ) (values : List ℤ) (a : Coefficients) (r2 : Reader) (F : Encoder) (old : List ℕ) → Going s a r2 F old (block table kind q0 q1 ctx₀ first values) p₀ room₀ → Spot table kind q0 q1 s a r2 F old p n ctx z room
+
+pub blocking-start : (table : List ℕ) (kind ctx first : ℕ) (s : List ℕ) (p : Pipe) (room : List ℕ) → first ≤ 1 → ctx < 3 → Blocking table kind ctx first s p room p first ctx false room
+blocking-start table kind ctx first s p room h l = record { most = omega arith; few = l; long = refl; way = λ q0 q1 values a r2 F old g. record { values = values; going = g } }
+
+module _ {table : List ℕ} {kind ctx₀ first : ℕ} {s : List ℕ} {p₀ : Pipe} {room₀ : List ℕ} {p : Pipe} {n ctx : ℕ} {z : Bool} {room : List ℕ} (w : Blocking table kind ctx₀ first s p₀ room₀ p n ctx z room) where
+  pub blocking-end : 16 ≤ n → BlockCopies table kind ctx₀ first s p₀ room₀ n p room
+  blocking-end h q0 q1 values a r2 F old g =
+      let t = w .way q0 q1 values a r2 F old g in
+      let e : 16 - n ≡ 0 = omega arith in
+      going-done (going-as (ap (λ (l : ℕ). blockFrom table kind q0 q1 l n ctx z (t .values)) e ∙ block-none table kind q0 q1 n ctx z (t .values)) (t .going)) refl
+
+  module _ (h : n < 16) {at t : ℕ} {q : Pipe} {mid : List ℕ} (e : at ≡ probabilityPlace kind n ctx) (c : Copies same (token (elevenAt table at) z) s p room t q mid) where
+    -- the token read
+    read : (q0 q1 : ℕ) {a : Coefficients} {r2 : Reader} {F : Encoder} {old : List ℕ} (values : List ℤ) → Going s a r2 F old (blockFrom table kind q0 q1 (16 - n) n ctx z values) p room
+        → Going s a r2 F old (restOf table kind q0 q1 (15 - n) n values t) q mid
+    read q0 q1 values g =
+        let f : 16 - n ≡ suc (15 - n) = omega arith in
+        let i : blockFrom table kind q0 q1 (16 - n) n ctx z values ≡ (token (elevenAt table at) z >>= restOf table kind q0 q1 (15 - n) n values) =
+        ap (λ (l : ℕ). blockFrom table kind q0 q1 l n ctx z values) f ∙ block-asks table kind q0 q1 (15 - n) n values ctx z ∙ ap (λ (l : ℕ). token (elevenAt table l) z >>= restOf table kind q0 q1 (15 - n) n values) (sym e) in
+        let d = going-call (token (elevenAt table at) z) (restOf table kind q0 q1 (15 - n) n values) (going-as i g) c in
+        going-as (ap (restOf table kind q0 q1 (15 - n) n values) (sym (d .seen))) (d .going)
+
+    pub blocking-over : t ≡ 0 → BlockCopies table kind ctx₀ first s p₀ room₀ n q mid
+    blocking-over f q0 q1 values a r2 F old g =
+        let x = w .way q0 q1 values a r2 F old g in
+        going-done (going-as (rest-ends table kind q0 q1 (15 - n) n (x .values) t f) (read q0 q1 (x .values) (x .going))) refl
+
+    pub blocking-next : (t ≡ 0 → ⊥) → {u : Pipe} {new : List ℕ} → Rest s q mid t u new → {near : ℕ} {on : Bool} → near ≡ nearOf t → near < 3 → on ≡ eqb t 1 → length mid ≡ length room → length new ≡ length mid
+        → Blocking table kind ctx₀ first s p₀ room₀ u (n + 1) near on new
+    blocking-next f {u} {new} r {near} {on} a b o k l =
+        record {
+          most = omega arith;
+          few = b;
+          long = l ∙ k ∙ w .long;
+          way = λ q0 q1 values x r2 F old g.
+              let y = w .way q0 q1 values x r2 F old g in
+              let i = read q0 q1 (y .values) (y .going) in
+              ⊎-elim (after-zero q0 q1 (y .values) i) (after-number q0 q1 (y .values) i) (eq-or t 1);
+        }
+      where
+        left : 15 - n ≡ 16 - (n + 1)
+        left = omega arith
+
+        after-zero : (q0 q1 : ℕ) {x : Coefficients} {r2 : Reader} {F : Encoder} {old : List ℕ} (values : List ℤ) → Going s x r2 F old (restOf table kind q0 q1 (15 - n) n values t) q mid → t ≡ 1 → Spot table kind q0 q1 s x r2 F old u (n + 1) near on new
+        after-zero q0 q1 {x} {r2} {F} {old} values i h =
+            let m : restOf table kind q0 q1 (15 - n) n values t ≡ blockFrom table kind q0 q1 (16 - (n + 1)) (n + 1) near on values =
+            rest-zero table kind q0 q1 (15 - n) n values t h
+            ∙ (λ j. blockFrom table kind q0 q1 (left j) (n + 1) ((near-zero t h ∙ sym a) j) ((sym (eq-eqb t 1 h) ∙ sym o) j) values) in
+            let v = r .after-zero h in
+            record { values = values; going = subst (λ (y : Pipe). Going s x r2 F old (blockFrom table kind q0 q1 (16 - (n + 1)) (n + 1) near on values) y new) (sym (v .0)) (subst (Going s x r2 F old (blockFrom table kind q0 q1 (16 - (n + 1)) (n + 1) near on values) q) (sym (v .1)) (going-as m i)) }
+
+        after-number : (q0 q1 : ℕ) {x : Coefficients} {r2 : Reader} {F : Encoder} {old : List ℕ} (values : List ℤ) → Going s x r2 F old (restOf table kind q0 q1 (15 - n) n values t) q mid → (t ≡ 1 → ⊥) → Spot table kind q0 q1 s x r2 F old u (n + 1) near on new
+        after-number q0 q1 values i h =
+            let d = going-call (signedValue t (quantizerAt n q0 q1)) (λ v. blockFrom table kind q0 q1 (15 - n) (n + 1) (contextAfter t) false (set values (getD zigzag n 0) v)) (going-as (rest-number table kind q0 q1 (15 - n) n values t f h) i) (r .number h (quantizerAt n q0 q1)) in
+            let next : List ℤ = set values (getD zigzag n 0) (d .d) in
+            record {
+              values = next;
+              going = going-as (λ j. blockFrom table kind q0 q1 (left j) (n + 1) ((near-number t h ∙ sym a) j) ((sym (ne-eqb t 1 h) ∙ sym o) j) next) (d .going);
+            }
+
+-- ---- a part: 0 is the second-order block, i + 1 is block i
+unfoldable pub kindOf : Bool → ℕ → ℕ
+kindOf small j = elim (eqb j 0) [ true ↦ 1 | false ↦ elim (leb 17 j) [ true ↦ 2 | false ↦ elim small [ true ↦ 3 | false ↦ 0 ] ] ]
+
+unfoldable pub firstOf : Bool → ℕ → ℕ
+firstOf small j = elim (eqb j 0 || leb 17 j) [ true ↦ 0 | false ↦ elim small [ true ↦ 0 | false ↦ 1 ] ]
+
+unfoldable pub acrossOf : ℕ → ℕ
+acrossOf j = elim (eqb j 0) [ true ↦ 8 | false ↦ coordinates (j - 1) .x ]
+
+unfoldable pub downOf : ℕ → ℕ
+downOf j = elim (eqb j 0) [ true ↦ 8 | false ↦ coordinates (j - 1) .y ]
+
+-- its grammar
+abbrev pub partOf : List ℕ → Factors → Bool → ℕ → Model → Reading Model
+partOf table f small zero m = second table f m
+partOf table f small (suc i) m = advance table f small i m
+
+-- the flags are what its caller sees
+abbrev pub edges : Model → List ℕ × List ℕ
+edges m = (m .top, m .left)
+
+pub record PartCopies (table : List ℕ) (small : Bool) (j : ℕ) (s : List ℕ) (m : Flow) (room : List ℕ) (q : Flow) (new : List ℕ) : Type 0 where
+  pub top : Flags (m .top) → Flags (q .top)
+  pub left : Flags (m .left) → Flags (q .left)
+  pub copies : (f : Factors) (x : Model) → x .top ≡ m .top → x .left ≡ m .left → Flags (m .top) → Flags (m .left) → Copies edges (partOf table f small j x) s (m .pipe) room (q .top, q .left) (q .pipe) new
+
+-- the kind, the first position and the flags of block i, whatever the factors
+kind-same : (f : Factors) (small : Bool) (i : ℕ) → (residual.kindOf f small i .kind ≡ kindOf small (suc i)) × (residual.kindOf f small i .first ≡ firstOf small (suc i))
+unfolding kindOf firstOf
+kind-same f small i =
+    ⊎-elim
+    (λ (h : i < 16). ((λ j. kind-luma f small i h j .kind) ∙ luma-kind small h, (λ j. kind-luma f small i h j .first) ∙ luma-first small h))
+    (λ (h : 16 ≤ i). ((λ j. kind-chroma f small i h j .kind) ∙ rw (some, kindOf, le-leb 17 (suc i) (omega arith), kindOf), (λ j. kind-chroma f small i h j .first) ∙ rw (some, le-leb 17 (suc i) (omega arith), firstOf)))
+    (lt-or i 16)
+  where
+    some : eqb (suc i) 0 ≡ false
+    some = ne-eqb (suc i) 0 (λ e. omega arith)
+
+    luma-kind : (b : Bool) → i < 16 → lumaKind f b .kind ≡ kindOf b (suc i)
+    luma-kind true h = rw (some, kindOf, lt-leb 17 (suc i) (omega arith), kindOf)
+    luma-kind false h = rw (some, kindOf, lt-leb 17 (suc i) (omega arith), kindOf)
+
+    luma-first : (b : Bool) → i < 16 → lumaKind f b .first ≡ firstOf b (suc i)
+    luma-first true h = rw (some, lt-leb 17 (suc i) (omega arith), firstOf)
+    luma-first false h = rw (some, lt-leb 17 (suc i) (omega arith), firstOf)
+
+less-one : (i : ℕ) → i ≡ suc i - 1
+less-one i = omega arith
+
+across-same : (i : ℕ) → coordinates i .x ≡ acrossOf (suc i)
+unfolding acrossOf
+across-same i = rw (ne-eqb (suc i) 0 (λ e. omega arith), acrossOf) (λ j. coordinates (less-one i j) .x)
+
+down-same : (i : ℕ) → coordinates i .y ≡ downOf (suc i)
+unfolding downOf
+down-same i = rw (ne-eqb (suc i) 0 (λ e. omega arith), downOf) (λ j. coordinates (less-one i j) .y)
+
+module _ (table : List ℕ) (small : Bool) (s : List ℕ) (m : Flow) (room : List ℕ) (kind ctx first x y end : ℕ) (q : Pipe) (new : List ℕ) (b : BlockCopies table kind ctx first s (m .pipe) room end q new)
+    (c : getD (m .top) x 0 ≤ 1 → getD (m .left) y 0 ≤ 1 → ctx ≡ getD (m .top) x 0 + getD (m .left) y 0) (top left : List ℕ) (t : top ≡ set (m .top) x (bitOf (ltb first end))) (l : left ≡ set (m .left) y (bitOf (ltb first end))) where
+  -- any grammar that reads this block, and leaves its flags
+  block-part : (kind′ q0 q1 first′ x′ y′ : ℕ) (old : List ℤ) (n : Model) (on : Coefficients → Model) → kind′ ≡ kind → first′ ≡ first → x′ ≡ x → y′ ≡ y
+      → ((v : Coefficients) → edges (on v) ≡ (set (n .top) x′ (bitOf (ltb first′ (v .end))), set (n .left) y′ (bitOf (ltb first′ (v .end)))))
+      → n .top ≡ m .top → n .left ≡ m .left → Flags (m .top) → Flags (m .left)
+      → Copies edges (block table kind′ q0 q1 (getD (n .top) x′ 0 + getD (n .left) y′ 0) first′ old >>= (λ v. done (on v))) s (m .pipe) room (top, left) q new
+  block-part kind′ q0 q1 first′ x′ y′ old n on e f g h see a d u v r s₂ F o i =
+      let ctx-is : getD (n .top) x′ 0 + getD (n .left) y′ 0 ≡ ctx =
+      (λ j. getD (a j) (g j) 0 + getD (d j) (h j) 0) ∙ sym (c (u .each x) (v .each y)) in
+      let is : block table kind′ q0 q1 (getD (n .top) x′ 0 + getD (n .left) y′ 0) first′ old ≡ block table kind q0 q1 ctx first old = λ j. block table (e j) q0 q1 (ctx-is j) (f j) old in
+      let z = going-call (block table kind q0 q1 ctx first old) (λ v. done (on v)) (going-as (ap (λ (G : Reading Coefficients). G >>= (λ v. done (on v))) is) i) (b q0 q1 old) in
+      going-done (z .going)
+      ((λ j. (t j, l j))
+      ∙ (λ j. (set (sym a j) (sym g j) (bitOf (ltb (sym f j) (z .seen j))), set (sym d j) (sym h j) (bitOf (ltb (sym f j) (z .seen j)))))
+      ∙ sym (see (z .d)))
+
+  part-flags : (j : ℕ) → ((f : Factors) (n : Model) → n .top ≡ m .top → n .left ≡ m .left → Flags (m .top) → Flags (m .left) → Copies edges (partOf table f small j n) s (m .pipe) room (top, left) q new)
+      → PartCopies table small j s m room (record { pipe = q; top = top; left = left }) new
+  part-flags j g = record { top = λ h. rw t (flags-flagged h x (ltb first end)); left = λ h. rw l (flags-flagged h y (ltb first end)); copies = g }
+
+  pub part-copies : (j : ℕ) → kind ≡ kindOf small j → first ≡ firstOf small j → x ≡ acrossOf j → y ≡ downOf j → PartCopies table small j s m room (record { pipe = q; top = top; left = left }) new
+  unfolding kindOf firstOf acrossOf downOf second advance
+  part-copies zero e f g h =
+      part-flags 0 (λ F n. block-part 1 (F .y2dc) (F .y2ac) 0 8 8 (replicate 16 (pos 0)) n (λ v. flagged (secondKind F) secondPlace (v .end) (spread (n .coefficients) (samplesOf true (v .values)) 16) (n .empty) n) (sym e) (sym f) (sym g) (sym h) (λ v. refl))
+  part-copies (suc i) e f g h =
+      part-flags (suc i) (λ F n.
+      let k = kind-same F small i in
+      let K = residual.kindOf F small i in
+      block-part (K .kind) (K .q0) (K .q1) (K .first) (coordinates i .x) (coordinates i .y) (sixteenAt (n .coefficients) (16 * i)) n (λ v. flagged (residual.kindOf F small i) (coordinates i) (v .end) (stored (n .coefficients) (16 * i) (v .values)) (n .empty && emptyOf v) n)
+      (k .0 ∙ sym e) (k .1 ∙ sym f) (across-same i ∙ sym g) (down-same i ∙ sym h) (λ v. refl))
+
+-- ---- all parts
+abbrev pub ResidualCopies : (table : List ℕ) (small skip : Bool) → (s : List ℕ) → Flow → List ℕ → Flow → List ℕ → Type 0
+ResidualCopies table small skip s m room q new = (f : Factors) → Flags (m .top) → Flags (m .left) → Copies edges (residualOf table f small skip (m .top) (m .left)) s (m .pipe) room (q .top, q .left) (q .pipe) new
+
+pub residual-skipped : (table : List ℕ) (small : Bool) {skip : Bool} {s : List ℕ} (m : Flow) {room : List ℕ} {top left : List ℕ} → skip ≡ true → top ≡ cleared small (m .top) → left ≡ cleared small (m .left)
+    → ResidualCopies table small skip s m room (record { pipe = m .pipe; top = top; left = left }) room
+unfolding residualOf
+residual-skipped table small m e t l f h k a r2 F old g =
+    going-done (going-as (ap (λ (b : Bool). residualOf table f small b (m .top) (m .left)) e) g) (λ j. (t j, l j))
+
+pub residual-read : (table : List ℕ) (small : Bool) {skip : Bool} {s : List ℕ} {m : Flow} {room : List ℕ} {q : Flow} {new : List ℕ} → skip ≡ false → ResidualCopies table small false s m room q new → ResidualCopies table small skip s m room q new
+residual-read table small {s = s} {m} {room} {q} {new} e c = subst (λ (b : Bool). ResidualCopies table small b s m room q new) (sym e) c
+
+-- from part j on
+unfoldable pub fromPart : List ℕ → Factors → Bool → ℕ → Model → Reading Model
+fromPart table f small zero m = second table f m >>= blocksFrom table f small 24 0
+fromPart table f small (suc i) m = blocksFrom table f small (24 - i) i m
+
+parts-start : (table : List ℕ) (f : Factors) (small : Bool) (top left : List ℕ) → residualOf table f small false top left ≡ fromPart table f small (bitOf small) (initial top left)
+unfolding residualOf fromPart
+parts-start table f true top left = refl
+parts-start table f false top left = refl
+
+parts-next : (table : List ℕ) (f : Factors) (small : Bool) (j : ℕ) (m : Model) → j < 25 → fromPart table f small j m ≡ (partOf table f small j m >>= (λ n. fromPart table f small (suc j) n))
+unfolding fromPart blocksFrom
+parts-next table f small zero m h = refl
+parts-next table f small (suc i) m h =
+    let e : 24 - i ≡ suc (24 - suc i) = omega arith in
+    ap (λ (n : ℕ). blocksFrom table f small n i m) e ∙ ap (λ (k : ℕ). advance table f small i m >>= (λ n. blocksFrom table f small (24 - suc i) k n)) (add-one i)
+
+parts-end : (table : List ℕ) (f : Factors) (small : Bool) (j : ℕ) (m : Model) → j ≡ 25 → fromPart table f small j m ≡ done m
+unfolding fromPart blocksFrom
+parts-end table f small j m e = ap (λ (n : ℕ). fromPart table f small n m) e
+
+pub record Between (table : List ℕ) (small : Bool) (s : List ℕ) (f : Factors) (a : Model) (r2 : Reader) (F : Encoder) (old : List ℕ) (m : Flow) (j : ℕ) (room : List ℕ) : Type 0 where
+  pub x : Model
+  pub top : x .top ≡ m .top
+  pub left : x .left ≡ m .left
+  pub above : Flags (m .top)
+  pub beside : Flags (m .left)
+  pub going : Going s a r2 F old (fromPart table f small j x) (m .pipe) room
+
+pub record Parting (table : List ℕ) (small : Bool) (s : List ℕ) (m₀ : Flow) (room₀ : List ℕ) (m : Flow) (j : ℕ) (room : List ℕ) : Type 0 where
+  pub most : j ≤ 25
+  pub long : length room ≡ length room₀
+  pub way : (f : Factors) → Flags (m₀ .top) → Flags (m₀ .left) → (a : Model) (r2 : Reader) (F : Encoder) (old : List ℕ) → Going s a r2 F old (residualOf table f small false (m₀ .top) (m₀ .left)) (m₀ .pipe) room₀ → Between table small s f a r2 F old m j room
+
+bit-most : (b : Bool) → bitOf b ≤ 25
+bit-most true = omega arith
+bit-most false = omega arith
+
+pub parting-start : (table : List ℕ) (small : Bool) (s : List ℕ) (m : Flow) (room : List ℕ) {j : ℕ} → j ≡ bitOf small → Parting table small s m room m j room
+parting-start table small s m room {j} e =
+    record {
+      most = rw e (bit-most small);
+      long = refl;
+      way = λ f t l a r2 F old g. record { x = initial (m .top) (m .left); top = refl; left = refl; above = t; beside = l; going = going-as (parts-start table f small (m .top) (m .left) ∙ ap (λ (n : ℕ). fromPart table f small n (initial (m .top) (m .left))) (sym e)) g };
+    }
+
+module _ {table : List ℕ} {small : Bool} {s : List ℕ} {m₀ : Flow} {room₀ : List ℕ} {m : Flow} {j : ℕ} {room : List ℕ} (w : Parting table small s m₀ room₀ m j room) where
+  pub parting-next : j < 25 → {q : Flow} {new : List ℕ} → PartCopies table small j s m room q new → length new ≡ length room → Parting table small s m₀ room₀ q (j + 1) new
+  parting-next h {q} c k =
+      record {
+        most = omega arith;
+        long = k ∙ w .long;
+        way = λ f t l a r2 F old g.
+            let y = w .way f t l a r2 F old g in
+            let d = going-call (partOf table f small j (y .x)) (λ n. fromPart table f small (suc j) n) (going-as (parts-next table f small j (y .x) h) (y .going)) (c .copies f (y .x) (y .top) (y .left) (y .above) (y .beside)) in
+            record { x = d .d; top = ap (λ (e : List ℕ × List ℕ). e .0) (sym (d .seen)); left = ap (λ (e : List ℕ × List ℕ). e .1) (sym (d .seen)); above = c .top (y .above); beside = c .left (y .beside); going = going-as (ap (λ (k : ℕ). fromPart table f small k (d .d)) (sym (add-one j))) (d .going) };
+      }
+
+  pub parting-end : 25 ≤ j → ResidualCopies table small false s m₀ room₀ m room
+  parting-end h f t l a r2 F old g =
+      let y = w .way f t l a r2 F old g in
+      let e : j ≡ 25 = omega (arith, w .most) in
+      going-done (going-as (parts-end table f small j (y .x) e) (y .going)) (λ i. (sym (y .top) i, sym (y .left) i))

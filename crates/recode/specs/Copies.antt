@@ -1,0 +1,141 @@
+-- Code that reads by a grammar and writes what it reads: what its contract says (`Copies`), and the steps of its proof (`Going`). Only a run
+-- that gives a value is spoken of.
+use Prim.Native.Nat.{ℕ, _+_, _≤_, _<_}
+use native.Mathlib.Omega.{arith}
+use mathlib.Core.Path.{_≡_, refl, sym, _∙_, ap, subst}
+use mathlib.Core.Bool.{Bool, true, false}
+use mathlib.Core.List.{List, [], _∷_, _++_}
+use lib.ListN.{length}
+use Rattle.reader.specs.declared.boolean.Reader.{Reader}
+use Rattle.reader.specs.Boolean.{Given, given, missing, decidedOf, symbolOf}
+use Rattle.reader.specs.BooleanLaws.{Bytes, Valid, symbol-missing}
+use Rattle.reader.specs.Reading.{Reading, done, ask, _>>=_, symbol, run}
+use Rattle.reader.specs.ReadingLaws.{never-both, run-done, run-got, run-missing, run-then, run-stops, run-valid, within-symbol}
+use Rattle.reader.specs.Trace.{CodedSymbol, trace}
+use Rattle.reader.specs.TraceLaws.{trace-done, trace-got, trace-then}
+use Rattle.wide.specs.declared.wide.Bit.{Bit}
+use Rattle.wide.specs.declared.wide.Wide.{Wide}
+use Rattle.wide.specs.Padded.{paddedBit, paddedNext}
+use Rattle.wide.specs.PaddedLaws.{padded-symbol}
+use Rattle.wide.specs.Wide.{fillOf, wideBitOf}
+use Rattle.wide.specs.WideLaws.{Sim, Read, sim-fill, sim-bit, sim-near}
+use Rattle.writer.specs.declared.Writer.{Writer}
+use Rattle.writer.specs.Encoder.{Encoder, writeOf, writeAll}
+use Rattle.writer.specs.EncoderLaws.{Ready, write-ready}
+use Rattle.writer.specs.WriteLaws.{write-append, write-one, write-none, write-grows}
+use Rattle.writer.specs.Room.{Written, writtenOf, writeIn}
+use Rattle.writer.specs.KeptLaws.{Kept, kept-write}
+use Rattle.recode.specs.declared.pipe.Pipe.{Pipe}
+
+-- what a caller sees of a grammar's value: all of it, or nothing
+abbrev pub same : {A : Type 0} → A → A
+same a = a
+
+abbrev pub nothing : {A : Type 0} → A → Unit {0}
+nothing a = tt
+
+-- ---- on the way towards the value a, the reader r2 and the encoder F: p's wide reader stands for r, and from there, in the room, the grammar m
+-- still gives and writes that. The room was `old` before the first symbol.
+pub record Going {A : Type 0} (s : List ℕ) (a : A) (r2 : Reader) (F : Encoder) (old : List ℕ) (m : Reading A) (p : Pipe) (room : List ℕ) : Type 0 where
+  pub e : Encoder
+  pub r : Reader
+  pub sim : Sim s (p .reader) r
+  pub valid : Valid s r
+  pub gives : run m s r ≡ given a r2
+  pub paid : writeAll e (trace m s r) ≡ F
+  pub small : length (F .out) < 9223372036854775808
+  pub ready : Ready 128 e
+  pub kept : Kept e old (writtenOf (p .writer) room)
+
+-- there: b is what is seen of the value
+pub record Gave {A B : Type 0} (view : A → B) (s : List ℕ) (a : A) (r2 : Reader) (F : Encoder) (old : List ℕ) (b : B) (p : Pipe) (room : List ℕ) : Type 0 where
+  pub value : b ≡ view a
+  pub sim : Sim s (p .reader) r2
+  pub valid : Valid s r2
+  pub ready : Ready 128 F
+  pub kept : Kept F old (writtenOf (p .writer) room)
+
+-- a contract: the code leads from p and the room there
+abbrev pub Copies : {A B : Type 0} → (A → B) → Reading A → List ℕ → Pipe → List ℕ → B → Pipe → List ℕ → Type 0
+Copies {A} view m s p room b q new = (a : A) (r2 : Reader) (F : Encoder) (old : List ℕ) → Going s a r2 F old m p room → Gave view s a r2 F old b q new
+
+-- ---- one symbol
+-- where it is not missing, it is what the padded reader gives
+decided : (s : List ℕ) (r : Reader) (prob : ℕ) {a : Bool} {r2 : Reader} → run (symbol prob) s r ≡ given a r2 → symbolOf s r prob ≡ given (paddedBit r prob) (paddedNext s r prob)
+decided s r prob {a} {r2} e = go (decidedOf s r) refl
+  where
+    go : (b : Bool) → decidedOf s r ≡ b → symbolOf s r prob ≡ given (paddedBit r prob) (paddedNext s r prob)
+    go true f = padded-symbol s r prob f
+    go false f = absurd (never-both e (run-missing prob done s r (symbol-missing s r prob f)))
+
+pub asked : (s : List ℕ) (p : Pipe) (room : List ℕ) (prob : ℕ) → Bytes s → length s < 9223372036854775808 → prob < 256 → {full : Wide} {b : Bit} {w : Writer} {new : List ℕ}
+    → full ≡ fillOf s (p .reader) → b ≡ wideBitOf full prob → writtenOf w new ≡ writeIn (p .writer) room prob (b .on) → Copies same (symbol prob) s p room (b .on) (record { reader = b .next; writer = w }) new
+asked s p room prob y long l {full} {b} {w} {new} f g k a r2 F old o =
+    let r = o .r in
+    let t = sim-near s (p .reader) r (o .sim) in
+    let v = o .valid in
+    let m = sim-fill s (p .reader) r (omega (arith, v .inside)) (o .sim) in
+    let n : Read s (fillOf s (p .reader)) r prob (wideBitOf (fillOf s (p .reader)) prob) = sim-bit s (fillOf s (p .reader)) r prob y l (omega (arith, m .enough)) (m .sim) in
+    let is : b ≡ wideBitOf (fillOf s (p .reader)) prob = g ∙ ap (λ (x : Wide). wideBitOf x prob) f in
+    let on : b .on ≡ paddedBit r prob = ap (λ (x : Bit). x .on) is ∙ n .on in
+    let d : symbolOf s r prob ≡ given (paddedBit r prob) (paddedNext s r prob) = decided s r prob (o .gives) in
+    let e : run (symbol prob) s r ≡ given (paddedBit r prob) (paddedNext s r prob) = run-got prob done s r (paddedBit r prob) (paddedNext s r prob) d ∙ run-done (paddedBit r prob) s (paddedNext s r prob) in
+    let i : given (paddedBit r prob) (paddedNext s r prob) ≡ given a r2 = sym e ∙ o .gives in
+    let c : paddedBit r prob ≡ a = cc in
+    let z : paddedNext s r prob ≡ r2 = cc in
+    let q : CodedSymbol = record { prob = prob; bit = b .on } in
+    let u : trace (symbol prob) s r ≡ q ∷ [] = trace-got prob done s r (paddedBit r prob) (paddedNext s r prob) d ∙ (λ j. record { prob = prob; bit = sym on j } ∷ trace-done (paddedBit r prob) s (paddedNext s r prob) j) in
+    let F1 : writeOf (o .e) q ≡ F = sym (write-one (o .e) q) ∙ ap (writeAll (o .e)) (sym u) ∙ o .paid in
+    let few : length (o .e .out) < 9223372036854775808 = (let h = write-grows (o .e) (trace (symbol prob) s r) in let x : length (writeAll (o .e) (trace (symbol prob) s r) .out) ≡ length (F .out) = ap (λ (n : Encoder). length (n .out)) (o .paid) in omega (arith, o .small)) in
+    record {
+      value = on ∙ c;
+      sim = subst (λ (x : Reader). Sim s (b .next) x) z (subst (λ (x : Bit). Sim s (x .next) (paddedNext s r prob)) (sym is) (n .next .sim));
+      valid = run-valid (within-symbol l) y v (o .gives) .valid;
+      ready = subst (Ready 128) F1 (write-ready (o .e) q (o .ready) l);
+      kept = subst (λ (n : Encoder). Kept n old (writtenOf w new)) F1 (kept-write (o .kept) (o .ready) few q l k);
+    }
+
+-- a call on the way: its value d is what is seen as v
+pub record Called {A D B : Type 0} (s : List ℕ) (a : A) (r2 : Reader) (F : Encoder) (old : List ℕ) (view : D → B) (f : D → Reading A) (v : B) (p : Pipe) (room : List ℕ) : Type 0 where
+  pub d : D
+  pub seen : v ≡ view d
+  pub going : Going s a r2 F old (f d) p room
+
+-- ---- the steps of a way
+module _ {A : Type 0} {s : List ℕ} {a : A} {r2 : Reader} {F : Encoder} {old : List ℕ} where
+  pub going-done : {B : Type 0} {view : A → B} {x : A} {b : B} {p : Pipe} {room : List ℕ} → Going s a r2 F old (done x) p room → b ≡ view x → Gave view s a r2 F old b p room
+  going-done {view} {x} {b} {p} g e =
+      let i : given x (g .r) ≡ given a r2 = sym (run-done x s (g .r)) ∙ g .gives in
+      let v : x ≡ a = cc in
+      let t : g .r ≡ r2 = cc in
+      let n : g .e ≡ F = sym (write-none (g .e)) ∙ ap (writeAll (g .e)) (sym (trace-done x s (g .r))) ∙ g .paid in
+      record {
+        value = e ∙ ap view v;
+        sim = subst (Sim s (p .reader)) t (g .sim);
+        valid = subst (Valid s) t (g .valid);
+        ready = subst (Ready 128) n (g .ready);
+        kept = subst (λ (z : Encoder). Kept z old (writtenOf (p .writer) _)) n (g .kept);
+      }
+
+  -- a call that ends the way, seen otherwise
+  pub gave-as : {B C : Type 0} {view : A → B} {see : A → C} {b : B} {c : C} {p : Pipe} {room : List ℕ} → Gave view s a r2 F old b p room → ((x : A) → b ≡ view x → c ≡ see x) → Gave see s a r2 F old c p room
+  gave-as g f = record { value = f a (g .value); sim = g .sim; valid = g .valid; ready = g .ready; kept = g .kept }
+
+  pub going-as : {m n : Reading A} {p : Pipe} {room : List ℕ} → m ≡ n → Going s a r2 F old m p room → Going s a r2 F old n p room
+  going-as {p} {room} e g = subst (λ (x : Reading A). Going s a r2 F old x p room) e g
+
+  pub going-call : {D B : Type 0} {view : D → B} (m : Reading D) (f : D → Reading A) {p : Pipe} {room : List ℕ} {v : B} {q : Pipe} {new : List ℕ} → Going s a r2 F old (m >>= f) p room → Copies view m s p room v q new → Called s a r2 F old view f v q new
+  going-call {D} {B} {view} m f {p} {room} {v} {q} {new} g c = go (run m s (g .r)) refl
+    where
+      go : (x : Given D) → run m s (g .r) ≡ x → Called s a r2 F old view f v q new
+      go missing e = absurd (never-both (g .gives) (run-stops f s m (g .r) e))
+      go (given d r) e =
+          let G : Encoder = writeAll (g .e) (trace m s (g .r)) in
+          let h : writeAll G (trace (f d) s r) ≡ F = sym (write-append (g .e) (trace m s (g .r)) (trace (f d) s r)) ∙ ap (writeAll (g .e)) (sym (trace-then f s m (g .r) e)) ∙ g .paid in
+          let l : length (G .out) < 9223372036854775808 = (let n = write-grows G (trace (f d) s r) in let k : length (writeAll G (trace (f d) s r) .out) ≡ length (F .out) = ap (λ (n : Encoder). length (n .out)) h in omega (arith, g .small)) in
+          let z = c d r G old (record { e = g .e; r = g .r; sim = g .sim; valid = g .valid; gives = e; paid = refl; small = l; ready = g .ready; kept = g .kept }) in
+          record {
+            d = d;
+            seen = z .value;
+            going = record { e = G; r = r; sim = z .sim; valid = z .valid; gives = sym (run-then f s m (g .r) e) ∙ g .gives; paid = h; small = g .small; ready = z .ready; kept = z .kept };
+          }

@@ -1,0 +1,146 @@
+// The tokens of a block, read and written again (RFC 6386, section 13.2).
+use crate::pipe::Pipe;
+use crate::pipe::ask;
+ghost use mathlib.Core.Path.{_≡_};
+ghost use Prim.Native.Nat.{ℕ, _+_, _<_, _≤_};
+ghost use lib.ListN.{length};
+ghost use Rattle.numbers.specs.Flags.{bitOf};
+ghost use Rattle.coefficients.specs.Block.{magnitude, signedValue};
+ghost use Rattle.reader.specs.Extra.{extra};
+ghost use Rattle.reader.specs.Token.{token, elevenAt};
+ghost use Rattle.reader.specs.Trees.{branchAt};
+ghost use Rattle.recode.specs.Copies.{Copies, same, nothing};
+ghost use Rattle.recode.specs.TokenCopies.{ledTo, Rest};
+
+// Where each entry of coeff_tree leads: a node, or 11 and the token.
+const LEADS: [u8; 22] = [
+    11,
+    1,
+    12,
+    2,
+    13,
+    3,
+    4,
+    6,
+    14,
+    5,
+    15,
+    16,
+    7,
+    8,
+    17,
+    18,
+    9,
+    10,
+    19,
+    20,
+    21,
+    22,
+];
+
+// Pcat1 to Pcat6.
+const CAT1: [u8; 1] = [159];
+
+const CAT2: [u8; 2] = [165, 145];
+
+const CAT3: [u8; 3] = [173, 148, 140];
+
+const CAT4: [u8; 4] = [176, 155, 140, 135];
+
+const CAT5: [u8; 5] = [180, 157, 141, 134, 130];
+
+const CAT6: [u8; 11] = [254, 254, 243, 230, 196, 177, 153, 140, 133, 130, 129];
+
+// A token, and the pipe after it.
+pub(crate) struct TokenCopied {
+    pub token: u8,
+    pub next: Pipe,
+}
+
+// Where the bit leads from a node.
+fn lead(node: usize, bit: bool) -> usize
+    requires { ⌜ node < 11 ⌝ }
+    ensures { λ r. ⌜ (r ≡ ledTo node bit) × (node < r) × (r < 23) ⌝ }
+{
+    let leads = LEADS;
+    leads[node + node + bit as usize] as usize
+}
+
+// One token, its eleven probabilities from `at` on in the table; after a zero the block does not end.
+pub(crate) fn copy_token(
+    s: &[u8],
+    p: Pipe,
+    out: &mut [u8],
+    table: &[u8],
+    at: usize,
+    zero: bool,
+) -> TokenCopied
+    requires { ⌜ at + 11 ≤ length (now table) ⌝ }
+    ensures { λ q. ⌜ Copies same (token (elevenAt (now (table .entry)) at) zero) (now (s .entry)) p (now (out .entry))
+        (q .token) (q .next) (now (out .exit)) × (q .token < 12) ⌝ }
+{
+    let mut next = p;
+    let mut i = zero as usize;
+    while i < 11 {
+        let a = ask(s, next, out, table[at + i]);
+        i = lead(i, a.bit);
+        next = a.next;
+    }
+    TokenCopied {
+        token: (i - 11) as u8,
+        next: next,
+    }
+}
+
+// As many bits as there are probabilities.
+fn copy_extra(s: &[u8], p: Pipe, out: &mut [u8], probs: &[u8]) -> Pipe
+    ensures { λ q. ⌜ Copies nothing (extra (now (probs .entry))) (now (s .entry)) p (now (out .entry)) tt q (now (out .exit)) ⌝ }
+{
+    let mut next = p;
+    let mut i = 0;
+    while i < probs.len() {
+        let a = ask(s, next, out, probs[i]);
+        next = a.next;
+        i = i + 1;
+    }
+    next
+}
+
+// The extra bits of a token 6..11.
+fn copy_category(s: &[u8], p: Pipe, out: &mut [u8], token: u8) -> Pipe
+    requires { ⌜ (6 ≤ token) × (token ≤ 11) ⌝ }
+    ensures { λ q. ⌜ Copies nothing (magnitude token) (now (s .entry)) p (now (out .entry)) tt q (now (out .exit)) ⌝ }
+{
+    match token {
+        6 => copy_extra(s, p, out, &CAT1),
+        7 => copy_extra(s, p, out, &CAT2),
+        8 => copy_extra(s, p, out, &CAT3),
+        9 => copy_extra(s, p, out, &CAT4),
+        10 => copy_extra(s, p, out, &CAT5),
+        _ => copy_extra(s, p, out, &CAT6),
+    }
+}
+
+// The extra bits of a token 2..11.
+fn copy_magnitude(s: &[u8], p: Pipe, out: &mut [u8], token: u8) -> Pipe
+    requires { ⌜ (2 ≤ token) × (token ≤ 11) ⌝ }
+    ensures { λ q. ⌜ Copies nothing (magnitude token) (now (s .entry)) p (now (out .entry)) tt q (now (out .exit)) ⌝ }
+{
+    if token < 6 {
+        return p;
+    }
+    copy_category(s, p, out, token)
+}
+
+// What follows a token 1..11: after a zero nothing, else its extra bits and its sign.
+pub(crate) fn copy_rest(s: &[u8], p: Pipe, out: &mut [u8], token: u8) -> Pipe
+    requires { ⌜ (1 ≤ token) × (token ≤ 11) ⌝ }
+    ensures { λ q. ⌜ Rest (now (s .entry)) p (now (out .entry)) token q (now (out .exit)) ⌝ }
+{
+    if token == 1 {
+        return p;
+    }
+    let m = copy_magnitude(s, p, out, token);
+    let a = ask(s, m, out, 128);
+    a.next
+}
