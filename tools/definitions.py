@@ -22,7 +22,7 @@ CHAPTERS = [
      ["frame/Tag", "frame/Header", "frame/Tables", "frame/Entries", "frame/Places", "frame/Take", "frame/Passes"]),
     ("The header's entries, segments, levels, factors", "sections 9.3, 9.4, 9.6, 9.11 and 14.1",
      ["header/Entries", "header/Header", "header/Own", "header/Quantizers", "header/Levels", "header/Frame"]),
-    ("Partitions of a tile", "section 9.5", ["tile/Partitions", "tile/Checks"]),
+    ("Partitions of a tile", "sections 9.5 and 20.4", ["tile/Partitions", "tile/Checks"]),
     ("A macroblock's modes", "sections 10, 11 and 19.3", ["modes/Table", "modes/Modes", "modes/Answers", "modes/Contexts"]),
     ("Prediction", "section 12", ["planes/Predict", "planes/Paint"]),
     ("Tokens and coefficients", "section 13", ["reader/Token", "coefficients/Block", "residual/Residual", "residual/ResidualSource"]),

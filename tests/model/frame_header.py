@@ -90,7 +90,7 @@ def coded(bits):
     bits.number(1)  # refresh_entropy_probs
     for i in range(1056):
         entry[38 + i] = bits.number(8) if bits.bit(UPDATES[i]) else DEFAULTS[i]
-    entry[1094] = bits.number(1)  # mb_no_coeff_skip
+    entry[1094] = bits.number(1)  # mb_no_skip_coeff
     if entry[1094]:
         entry[1095] = bits.number(8)
     return entry, simple, partitions

@@ -68,7 +68,7 @@ CODES = {  # bit, node
     "HD": [(1, 0), (1, 1), (1, 2), (1, 3), (1, 6), (1, 7), (0, 8)],
     "HU": [(1, 0), (1, 1), (1, 2), (1, 3), (1, 6), (1, 7), (1, 8)],
 }
-# kf_bmode_probs: nine for each mode above and each mode left
+# kf_bmode_prob: nine for each mode above and each mode left
 TABLE = bytes.fromhex("""
     e7783059737178987098b3407eaa762e465faf458f505552489b67383a0aabdabd110d9890470a26abd590221a
     721a11a32cc3150aad791850c31a3e2c4055aa2e371388a021ce473f14087272d00c09e251280b60b6541d1024
