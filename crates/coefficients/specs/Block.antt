@@ -1,4 +1,4 @@
--- The coefficients of a block (RFC 6386, sections 13 and 14.1), as grammars over the tokens of `reader`.
+-- The coefficients of a block (RFC 6386, sections 13, 3350-3370, 13.2, 13.3 and 14.1), as grammars over the tokens of `reader`.
 use Prim.Native.Nat.{ℕ, zero, suc, _+_, _-_, _*_, _%_}
 use mathlib.Core.Bool.{Bool, true, false, _&&_}
 use mathlib.Core.List.{List, [], _∷_}
@@ -26,8 +26,8 @@ use Rattle.coefficients.specs.declared.block.Table.{Table}
 use Rattle.numbers.specs.declared.Checked.{Checked}
 use Rattle.numbers.specs.declared.Checked.the-variants as H
 
--- ---- the number of a token (section 13.2, DCTextra)
--- the probabilities of a category's extra bits, Pcat1 to Pcat6, and its least number
+-- ---- the number of a token (section 13.2, 3448-3494, DCTextra)
+-- the probabilities of a category's extra bits, Pcat1 to Pcat6 (3488-3494), and its least number
 unfoldable pub categories : List (List ℕ)
 categories =
     (159 ∷ [])
@@ -38,7 +38,7 @@ categories =
     ∷ (254 ∷ 254 ∷ 243 ∷ 230 ∷ 196 ∷ 177 ∷ 153 ∷ 140 ∷ 133 ∷ 130 ∷ 129 ∷ [])
     ∷ []
 
--- the least number of each category
+-- the least number of each category (section 13.3, 3663)
 unfoldable pub bases : List ℕ
 bases = 5 ∷ 7 ∷ 11 ∷ 19 ∷ 35 ∷ 67 ∷ []
 
@@ -56,7 +56,7 @@ magnitude t =
       | false ↦ category (getD bases (t - 6) 0) (getD categories (t - 6) [])
     ]
 
--- ---- with its sign, times the quantizer q, taken into 16 bits (sections 13.2 and 14.1)
+-- ---- with its sign, times the quantizer q, taken into 16 bits (sections 13.2, 3498-3505, and 14.1, 4268-4269)
 abbrev pub signOf : Bool → ℕ → ℤ
 signOf true x = negℤ (pos x)
 signOf false x = pos x
@@ -68,7 +68,8 @@ signedValue t q = do
   negative ← symbol 128
   done (wrapZ (signOf negative (v * q)))
 
--- ---- a position in the block: its band (section 13.3), and where its number stands (section 13, zigzag)
+-- ---- a position in the block: its band (section 13.3, 3561-3563, coeff_bands), and where its number stands: zigzag, which section 13 names
+-- (3367-3368) and the source alone prints (20.16, 13065-13068)
 unfoldable pub bands : List ℕ
 bands = 0 ∷ 1 ∷ 2 ∷ 3 ∷ 6 ∷ 4 ∷ 5 ∷ 6 ∷ 6 ∷ 6 ∷ 6 ∷ 6 ∷ 6 ∷ 6 ∷ 6 ∷ 7 ∷ []
 
@@ -76,7 +77,7 @@ bands = 0 ∷ 1 ∷ 2 ∷ 3 ∷ 6 ∷ 4 ∷ 5 ∷ 6 ∷ 6 ∷ 6 ∷ 6 ∷ 6 ∷ 
 unfoldable pub zigzag : List ℕ
 zigzag = 0 ∷ 1 ∷ 4 ∷ 8 ∷ 5 ∷ 2 ∷ 3 ∷ 6 ∷ 9 ∷ 12 ∷ 13 ∷ 10 ∷ 7 ∷ 11 ∷ 14 ∷ 15 ∷ []
 
--- coeff_probs [kind] [band] [context]: eleven of the table's 4 * 8 * 3 * 11
+-- coeff_probs [kind] [band] [context] (section 13.3, 3519): eleven of the table's 4 * 8 * 3 * 11
 unfoldable pub probabilityPlace : ℕ → ℕ → ℕ → ℕ
 probabilityPlace kind n ctx = ((kind * 8 + getD bands n 0) * 3 + ctx) * 11
 
@@ -88,11 +89,11 @@ probabilitiesAt table kind n ctx = elevenAt table (probabilityPlace kind n ctx)
 unfoldable pub quantizerAt : ℕ → ℕ → ℕ → ℕ
 quantizerAt n q0 q1 = elim (eqb n 0) [ true ↦ q0 | false ↦ q1 ]
 
--- the context after a number: 1 after a one, 2 after more; after a zero it is 0
+-- the context after a number: 1 after a one, 2 after more; after a zero it is 0 (section 13.3, 3591-3595)
 unfoldable pub contextAfter : ℕ → ℕ
 contextAfter t = elim (eqb t 2) [ true ↦ 1 | false ↦ 2 ]
 
--- ---- a block (section 13)
+-- ---- a block (section 13.3, 3684-3734; section 19.3, 7343-7352)
 -- the position after its last number or zero, and its sixteen numbers, row after row
 pub record Coefficients : Type 0 where
   pub end : ℕ

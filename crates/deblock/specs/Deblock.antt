@@ -1,6 +1,6 @@
--- Deblocking, RFC 6386 section 15: the kernel applied position by position along an edge, edge by edge in a macroblock, macroblock by
--- macroblock in raster order (section 15.1), to each plane by itself: planes never meet. A plane is a list of samples, w to a row: column x
--- of row y is its element y * w + x. A position of an edge is a line of eight samples across it,
+-- Deblocking, RFC 6386, section 15: the kernel applied position by position along an edge, edge by edge in a macroblock, macroblock by
+-- macroblock in raster order (section 15.1, 4713-4748), to each plane by itself: planes never meet. A plane is a list of samples, w to a
+-- row: column x of row y is its element y * w + x. A position of an edge is a line of eight samples across it,
 --
 --     p3 p2 p1 p0 | q0 q1 q2 q3
 --
@@ -37,7 +37,7 @@ unfoldable pub when : Bool → Change → Change
 when true f p = f p
 when false f p = p
 
--- ---- one position (sections 15.2 to 15.4, through the kernel's `filterOf`)
+-- ---- one position (sections 15.2 and 15.3, through the kernel's `filterOf`)
 -- the eight samples of p from the place `at` on, `step` apart
 unfoldable pub acrossOf : List ℕ → (at step : ℕ) → List ℕ
 acrossOf p at step = build 8 (λ k. getD p (at + k * step) 0)
@@ -55,7 +55,7 @@ keptOf g e = filterOf e (g .simple) (g .outer) (g .limit) (g .inner) (g .thresho
 unfoldable pub positionOf : Edge → (at step : ℕ) → Change
 positionOf g at step p = laidBack p at step (keptOf g (acrossOf p at step)) 6
 
--- ---- one edge (section 15.1): n positions, `along` apart
+-- ---- one edge (section 15.1, 4715-4742): n positions, `along` apart
 unfoldable pub sweepOf : Edge → (at along step n : ℕ) → Change
 sweepOf g at along step n = turns (λ i. positionOf g (at + i * along) step) n
 
@@ -68,11 +68,11 @@ unfoldable pub horizontalEdges : Edge → (w x y n : ℕ) → Change
 horizontalEdges g w x y n = sweepOf g ((y - 4) * w + x) 1 w n
 
 -- ---- one macroblock: its n by n square in a plane, 16 of luma and 8 of chroma, at the given column and row of macroblocks
--- what the kernel is told of an edge (section 15.2): the edges to other macroblocks have the limit raised by 4
+-- what the kernel is told of an edge (section 15.4, 5298-5303): the edges to other macroblocks have the limit raised by 4, mbedge_limit
 abbrev pub outerEdge : Bool → Strength → Edge
 outerEdge simple t = record { simple = simple; outer = true; limit = t .limit + 4; inner = t .inner; threshold = t .threshold }
 
--- the edges inside a macroblock have the limit itself
+-- the edges inside a macroblock have the limit itself, sub_bedge_limit
 abbrev pub innerEdge : Bool → Strength → Edge
 innerEdge simple t = record { simple = simple; outer = false; limit = t .limit; inner = t .inner; threshold = t .threshold }
 
@@ -84,8 +84,8 @@ verticalsOf g w x y n = turns (λ j. verticalEdges g w (x + 4 * j + 4) y n) (n /
 unfoldable pub horizontalsOf : Edge → (w x y n : ℕ) → Change
 horizontalsOf g w x y n = turns (λ j. horizontalEdges g w x (y + 4 * j + 4) n) (n / 4 - 1)
 
--- in the order of section 15.1: the left edge unless column 0, inner vertical edges, the top edge unless row 0, inner horizontal edges; the
--- inner ones where the inside byte is 1
+-- in the order of section 15.1, 4750-4770: the left edge unless column 0, inner vertical edges, the top edge unless row 0, inner horizontal
+-- edges; the inner ones where the inside byte is 1 (4785-4790)
 unfoldable pub squareOf : Bool → Strength → (w n column row : ℕ) → Change
 squareOf simple t w n column row p =
     let x = column * n in
@@ -106,7 +106,7 @@ macroblockEdges simple strengths n wide k =
 unfoldable pub rasterOf : Bool → (strengths : List ℕ) → (n wide m : ℕ) → Change
 rasterOf simple strengths n wide m = turns (macroblockEdges simple strengths n wide) m
 
--- ---- the picture: the simple kind (section 15.2) touches luma only
+-- ---- the picture: the simple kind touches luma only (section 15.2, 4839-4840)
 unfoldable pub planesDeblocked : Bool → (strengths : List ℕ) → (wide high : ℕ) → Planes → Planes
 planesDeblocked simple strengths wide high m = record {
   y = rasterOf simple strengths 16 wide (wide * high) (m .y);

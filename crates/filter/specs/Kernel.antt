@@ -1,5 +1,5 @@
--- The loop filter's kernel, RFC 6386 section 15: what eight samples across an edge become. It is in two steps: `ruleOf` says which rule
--- acts and why, and `stepsOf` what that rule adds to each sample before the sum is clipped to a byte.
+-- The loop filter's kernel, RFC 6386, sections 15.2, 4852-5016, and 15.3, 5069-5275: what eight samples across an edge become. It is in two
+-- steps: `ruleOf` says which rule acts and why, and `stepsOf` what that rule adds to each sample before the sum is clipped to a byte.
 use Prim.Native.Nat.{ℕ, suc, _+_, _*_, _<_}
 use mathlib.Core.Bool.{Bool, true, false, cond, not, _||_}
 use mathlib.Core.List.{List, [], _∷_}
@@ -43,7 +43,7 @@ samplesAcross e = eightOf (λ i. pos (getD e i 0))
 abbrev pub apart : ℤ → ℤ → ℕ
 apart a b = natAbs (a -ℤ b)
 
--- The edge test: the step across the edge is small enough to be the coder's doing.
+-- The edge test (5014, 5112): the step across the edge is small enough to be the coder's doing.
 unfoldable pub withinLimit : Samples → (limit : ℕ) → Bool
 withinLimit e limit = leb (4 * apart (e .p0) (e .q0) + apart (e .p1) (e .q1)) (2 * limit + 1)
 
@@ -53,7 +53,7 @@ firstFalse [] = 0
 firstFalse (true ∷ bs) = suc (firstFalse bs)
 firstFalse (false ∷ bs) = 0
 
--- Two neighbours are smooth: they lie no further apart than `inner`.
+-- Two neighbours are smooth: they lie no further apart than `inner`, the RFC's interior_limit (5113-5116).
 unfoldable pub smooth : (inner : ℕ) → ℤ → ℤ → Bool
 smooth inner a b = leb (apart a b) inner
 
@@ -64,7 +64,7 @@ roughAt e inner =
     (smooth inner (e .p3) (e .p2) ∷ smooth inner (e .p2) (e .p1) ∷ smooth inner (e .p1) (e .p0)
     ∷ smooth inner (e .q3) (e .q2) ∷ smooth inner (e .q2) (e .q1) ∷ smooth inner (e .q1) (e .q0) ∷ [])
 
--- High edge variance: the two samples next to the edge, on either side, lie further apart than `threshold`.
+-- High edge variance (`hev`, its hev_threshold; 5127-5133): the two samples next to the edge, on either side, lie further apart than `threshold`.
 unfoldable pub highVariance : Samples → (threshold : ℕ) → Bool
 highVariance e threshold = ltb threshold (apart (e .p1) (e .p0)) || ltb threshold (apart (e .q1) (e .q0))
 
@@ -79,23 +79,23 @@ ruleOf e simple edge limit inner threshold =
 
 -- ---- what a rule does
 
--- Three times the step from p0 to q0.
+-- Three times the step from p0 to q0 (4967).
 unfoldable pub across : Samples → ℤ
 across e = pos 3 *ℤ (e .q0 -ℤ e .p0)
 
--- The same with the outer taps: the difference of p1 and q1, as a signed byte.
+-- The same with the outer taps: the difference of p1 and q1, as a signed byte (4967, 5239).
 unfoldable pub tapped : Samples → ℤ
 tapped e = across e +ℤ signedByteZ (e .p1 -ℤ e .q1)
 
--- An eighth of a, rounded down, in -16..15.
+-- An eighth of a, rounded down, in -16..15 (4972, 4978).
 unfoldable pub eighth : ℤ → ℤ
 eighth a = signedTo 15 (shrZ a 8)
 
--- k parts in 128 of w, rounded.
+-- k parts in 128 of w, rounded (5246, 5252, 5258).
 unfoldable pub part : (k : ℕ) (w : ℤ) → ℤ
 part k w = shrZ (pos k *ℤ w +ℤ pos 63) 128
 
--- Half of a, rounded up.
+-- Half of a, rounded up (5180).
 unfoldable pub half : ℤ → ℤ
 half a = shrZ (a +ℤ pos 1) 2
 
@@ -107,15 +107,15 @@ sides p2 p1 p0 q0 q1 q2 = pos 0 ∷ p2 ∷ p1 ∷ p0 ∷ negℤ q0 ∷ negℤ q1
 unfoldable pub noSteps : List ℤ
 noSteps = sides (pos 0) (pos 0) (pos 0) (pos 0) (pos 0) (pos 0)
 
--- The common adjustment: the two samples at the edge move toward each other by an eighth of a.
+-- The common adjustment (4945-5000): the two samples at the edge move toward each other by an eighth of a.
 unfoldable pub commonSteps : (a : ℤ) → List ℤ
 commonSteps a = sides (pos 0) (pos 0) (eighth (a +ℤ pos 3)) (eighth (a +ℤ pos 4)) (pos 0) (pos 0)
 
--- A macroblock's edge: three samples on each side move by 27, 18 and 9 parts in 128 of w.
+-- A macroblock's edge (5234-5260): three samples on each side move by 27, 18 and 9 parts in 128 of w.
 unfoldable pub macroblockSteps : (w : ℤ) → List ℤ
 macroblockSteps w = sides (part 9 w) (part 18 w) (part 27 w) (part 27 w) (part 18 w) (part 9 w)
 
--- An inner edge: the common adjustment, and the next sample on each side moves half as far as q0.
+-- An inner edge (5178-5185): the common adjustment, and the next sample on each side moves half as far as q0.
 unfoldable pub innerSteps : (a : ℤ) → List ℤ
 innerSteps a =
     sides (pos 0) (half (eighth (a +ℤ pos 4))) (eighth (a +ℤ pos 3)) (eighth (a +ℤ pos 4)) (half (eighth (a +ℤ pos 4))) (pos 0)

@@ -276,7 +276,7 @@ module _ (e : List ℕ) (simple edge : Bool) (limit inner threshold : ℕ) where
   pixel-refused k h = rw (le-ltb k 8 h)
 
 -- ---- the tests by themselves
--- the edge test of section 15.2, which halves the outer difference
+-- the edge test of section 15.2, 5014, which halves the outer difference
 pub edge-test-same : (a b limit : ℕ) → (4 * a + b ≤ 2 * limit + 1 → 2 * a + b / 2 ≤ limit) × (2 * a + b / 2 ≤ limit → 4 * a + b ≤ 2 * limit + 1)
 edge-test-same a b limit = (λ h. omega arith, λ h. omega arith)
 

@@ -1,5 +1,5 @@
--- The loop filter of RFC 6386 section 15 in the RFC's own words: pixels are made signed, adjusted, and made unsigned again. Rfc15Laws.antt says
--- that Kernel.antt gives the same samples.
+-- The loop filter of RFC 6386, sections 15.2 and 15.3, in the RFC's own words: pixels are made signed, adjusted, and made unsigned again.
+-- Rfc15Laws.antt says that Kernel.antt gives the same samples.
 use mathlib.Core.Bool.{Bool, true, cond, not, _&&_, _||_}
 use mathlib.Core.List.{List, [], _∷_}
 use Prim.Native.Nat.{ℕ, _+_, _*_, _/_, _^_}
@@ -10,7 +10,7 @@ use lib.Signed.{shrZ}
 use Rattle.numbers.specs.Clamp.{signedByteZ}
 use Rattle.filter.specs.Kernel.{Eight, eightOf}
 
--- ---- 15.2, simple filter
+-- ---- 15.2, simple filter, 4852-5016
 -- The pixels of a segment that straddles an edge: `s .p0` is the RFC's P0, and the RFC's p0 is `u2s (s .p0)`.
 abbrev pub Segment : Type 0
 Segment = Eight ℕ
@@ -23,11 +23,11 @@ segmentOf e = eightOf (λ i. getD e i 0)
 abbrev pub pixelsOf : Segment → List ℕ
 pixelsOf s = s .p3 ∷ s .p2 ∷ s .p1 ∷ s .p0 ∷ s .q0 ∷ s .q1 ∷ s .q2 ∷ s .q3 ∷ []
 
--- `c` clamps to -128..127.
+-- `c` clamps to -128..127 (4861-4864).
 abbrev pub c : ℤ → ℤ
 c v = signedByteZ v
 
--- `u2s` makes a pixel signed, and `s2u` clamps and makes it unsigned again.
+-- `u2s` makes a pixel signed (4886), and `s2u` clamps and makes it unsigned again (4889).
 unfoldable pub u2s : ℕ → ℤ
 u2s v = pos v -ℤ pos 128
 
@@ -50,7 +50,7 @@ pub record Adjusted : Type 0 where
   pub P0 : ℕ
   pub Q0 : ℕ
 
--- `common_adjust`: b rounds the other way than a, so that the two together do not shift the picture.
+-- `common_adjust` (4945-5000): b rounds the other way than a, so that the two together do not shift the picture.
 unfoldable pub commonAdjust : (useOuterTaps : Bool) → Segment → Adjusted
 commonAdjust useOuterTaps s =
     let p1 = u2s (s .p1) in
@@ -66,23 +66,23 @@ commonAdjust useOuterTaps s =
 abbrev pub adjusted : Segment → Adjusted → Segment
 adjusted s r = record { p3 = s .p3; p2 = s .p2; p1 = s .p1; p0 = r .P0; q0 = r .Q0; q1 = s .q1; q2 = s .q2; q3 = s .q3 }
 
--- The edge test. Where the RFC prints a shift of the outer difference by 2, the source's test stands, which halves it.
+-- The edge test, printed with the outer difference halved in all places (5014, 5112; source 20.6, 8883).
 unfoldable pub edgeTest : (E : ℕ) → Segment → Bool
 edgeTest E s = leb (differ (s .p0) (s .q0) * 2 + differ (s .p1) (s .q1) / 2) E
 
--- `simple_segment`
+-- `simple_segment` (5006-5016)
 unfoldable pub simpleSegment : (edgeLimit : ℕ) → Segment → Segment
 simpleSegment edgeLimit s = cond (edgeTest edgeLimit s) (adjusted s (commonAdjust true s)) s
 
--- ---- 15.3, normal filter
--- `filter_yes`: the edge test, and every interior difference is within I.
+-- ---- 15.3, normal filter, 5069-5275
+-- `filter_yes` (5103-5117): the edge test, and every interior difference is within I.
 unfoldable pub filterYes : (I E : ℕ) → Segment → Bool
 filterYes I E s =
     edgeTest E s
     && (leb (differ (s .p3) (s .p2)) I && leb (differ (s .p2) (s .p1)) I && leb (differ (s .p1) (s .p0)) I
     && leb (differ (s .q3) (s .q2)) I && leb (differ (s .q2) (s .q1)) I && leb (differ (s .q1) (s .q0)) I)
 
--- `hev`: high edge variance.
+-- `hev` (5127-5133): high edge variance.
 unfoldable pub hev : (thresh : ℕ) → Segment → Bool
 hev thresh s = ltb thresh (differ (s .p1) (s .p0)) || ltb thresh (differ (s .q1) (s .q0))
 
@@ -104,7 +104,7 @@ subblockAct hv s =
     })
     (adjusted s r)
 
--- `subblock_filter`: it acts where `filter_yes` holds.
+-- `subblock_filter` (5161-5187): it acts where `filter_yes` holds.
 unfoldable pub subblockFilter : (hevThreshold interiorLimit edgeLimit : ℕ) → Segment → Segment
 subblockFilter hevThreshold interiorLimit edgeLimit s = cond (filterYes interiorLimit edgeLimit s) (subblockAct (hev hevThreshold s) s) s
 
@@ -134,7 +134,7 @@ mbAct hv s =
     })
     (adjusted s (commonAdjust true s))
 
--- `MBfilter`: it acts where `filter_yes` holds.
+-- `MBfilter` (5217-5275): it acts where `filter_yes` holds.
 unfoldable pub mbFilter : (hevThreshold interiorLimit edgeLimit : ℕ) → Segment → Segment
 mbFilter hevThreshold interiorLimit edgeLimit s = cond (filterYes interiorLimit edgeLimit s) (mbAct (hev hevThreshold s) s) s
 

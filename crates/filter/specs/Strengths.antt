@@ -1,4 +1,5 @@
--- The strengths of a macroblock's edge filter (RFC 6386, sections 9.4 and 15.2 to 15.4).
+-- The strengths of a macroblock's edge filter (RFC 6386, section 15.4, 5281-5364; whether inner edges are
+-- filtered, section 15.1, 4785-4790).
 use Prim.Native.Nat.{ℕ, _+_, _-_, _*_, _/_, min, max}
 use mathlib.Core.Bool.{Bool, true, false, _&&_}
 use mathlib.Core.List.{List, [], _∷_}
@@ -8,7 +9,7 @@ use Rattle.filter.specs.declared.strengths.Strength.{Strength}
 use Rattle.filter.specs.declared.strengths.Strengths.{Strengths}
 use Rattle.filter.specs.declared.strengths.Strengths.the-variants as T
 
--- the interior limit: sharpness above 0 halves the level, above 4 quarters it, and caps it at 9 - sharpness; at least 1
+-- interior_limit (5329-5338): sharpness above 0 halves the level, above 4 quarters it, and caps it at 9 - sharpness; at least 1
 unfoldable pub slowed : ℕ → ℕ → ℕ
 slowed level sharp = elim (ltb 4 sharp) [ true ↦ level / 4 | false ↦ level / 2 ]
 
@@ -16,7 +17,7 @@ slowed level sharp = elim (ltb 4 sharp) [ true ↦ level / 4 | false ↦ level /
 unfoldable pub innerOf : ℕ → ℕ → ℕ
 innerOf level sharp = max (elim (ltb 0 sharp) [ true ↦ min (slowed level sharp) (9 - sharp) | false ↦ level ]) 1
 
--- the threshold of high variance in a key frame: 2 from level 40, 1 from 15
+-- hev_threshold of a key frame (5347-5355): 2 from level 40, 1 from 15
 unfoldable pub thresholdOf : ℕ → ℕ
 thresholdOf level = elim (leb 40 level) [ true ↦ 2 | false ↦ elim (leb 15 level) [ true ↦ 1 | false ↦ 0 ] ]
 

@@ -1,4 +1,4 @@
-// The strengths of a macroblock's edge filter (RFC 6386, sections 9.4 and 15.2 to 15.4): limit, inner, threshold, inside.
+// The strengths of a macroblock's edge filter (RFC 6386, section 15.4): limit, inner, threshold, inside.
 ghost use mathlib.Core.Path.{_≡_};
 ghost use Prim.Native.Nat.{_+_, _≤_, min, max};
 ghost use Rattle.numbers.specs.Flags.{bitOf};

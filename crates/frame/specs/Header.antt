@@ -1,5 +1,5 @@
--- The coded header of a key frame as a grammar, in the order of RFC 6386, section 19.2 (9.2 to 9.11 explain each field): `header`, at the
--- end, is frame_header(). `literal n` is the RFC's L(n), `symbol p` its B(p); its name of a field stands beside ours.
+-- The coded header of a key frame as a grammar, in the order of RFC 6386, section 19.2, 6806-6854 (9.2 to 9.11 explain each field): `header`, at the
+-- end, is its table Frame Header. `literal n` is the RFC's L(n), `symbol p` its B(p); its name of a field stands beside ours.
 use Prim.Native.Nat.{ℕ, zero, suc, _+_}
 use mathlib.Core.List.{List}
 use mathlib.Core.Bool.{Bool, true, false}
@@ -18,7 +18,7 @@ use Rattle.frame.specs.declared.fields.Quantizers.{Quantizers}
 use Rattle.frame.specs.declared.fields.Header.{Header}
 use Rattle.frame.specs.Tables.{defaultProbs, updateProbs}
 
--- L(n): n bits, the highest first, each with probability 128 (section 8)
+-- L(n): n bits, the highest first, each with probability 128 (section 8, 1373-1376)
 unfoldable pub literal : ℕ → Reading ℕ
 literal n = extra (replicate n 128)
 
@@ -49,7 +49,8 @@ fourSigned n = do
   d ← signed n
   done (record { a = a; b = b; c = c; d = d })
 
--- ---- update_segmentation() (section 9.3)
+-- ---- update_segmentation() (section 19.2, 6965-6992; in words 9.3, 1880-1924). 7007 says which segment_feature_mode is absolute, 1; 1894 has
+-- it the other way round
 abbrev pub noFour : Four
 noFour = record { a = noValue; b = noValue; c = noValue; d = noValue }
 
@@ -102,11 +103,12 @@ segments = do
   on ← literal 1  -- segmentation_enabled
   when on noSegments (update on)
 
--- ---- filter_type, loop_filter_level, sharpness_level, mb_lf_adjustments() (section 9.4)
+-- ---- filter_type, loop_filter_level, sharpness_level, mb_lf_adjustments() (section 19.2, 6815-6818 and 7063-7084; 9.4, 1936-1984)
 abbrev pub noDeltas : Deltas
 noDeltas = record { intra = noValue; small = noValue }
 
--- all eight are read; a key frame uses the first of each four, that of the intra frame and that of B_PRED
+-- all eight are read (a key frame starts from zeros: section 4, 418-422; source 7904); a key frame uses the first of each four, that of the
+-- intra frame and that of B_PRED
 unfoldable pub deltas : Reading Deltas
 deltas = do
   frames ← fourSigned 6  -- ref_frame_delta_update_flag
@@ -129,7 +131,7 @@ filter = do
   deltas ← when on noDeltas deltasUpdate
   done (record { kind = kind; level = level; sharpness = sharpness; on = on; deltas = deltas })
 
--- ---- quant_indices() (section 9.6)
+-- ---- quant_indices() (section 19.2, 7119-7146; 9.6, 2046-2088)
 unfoldable pub quantizers : Reading Quantizers
 quantizers = do
   base ← literal 7  -- y_ac_qi
@@ -140,7 +142,7 @@ quantizers = do
   uvac ← signed 4  -- uv_ac_delta
   done (record { base = base; ydc = ydc; y2dc = y2dc; y2ac = y2ac; uvdc = uvdc; uvac = uvac })
 
--- ---- token_prob_update() (sections 9.9, 13.4)
+-- ---- token_prob_update() (section 19.2, 7187-7199; 9.9, 2173-2179; 13.4, 3767-3792: the flag's probability is coeff_update_probs')
 -- one probability: given anew, or kept
 abbrev pub chosen : Bool → ℕ → Reading ℕ
 chosen true old = literal 8  -- coeff_prob
@@ -163,7 +165,7 @@ probsFrom (suc n) i table = do
 unfoldable pub probs : Reading (List ℕ)
 probs = probsFrom probabilityCount 0 defaultProbs
 
--- ---- frame_header()
+-- ---- the header (section 19.2, 6806-6854, a key frame's part of it; the last two fields 9.11, 2250-2265)
 unfoldable pub header : Reading Header
 header = do
   colour ← literal 1  -- color_space
@@ -174,7 +176,7 @@ header = do
   quantizers ← quantizers
   refresh ← literal 1  -- refresh_entropy_probs
   probs ← probs
-  skip ← literal 1  -- mb_no_coeff_skip
+  skip ← literal 1  -- mb_no_skip_coeff
   chance ← when skip 0 (literal 8)  -- prob_skip_false
   done
       (record {

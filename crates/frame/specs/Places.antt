@@ -1,4 +1,4 @@
--- The token partitions (RFC 6386, section 9.5): after the first partition, at `table`, the sizes of all but the last, three bytes each;
+-- The token partitions (RFC 6386, section 9.5, 1991-2031): after the first partition, at `table`, the sizes of all but the last, three bytes each;
 -- then the partitions one after the other, the last up to the end of the frame.
 use Prim.Native.Nat.{ℕ, zero, suc, _+_, _-_, _*_, _^_}
 use mathlib.Core.Bool.{Bool, true, false, _&&_}
@@ -11,12 +11,12 @@ use Rattle.tile.specs.declared.Span.{Span}
 use Rattle.tile.specs.Partitions.{noSpan}
 use Rattle.frame.specs.Tag.{threeAt}
 
--- log2_nbr_of_dct_partitions: 1, 2, 4 or 8
+-- log2_nbr_of_dct_partitions: 1, 2, 4 or 8 (1995-2005)
 abbrev pub partitionCount : ℕ → ℕ
 partitionCount partitions = 2 ^ partitions
 
 module _ (b : List ℕ) (table count : ℕ) where
-  -- partition_size of partition i; the last has none in the table
+  -- the size of partition i (2030-2031); the last has none in the table (2008-2011)
   unfoldable pub partitionSize : ℕ → ℕ
   partitionSize i = elim (ltb (i + 1) count) [ true ↦ threeAt b (table + 3 * i) | false ↦ 0 ]
 

@@ -2,7 +2,7 @@
 -- entry modulo 256 (probabilityOf); what an entry announces is there where the entry is not 0 (presentOf).
 use Prim.Native.Nat.{ℕ}
 
--- ---- segments (RFC 6386, section 9.3)
+-- ---- segments (RFC 6386, section 9.3, 1880-1924)
 -- 2: segments are on
 abbrev pub segmentsOn : ℕ
 segmentsOn = 2
@@ -27,7 +27,7 @@ segmentLevel = 10
 abbrev pub mapProbability : ℕ
 mapProbability = 14
 
--- ---- the loop filter (section 9.4)
+-- ---- the loop filter (section 9.4, 1936-1984)
 -- 18: the frame's level
 abbrev pub frameLevel : ℕ
 frameLevel = 18
@@ -48,7 +48,7 @@ intraDelta = 22
 abbrev pub smallDelta : ℕ
 smallDelta = 26
 
--- ---- quantizer indices (section 9.6)
+-- ---- quantizer indices (section 9.6, 2046-2088)
 -- 31: the frame's index
 abbrev pub baseIndex : ℕ
 baseIndex = 31
@@ -73,7 +73,7 @@ uvdcDelta = 35
 abbrev pub uvacDelta : ℕ
 uvacDelta = 36
 
--- ---- tokens and skipped macroblocks (sections 9.9 to 9.11)
+-- ---- tokens and skipped macroblocks (sections 9.9, 2173-2179, and 9.11, 2252-2265)
 -- 38..1093: the 1056 coefficient probabilities, at 38 + ((kind * 8 + band) * 3 + ctx) * 11 + j
 abbrev pub coefficientProbability : ℕ
 coefficientProbability = 38

@@ -1,4 +1,4 @@
--- What all macroblocks of a picture share, from the header (RFC 6386, sections 9.3, 9.4, 9.6, 9.11, 14.1 and 15).
+-- What all macroblocks of a picture share, from the header (RFC 6386, sections 9.3, 9.4, 9.6, 9.11, 10 and 14.1: the files of each have the lines).
 use Prim.Native.Nat.{ℕ, _+_}
 use mathlib.Core.Bool.{Bool, true, false}
 use mathlib.Core.List.{List, [], _∷_}

@@ -1,4 +1,5 @@
--- The filter level of a macroblock (RFC 6386, sections 9.3, 9.4 and 15).
+-- The filter level of a macroblock (RFC 6386, sections 9.4, 1948-1951, and 10, 2279-2287; which delta counts and where it is clamped stands in the
+-- source alone, 20.6, 9165-9212).
 use Prim.Native.Nat.{ℕ, _+_}
 use mathlib.Core.Bool.{Bool, true, false, _&&_}
 use mathlib.Core.List.{List}

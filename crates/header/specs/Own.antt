@@ -1,5 +1,5 @@
--- A segment's own value of something that the frame has one of (RFC 6386, section 9.3): its quantizer index
--- (section 9.6) or its filter level (section 9.4).
+-- A segment's own value of something that the frame has one of (RFC 6386, sections 9.3, 1871-1875, and 10, 2279-2287): its quantizer index
+-- or its filter level. Absolute or added: section 19.2, 7007; source 20.4, 8041-8043, and 20.6, 9165-9175.
 use Prim.Native.Nat.{ℕ}
 use mathlib.Core.Bool.{true, false}
 use mathlib.Core.List.{List}

@@ -1,4 +1,5 @@
--- Quantizers (RFC 6386, sections 9.6 and 14.1): what each kind of coefficient is multiplied by in a segment.
+-- Quantizers (RFC 6386, sections 9.6, 2037-2050, and 14.1, 4251-4310, which points to the source, 20.4, 7996-8072, for scaling and
+-- clamping): what each kind of coefficient is multiplied by in a segment.
 use Prim.Native.Nat.{ℕ, _+_, _*_, _/_, _<_, min, max}
 use mathlib.Core.Bool.{Bool, true, false, _&&_}
 use mathlib.Core.List.{List, [], _∷_}
@@ -13,7 +14,7 @@ use Rattle.header.specs.declared.quantizers.Factors.{Factors}
 use Rattle.header.specs.declared.quantizers.Quantizers.{Quantizers}
 use Rattle.header.specs.declared.quantizers.Quantizers.the-variants as Q
 
--- ---- section 14.1: the steps by index
+-- ---- section 14.1: the steps by index, dc_qlookup (4276-4288) and ac_qlookup (4290-4302)
 unfoldable pub dcSteps : List ℕ
 dcSteps =
     4 ∷ 5 ∷ 6 ∷ 7 ∷ 8 ∷ 9 ∷ 10 ∷ 10 ∷ 11 ∷ 12 ∷ 13 ∷ 14 ∷ 15 ∷ 16 ∷ 17 ∷ 17
@@ -45,8 +46,8 @@ dcAt i = getD dcSteps i 0
 abbrev pub acAt : ℕ → ℕ
 acAt i = getD acSteps i 0
 
--- ---- section 9.6: the frame's index, or the segment's own
--- clamped to 0..127, and again after a delta
+-- ---- the frame's index, or the segment's own (section 9.6, 2046-2050; 14.1, 4263-4268)
+-- clamped to 0..127, and again after a delta; the RFC's source clamps once, after the delta (8015-8058; docs/DIFFERENCES.md)
 abbrev pub indexOf : List ℤ → ℕ → ℕ
 indexOf h segment = upTo 127 (segmentedOf h baseIndex (segmentIndex + segment))
 
@@ -54,11 +55,11 @@ indexOf h segment = upTo 127 (segmentedOf h baseIndex (segmentIndex + segment))
 abbrev pub indexWith : ℕ → ℤ → ℕ
 indexWith index delta = upTo 127 (pos index +ℤ delta)
 
--- 155 over 100 of a step, at least 8
+-- 155 over 100 of a step, at least 8 (source 20.4, 8057-8061)
 abbrev pub secondAc : ℕ → ℕ
 secondAc step = max (step * 155 / 100) 8
 
--- the six factors: five are moved by a delta of their own
+-- the six factors: five are moved by a delta of their own; doubling, 155 / 100, 8 and 132 stand in the source alone (20.4, 8047-8072)
 unfoldable pub factorsOf : List ℤ → ℕ → Factors
 factorsOf h segment =
     let i = indexOf h segment in

@@ -26,12 +26,12 @@ readsMade first tokens = record { first = first; tokens = tokens }
 abbrev pub noReads : SymbolCounts
 noReads = readsMade 0 0
 
--- the symbols of its coefficients (RFC 6386, section 13), its modes being m; none where these ran out
+-- the symbols of its coefficients (RFC 6386, section 19.3, 7316-7352), its modes being m; none where these ran out
 abbrev pub macroblockTokenReads : (tokens : List ℕ) → Reader → Frame → (table : List ℕ) → Around → Given Macroblock → ℕ
 macroblockTokenReads tokens t f table around (given m next) = count (residualOf table (factorsAt f (m .segment)) (m .small) (m .skip) (around .top .flags) (around .left .flags)) tokens t
 macroblockTokenReads tokens t f table around missing = 0
 
--- with those of its modes (section 19.3)
+-- with those of its modes (section 19.3, 7239-7272)
 unfoldable pub readsOf : (first tokens : List ℕ) → Readers → Frame → (table : List ℕ) → Around → SymbolCounts
 readsOf first tokens readers f table around =
     let modes = modesOf (f .announced) (around .top .modes) (around .left .modes) in

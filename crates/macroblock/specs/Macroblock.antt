@@ -65,7 +65,7 @@ paintedPlanes place m c p =
       v = squarePainted (p .v) (w / 2) (x * 8) (y * 8) 8 false (m .chroma) (m .modes) (take 64 (drop 320 c));
     }
 
--- its strengths: the inner edges are filtered where the modes are small or something was coded
+-- its strengths: the inner edges are filtered where the modes are small or something was coded (RFC 6386, section 15.1, 4785-4790)
 abbrev pub strengthMade : Frame → Macroblock → (empty : Bool) → Strength
 strengthMade f m empty = strengthOf (levelAt f (m .small) (m .segment)) (f .sharp) (m .small || not empty)
 

@@ -1,5 +1,5 @@
--- A macroblock from its modes alone (request M-108): for where its tokens are lost. Its modes are read as ever (RFC 6386, section 19.3), it is
--- predicted from them (section 12) with no residual, and it counts as empty; no token is read.
+-- A macroblock from its modes alone (request M-108): for where its tokens are lost. Its modes are read as ever (RFC 6386, section 19.3,
+-- 7239-7272), it is predicted from them (section 12) with no residual, and it counts as empty; no token is read.
 use Prim.Native.Nat.{ℕ}
 use mathlib.Core.Bool.{Bool, true, false, _&&_}
 use mathlib.Core.List.{List}

@@ -6,7 +6,7 @@ use lib.ListN.{length, replicate}
 use Rattle.modes.specs.declared.contexts.Context.{Context}
 use Rattle.modes.specs.Answers.{eachBelow}
 
--- outside the picture: every mode DC, no coefficients
+-- outside the picture: every mode DC (RFC 6386, section 11.3, 2490-2493), no coefficients (section 13.3, 3608-3612)
 abbrev pub emptyContext : Context
 emptyContext = record { modes = replicate 4 0; flags = replicate 9 0 }
 

@@ -20,8 +20,8 @@ modesReads s a r above left = elim (validOf s r && contextsOf above left) [ true
 abbrev pub prefixReads : Announced → ℕ
 prefixReads a = bitOf (a .map) + bitOf (a .map) + bitOf (a .skips) + 1
 
--- how deep each mode stands in its tree (RFC 6386, sections 11.2 to 11.4): a large luma mode two symbols below that one; the chroma
--- modes DC, TM, V, H; the small modes DC, TM, VE, HE, RD, VR, LD, VL, HD, HU
+-- how deep each mode stands in its tree (RFC 6386, sections 11.2, 2375-2455, and 11.4, 2563-2570): a large luma mode two symbols below that
+-- one; the chroma modes DC, TM, V, H; the small modes DC, TM, VE, HE, RD, VR, LD, VL, HD, HU
 abbrev pub largeReads : Bool → ℕ → ℕ
 largeReads false mode = 2
 largeReads true mode = getD (1 ∷ 3 ∷ 2 ∷ 3 ∷ []) mode 0

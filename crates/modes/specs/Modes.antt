@@ -1,4 +1,4 @@
--- The modes of a macroblock as grammars, in the order of RFC 6386, section 19.3. Large modes are 0 DC, 1 TM, 2 V, 3 H; small modes
+-- The modes of a macroblock as grammars, in the order of RFC 6386, section 19.3, 7239-7272. Large modes are 0 DC, 1 TM, 2 V, 3 H; small modes
 -- 0 DC, 1 TM, 2 VE, 3 HE, 4 RD, 5 VR, 6 LD, 7 VL, 8 HD, 9 HU. So a large mode is also the small mode that its neighbours see.
 use Prim.Native.Nat.{ℕ, zero, suc, _+_, _-_, _/_, _%_}
 use mathlib.Core.List.{List, [], _∷_}
@@ -13,19 +13,19 @@ use Rattle.modes.specs.declared.answers.Prefix.{Prefix}
 use Rattle.modes.specs.Table.{probabilities}
 
 -- ---- the trees: node i is entries 2i and 2i + 1, each a node or a leaf, which is a mode
--- mb_segment_tree (section 10)
+-- mb_segment_tree (section 10, 2305-2310)
 abbrev pub segTree : List ℤ
 segTree = node 1 ∷ node 2 ∷ leaf 0 ∷ leaf 1 ∷ leaf 2 ∷ leaf 3 ∷ []
 
--- kf_ymode_tree below its root, which asks whether the modes are small (section 11.2): DC or V, H or TM
+-- kf_ymode_tree below its root, which asks whether the modes are small (section 11.2, 2375-2383): DC or V, H or TM
 abbrev pub yTree : List ℤ
 yTree = node 1 ∷ node 2 ∷ leaf 0 ∷ leaf 2 ∷ leaf 3 ∷ leaf 1 ∷ []
 
--- uv_mode_tree (section 11.4): DC, V, H or TM
+-- uv_mode_tree (section 11.4, 2563-2570): DC, V, H or TM
 abbrev pub uvTree : List ℤ
 uvTree = leaf 0 ∷ node 1 ∷ leaf 2 ∷ node 2 ∷ leaf 3 ∷ leaf 1 ∷ []
 
--- bmode_tree (section 11.2): DC, TM, VE; then HE, RD, VR or LD, VL, HD, HU
+-- bmode_tree (section 11.2, 2442-2455): DC, TM, VE; then HE, RD, VR or LD, VL, HD, HU
 abbrev pub bTree : List ℤ
 bTree =
     leaf 0 ∷ node 1 ∷ leaf 1 ∷ node 2 ∷ leaf 2 ∷ node 3 ∷ node 4 ∷ node 6 ∷ leaf 3 ∷ node 5 ∷ leaf 4 ∷ leaf 5 ∷ leaf 6 ∷ node 7
@@ -41,15 +41,15 @@ optional true a m = m
 optional false a m = done a
 
 -- ---- before the modes
--- segment_id: read where the frame has a map
+-- segment_id: read where the frame has a map (section 10, 2289-2293)
 unfoldable pub segment : Announced → Reading ℕ
 segment a = optional (a .map) 0 (tree (a .«map_probabilities») segTree)
 
--- mb_skip_coeff: read where the frame has the flag
+-- mb_skip_coeff: read where the frame has the flag (section 11.1, 2331-2333)
 unfoldable pub skip : Announced → Reading Bool
 skip a = optional (a .skips) false (symbol (a .«skip_probability»))
 
--- kf_ymode_tree's root: 0 where the modes are small (B_PRED)
+-- kf_ymode_tree's root: 0 where the modes are small (B_PRED; 2377, kf_ymode_prob 2392)
 unfoldable pub prefix : Announced → Reading Prefix
 prefix a = do
   segment ← segment a
@@ -58,12 +58,12 @@ prefix a = do
   done (record { segment = segment; skip = skip; small = not large })
 
 -- ---- the modes
--- the luma mode of a macroblock that is not small, kf_ymode_prob; or its chroma mode, kf_uv_mode_prob
+-- the luma mode of a macroblock that is not small, kf_ymode_prob (2392); or its chroma mode, kf_uv_mode_prob (2588)
 abbrev pub largeMode : Bool → Reading ℕ
 largeMode false = tree (156 ∷ 163 ∷ 128 ∷ []) yTree
 largeMode true = tree (142 ∷ 114 ∷ 183 ∷ []) uvTree
 
--- a small mode, by the modes above it and left of it (sub_mb_mode)
+-- a small mode, by the modes above it and left of it (intra_b_mode; section 11.3, 2534-2549)
 abbrev pub blockMode : ℕ → ℕ → Reading ℕ
 blockMode above left = tree (probabilities above left) bTree
 
@@ -105,7 +105,7 @@ pub record Macroblock : Type 0 where
   pub modes : List ℕ
   pub chroma : ℕ
 
--- the order of section 19.3: what stands before the modes, luma, chroma
+-- the order of section 19.3, 7241-7271: what stands before the modes, luma, chroma
 unfoldable pub modesOf : Announced → List ℕ → List ℕ → Reading Macroblock
 modesOf a above left = do
   p ← prefix a
@@ -113,7 +113,7 @@ modesOf a above left = do
   chroma ← largeMode true
   done (record { segment = p .segment; skip = p .skip; small = p .small; modes = modes; chroma = chroma })
 
--- ---- what a macroblock leaves to its neighbours: its last row to the one below, its last column to the one at its right
+-- ---- what a macroblock leaves to its neighbours (section 11.3, 2498-2508): its last row to the one below, its last column to the one at its right
 abbrev pub bottomOf : List ℕ → List ℕ
 bottomOf modes = getD modes 12 0 ∷ getD modes 13 0 ∷ getD modes 14 0 ∷ getD modes 15 0 ∷ []
 

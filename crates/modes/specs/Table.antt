@@ -1,12 +1,12 @@
--- The probabilities of the small modes (RFC 6386, section 11.5, kf_bmode_probs), in the RFC's own order: B_DC_PRED, B_TM_PRED,
+-- The probabilities of the small modes (RFC 6386, section 11.5, 2607-2763, kf_bmode_prob), in the RFC's own order: B_DC_PRED, B_TM_PRED,
 -- B_VE_PRED, B_HE_PRED, B_LD_PRED, B_RD_PRED, B_VR_PRED, B_VL_PRED, B_HD_PRED, B_HU_PRED, by the mode above, then by the mode to
 -- the left, one line for each pair.
 use Prim.Native.Nat.{ℕ, _+_, _*_, _/_, _%_}
 use mathlib.Core.List.{List, [], _∷_}
 use lib.ListN.{getD, take, drop}
 
--- The RFC's numbers of the modes. Here modes are 0 DC, 1 TM, 2 VE, 3 HE, 4 RD, 5 VR, 6 LD, 7 VL, 8 HD, 9 HU; the RFC has LD as 4,
--- RD as 5 and VR as 6.
+-- The RFC's numbers of the modes (intra_bmode, section 11.2, 2417-2438). Here modes are 0 DC, 1 TM, 2 VE, 3 HE, 4 RD, 5 VR, 6 LD, 7 VL, 8
+-- HD, 9 HU; the RFC has LD as 4, RD as 5 and VR as 6.
 abbrev pub rfcNumbers : List ℕ
 rfcNumbers = 0 ∷ 1 ∷ 2 ∷ 3 ∷ 5 ∷ 6 ∷ 4 ∷ 7 ∷ 8 ∷ 9 ∷ []
 
@@ -18,7 +18,7 @@ rfcOf mode = getD rfcNumbers mode 0
 abbrev pub rfcPlace : ℕ → ℕ
 rfcPlace i = (rfcOf (i / 90) * 10 + rfcOf (i / 9 % 10)) * 9 + i % 9
 
--- kf_bmode_probs, the RFC's table
+-- kf_bmode_prob, the RFC's table
 unfoldable pub rfcTable : List ℕ
 rfcTable =
     -- above DC

@@ -1,5 +1,5 @@
--- A number taken into a range: samples 0..255 (RFC 6386 section 14.5), signed bytes (section 15.2), quantizer indices 0..127 (section 9.6)
--- and filter levels 0..63 (sections 9.4 and 15).
+-- A number taken into a range: samples 0..255 (RFC 6386, section 14.5, 4625-4629), signed bytes (section 15.2, 4861-4864), quantizer indices 0..127
+-- (source 20.4, 7996-8003) and filter levels 0..63 (source 20.6, 9177-9180 and 9209-9212).
 use mathlib.Core.Bool.{cond}
 use Prim.Native.Nat.{ℕ}
 use lib.IntN.{ℤ, pos, negsuc, natAbs}
@@ -13,7 +13,7 @@ clampZ lo hi v = cond (ltZ v lo) lo (cond (ltZ hi v) hi v)
 unfoldable pub upTo : (top : ℕ) (v : ℤ) → ℕ
 upTo top v = natAbs (clampZ (pos 0) (pos top) v)
 
--- v as a sample, 0..255: section 14.5
+-- v as a sample, 0..255: clamp255 of section 14.5, 4628
 abbrev pub clipZ : ℤ → ℕ
 clipZ v = upTo 255 v
 
@@ -21,6 +21,6 @@ clipZ v = upTo 255 v
 abbrev pub signedTo : (top : ℕ) (v : ℤ) → ℤ
 signedTo top v = clampZ (negsuc top) (pos top) v
 
--- v as a signed byte, -128..127: `c` of section 15.2
+-- v as a signed byte, -128..127: `c` of section 15.2, 4861-4864
 abbrev pub signedByteZ : ℤ → ℤ
 signedByteZ v = signedTo 127 v

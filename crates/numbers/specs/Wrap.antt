@@ -1,4 +1,5 @@
--- A number taken into 16 bits by wrapping: dequantized coefficients (RFC 6386 section 14.1) and the Walsh transform's results (section 14.3).
+-- A number taken into 16 bits by wrapping: dequantized coefficients (RFC 6386, section 14.1, 4268-4269) and the Walsh transform's results
+-- (section 14.3, 4350-4353).
 use mathlib.Core.Bool.{cond, _&&_}
 use Prim.Native.Nat.{ℕ}
 use lib.IntN.{ℤ, pos, negsuc, _+ℤ_, _-ℤ_, _*ℤ_}

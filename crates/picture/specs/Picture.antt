@@ -72,7 +72,8 @@ startOf bytes t m = record { reader = t .reader; readers = readersOf bytes t; le
 abbrev pub begunOf : Call → Memory → State
 begunOf c m = startOf (c .bytes) (c .tile) (blankOf m)
 
--- ---- macroblock k, in raster order (RFC 6386, section 2): its place, and the token partition that its row reads (section 9.5)
+-- ---- macroblock k, in raster order (RFC 6386, section 2, 269 and 300): its place, and the token partition that its row reads (source 20.4,
+-- 8183-8196)
 abbrev pub columnOf : Picture → ℕ → ℕ
 columnOf P k = k % P .wide
 
@@ -84,7 +85,7 @@ rowOf P k = k / P .wide
 abbrev pub partitionOf : Picture → ℕ → ℕ
 partitionOf P k = pickOf (rowOf P k) (P .count)
 
--- at column 0 nothing lies to the left: DC modes (section 11.3) and no coefficients (section 13.3)
+-- at column 0 nothing lies to the left: DC modes (section 11.3, 2490-2493) and no coefficients (section 13.3, 3608-3612)
 unfoldable pub besideOf : ℕ → Context → Context
 besideOf column left = elim (eqb column 0) [ true ↦ emptyContext | false ↦ left ]
 
@@ -147,7 +148,7 @@ stoppedOf F.NoModes k = D.NoModes k
 stoppedOf F.NoTokens k = D.NoTokens k
 stoppedOf F.Refused k = D.Refused 9
 
--- n macroblocks from number k on (modes section 19.3, tokens section 13), until one is refused: modes that run out (6), tokens that run
+-- n macroblocks from number k on (modes section 19.3, 7239-7272, tokens 7316-7352), until one is refused: modes that run out (6), tokens that run
 -- out (7)
 unfoldable pub runOf : ℕ → Picture → ℕ → State → Ended
 runOf zero P k S = record { answer = D.Whole k; mem = S .mem }

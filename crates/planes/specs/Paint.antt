@@ -1,5 +1,5 @@
--- Painting a macroblock's square into a plane: RFC 6386 section 12 (what a square or a sub-block is predicted from, and in which order)
--- and section 14.5 (the residual is added). A plane is a list of samples, w to a row: the sample at column x of row y is its element
+-- Painting a macroblock's square into a plane: RFC 6386, section 12 (what a square or a sub-block is predicted from, and in which order)
+-- and section 14.5, 4619-4629 (the residual is added). A plane is a list of samples, w to a row: the sample at column x of row y is its element
 -- y * w + x.
 use Prim.Native.Nat.{ℕ, zero, suc, _+_, _*_, _/_, _%_}
 use mathlib.Core.Bool.{Bool, true, false, cond, _&&_, _||_}
@@ -22,7 +22,7 @@ use Rattle.planes.specs.Predict.{smallBlock, dcOf, largeOf}
 abbrev pub sampleAt : List ℕ → (w x y : ℕ) → ℕ
 sampleAt p w x y = getD p (y * w + x) 0
 
--- ---- what lies around: the plane with a row of 127 above it, the corner too, and a column of 129 left of it
+-- ---- what lies around: the plane with a row of 127 above it, the corner too, and a column of 129 left of it (section 12, 2789-2796)
 -- the sample at column x of row y of that, so both are counted from 1 in the plane
 unfoldable pub nearOf : List ℕ → (w x y : ℕ) → ℕ
 nearOf p w x zero = 127
@@ -36,7 +36,7 @@ fourAbove p w x y = nearOf p w (x + 1) y ∷ nearOf p w (x + 2) y ∷ nearOf p w
 unfoldable pub fourLeft : List ℕ → (w x y : ℕ) → List ℕ
 fourLeft p w x y = nearOf p w x (y + 1) ∷ nearOf p w x (y + 2) ∷ nearOf p w x (y + 3) ∷ nearOf p w x (y + 4) ∷ []
 
--- ---- section 12.2: around the square of n by n at column x, row y. The edge's lists have sixteen places, zero past the first n
+-- ---- section 12.2, 2829-2834: around the square of n by n at column x, row y. The edge's lists have sixteen places, zero past the first n
 unfoldable pub firstPlaces : (n : ℕ) → (ℕ → ℕ) → List ℕ
 firstPlaces n f = placed (replicate 16 0) 0 f n
 
@@ -58,13 +58,13 @@ edgeOf p w x y n = record {
   «left_inside» = ltb 0 x;
 }
 
--- ---- section 12.3: around the sub-block at column x, row y
+-- ---- section 12.3, 3035-3068: around the sub-block at column x, row y
 -- above and right of the macroblock at column x, row y: 127 on row 0, as all above; at the right edge of the plane the last sample above,
--- four times
+-- four times (3064-3068)
 unfoldable pub aboveRight : List ℕ → (w x y : ℕ) → List ℕ
 aboveRight p w x y = cond (eqb (x + 16) w) (replicate 4 (nearOf p w w y)) (fourAbove p w (x + 16) y)
 
--- above and right of a sub-block: in the macroblock's last column, of every row, those of the macroblock
+-- above and right of a sub-block: in the macroblock's last column, of every row, those of the macroblock (3057-3064)
 unfoldable pub blockAboveRight : List ℕ → (w x y : ℕ) (last : Bool) (right : List ℕ) → List ℕ
 blockAboveRight p w x y last right = cond last right (fourAbove p w (x + 4) y)
 
@@ -86,7 +86,7 @@ rowsPainted p w x y b (suc j) = copied (rowsPainted p w x y b j) ((y + j) * w + 
 abbrev pub painted : List ℕ → (w x y : ℕ) → List ℕ → List ℕ
 painted p w x y b = rowsPainted p w x y b 4
 
--- the coefficients of sub-block i, and its residual (section 14.4)
+-- the coefficients of sub-block i, and its residual (section 14.4, 4543-4610)
 unfoldable pub blockCoefficients : List ℤ → ℕ → List ℤ
 blockCoefficients c i = take 16 (drop (16 * i) c)
 
@@ -94,7 +94,7 @@ blockCoefficients c i = take 16 (drop (16 * i) c)
 unfoldable pub blockResidual : List ℤ → ℕ → List ℤ
 blockResidual c i = samplesOf false (blockCoefficients c i)
 
--- section 14.5: predicted and residual, summed
+-- section 14.5, 4623-4629: predicted and residual, summed
 unfoldable pub summedOf : List ℕ → List ℤ → List ℕ
 summedOf pred res = build 16 (λ k. clipZ (pos (getD pred k 0) +ℤ getD res k (pos 0)))
 

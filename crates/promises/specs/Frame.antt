@@ -1,4 +1,4 @@
--- The key frame's own header (RFC 6386, sections 9 and 19.2): what is taken of a frame, the picture call never refuses. `takenOf` is the
+-- The key frame's own header (RFC 6386, sections 9 and 19.2, 6806-6854): what is taken of a frame, the picture call never refuses. `takenOf` is the
 -- definition that the contract of `take` equals (crates/frame/specs/Take.antt).
 use Prim.Native.Nat.{ℕ}
 use mathlib.Core.Path.{_≡_, refl, sym}

@@ -17,11 +17,11 @@ pub data Reached (P : Picture) (S₀ : State) : ℕ → State → Type 0 where
   start : Reached P S₀ 0 S₀
   after : {k : ℕ} {S : State} {x : Finished} → Reached P S₀ k S → stepAt P k S ≡ finished x → Reached P S₀ (suc k) (nextOf P k S x)
 
--- what macroblock k asks of the first partition: its modes (RFC 6386 section 19.3); `missing` where it asks for a byte that is not there
+-- what macroblock k asks of the first partition: its modes (RFC 6386, section 19.3, 7239-7272); `missing` where it asks for a byte that is not there
 abbrev pub modesAsked : Picture → ℕ → State → Given Macroblock
 modesAsked P k S = let a = aroundAt P S (columnOf P k) in run (modesOf (P .frame .announced) (a .top .modes) (a .left .modes)) (P .first) (S .reader)
 
--- what macroblock k, its modes being m, asks of its row's token partition: its coefficients (section 13)
+-- what macroblock k, its modes being m, asks of its row's token partition: its coefficients (7316-7352)
 abbrev pub tokensAsked : Picture → ℕ → State → Macroblock → Given Model
 tokensAsked P k S m =
     let a = aroundAt P S (columnOf P k) in

@@ -1,4 +1,5 @@
--- The boolean decoder (RFC 6386, section 7.3): what a symbol is, where a byte is missing, which readers are in range.
+-- The boolean decoder (RFC 6386, section 7.3, 1239-1313; in words 7.2, 1071-1097): what a symbol is, where a byte is missing, which readers
+-- are in range.
 use Prim.Native.Nat.{ℕ, zero, suc, _+_, _-_, _*_, _/_, _%_, _^_, _≤_, _<_}
 use mathlib.Core.Path.{_≡_}
 use mathlib.Core.List.{List}
@@ -16,16 +17,16 @@ pub data Given (A : Type 0) : Type 0 where
   missing : Given A
 
 -- ---- one symbol
--- split = 1 + (((range - 1) * probability) >> 8)
+-- split = 1 + (((range - 1) * probability) >> 8) (section 7.3, 1279)
 unfoldable pub splitOf : ℕ → ℕ → ℕ
 splitOf range prob = 1 + (range - 1) * prob / 256
 
--- a one takes the range less the split, and 256 * split off the window; a zero takes the split, and leaves the window
+-- a one takes the range less the split, and 256 * split off the window; a zero takes the split, and leaves the window (1295-1302)
 abbrev pub chosenOf : Reader → ℕ → Bool → Reader
 chosenOf r split true = record { at = r .at; range = r .range - split; shifts = r .shifts; window = r .window - 256 * split }
 chosenOf r split false = record { at = r .at; range = split; shifts = r .shifts; window = r .window }
 
--- a shift: range and window double, the window keeping its low sixteen bits
+-- a shift: range and window double (1305-1306), the window keeping its low sixteen bits; the RFC's has more (docs/DIFFERENCES.md)
 abbrev pub shifted : Reader → Reader
 shifted r = record { at = r .at; range = r .range * 2; shifts = r .shifts + 1; window = r .window * 2 % 65536 }
 
@@ -33,7 +34,7 @@ shifted r = record { at = r .at; range = r .range * 2; shifts = r .shifts + 1; w
 abbrev pub loaded : ℕ → Reader → Reader
 loaded b r = record { at = r .at + 1; range = r .range * 2; shifts = 0; window = r .window * 2 % 65536 + b }
 
--- while the range is below 128, shift; each eighth shift loads the next byte, which past the end is zero.
+-- while the range is below 128, shift; each eighth shift loads the next byte (1304-1311), which past the end is zero (20.2, 7534-7538).
 -- At most n shifts: seven suffice, since a range is at least 1 (`grow-enough`).
 unfoldable pub grow : ℕ → List ℕ → Reader → Reader
 grow zero s r = r
@@ -60,7 +61,7 @@ symbolOf s r prob =
       ]
     ]
 
--- ---- a partition is opened with two bytes, zero past its end, and range 255; one byte or none may be opened
+-- ---- init_bool_decoder (1255-1268): two bytes, zero past its end, and range 255; one byte or none may be opened
 abbrev pub firstReader : List ℕ → Reader
 firstReader s = record { at = 2; range = 255; shifts = 0; window = getD s 0 0 * 256 + getD s 1 0 }
 

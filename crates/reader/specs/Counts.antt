@@ -35,7 +35,7 @@ pub data Costs {A : Type 0} (reads : A → ℕ) : ℕ → Reading A → Type 0 w
   asks : {n p : ℕ} {k : Bool → Reading A} → ((b : Bool) → Costs reads (suc n) (k b)) → Costs reads n (ask p k)
 
 -- ---- a token's symbols, by the token
--- how deep each of the twelve stands in coeff_tree (RFC 6386, section 13.2)
+-- how deep each of the twelve stands in coeff_tree (RFC 6386, section 13.2, 3423-3439)
 abbrev pub tokenDepths : List ℕ
 tokenDepths = 1 ∷ 2 ∷ 3 ∷ 5 ∷ 6 ∷ 6 ∷ 6 ∷ 6 ∷ 7 ∷ 7 ∷ 7 ∷ 7 ∷ []
 

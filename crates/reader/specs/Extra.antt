@@ -1,4 +1,4 @@
--- A number of several bits, most significant first (RFC 6386, section 8 read_literal, section 13.2 DCTextra), as a grammar.
+-- A number of several bits, most significant first (RFC 6386, section 7.3 read_literal, 1319-1326; section 13.2 DCTextra, 3481-3486), as a grammar.
 use Prim.Native.Nat.{ℕ, _+_}
 use mathlib.Core.List.{List, [], _∷_}
 use mathlib.Core.Bool.{Bool, true, false, _&&_}

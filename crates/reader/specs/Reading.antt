@@ -17,7 +17,7 @@ abbrev pub _>>=_ : {A B : Type 0} → Reading A → (A → Reading B) → Readin
 done a >>= f = f a
 ask p k >>= f = ask p (λ b. k b >>= f)
 
--- one symbol: the RFC's read_bool at a probability (section 7.3), B(p) in its tables
+-- one symbol: the RFC's read_bool at a probability (section 7.3, 1270-1313), B(p) in its tables (section 8, 1366)
 abbrev pub symbol : ℕ → Reading Bool
 symbol p = ask p done
 

@@ -1,4 +1,4 @@
--- One token of a block (RFC 6386, section 13.2): coeff_tree and its walk.
+-- One token of a block (RFC 6386, section 13.2, 3393-3446): coeff_tree and its walk.
 use Prim.Native.Nat.{ℕ, _+_}
 use mathlib.Core.Bool.{Bool, true, false, _&&_}
 use mathlib.Core.List.{List, [], _∷_}
@@ -12,8 +12,8 @@ use Rattle.reader.specs.declared.boolean.Reader.{Reader}
 use Rattle.reader.specs.declared.token.Token.{Token}
 use Rattle.reader.specs.declared.token.Token.the-variants as T
 
--- 0 ends the block, 1 is a zero, 2..5 are one to four, 6..11 the six categories. The RFC's coeff_tree, two entries a node: positive
--- names a node, zero or less a token.
+-- 0 ends the block, 1 is a zero, 2..5 are one to four, 6..11 the six categories: the RFC's numbers (3397-3410: DCT_0 is 0, dct_eob 11) are
+-- one less, but for the end. Its coeff_tree (3423-3439), two entries a node: positive names a node, zero or less a token.
 abbrev pub tokenTree : List ℤ
 tokenTree =
     leaf 0 ∷ node 1  -- node 0: the end
@@ -29,7 +29,7 @@ tokenTree =
     ∷ leaf 10 ∷ leaf 11  -- 10: categories 5, 6
     ∷ []
 
--- a block never ends after a zero: there the walk starts at node 1
+-- a block never ends after a zero: there the walk starts at node 1 (3443-3446)
 abbrev pub tokenStart : Bool → ℕ
 tokenStart true = 1
 tokenStart false = 0

@@ -1,4 +1,4 @@
--- Trees of symbols (RFC 6386, section 8.1), as grammars.
+-- Trees of symbols (RFC 6386, section 8.1, 1482-1494), as grammars.
 use Prim.Native.Nat.{ℕ, zero, suc, _+_, _/_, _≤_, _<_}
 use mathlib.Core.Path.{_≡_}
 use mathlib.Core.List.{List}
@@ -44,7 +44,7 @@ branchAt t i b = branchOf (getD t (atOf i b) (pos 0))
 abbrev pub nodesOf : List ℤ → ℕ
 nodesOf t = length t / 2
 
--- the RFC's treed_read: a symbol at the node's probability, then on from where it leads
+-- the RFC's treed_read (1529-1541): a symbol at the node's probability, then on from where it leads
 unfoldable pub step : List ℕ → List ℤ → ℕ → Reading Branch
 step ps t i = do
   b ← symbol (getD ps i 0)

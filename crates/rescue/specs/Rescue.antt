@@ -46,7 +46,7 @@ pub record Saved : Type 0 where
 abbrev pub savedAt : ℕ → Memory → Saved
 savedAt count mem = record { count = count; mem = mem }
 
--- n macroblocks from number k on, each from its modes (RFC 6386, section 19.3), until these run out
+-- n macroblocks from number k on, each from its modes (RFC 6386, section 19.3, 7239-7272), until these run out
 unfoldable pub restOf : ℕ → Picture → ℕ → State → Saved
 restOf zero P k S = savedAt k (S .mem)
 restOf (suc n) P k S =

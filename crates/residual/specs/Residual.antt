@@ -1,5 +1,5 @@
--- The residual of a macroblock (RFC 6386, section 13), as a grammar: the coefficients of its blocks, and the flags that they leave behind
--- for the macroblocks below and to the right.
+-- The residual of a macroblock (RFC 6386, sections 13, 3338-3348, and 19.3, 7316-7324), as a grammar: the coefficients of its blocks, and
+-- the flags that they leave behind for the macroblocks below and to the right.
 use Prim.Native.Nat.{ℕ, zero, suc, _+_, _-_, _*_, _/_, _%_, _≤_}
 use mathlib.Core.Bool.{Bool, true, false, _&&_}
 use mathlib.Core.List.{List}
@@ -53,7 +53,7 @@ pub record ModelInRange (m : Model) : Type 0 where
 abbrev pub initial : (top left : List ℕ) → Model
 initial top left = record { top = top; left = left; coefficients = replicate 384 (pos 0); empty = true }
 
--- ---- where a block's flags are (section 13.3): its column's above, its row's to the left
+-- ---- where a block's flags are (section 13.3, 3573-3582 and 3614-3626): its column's above, its row's to the left
 unfoldable pub coordinates : (i : ℕ) → FlagsAt
 coordinates i =
     elim (ltb i 16) [
@@ -61,7 +61,7 @@ coordinates i =
       | false ↦ let base = 4 + (i - 16) / 4 * 2 in record { x = base + i % 2; y = base + i % 4 / 2 }
     ]
 
--- ---- what a block's tokens go by (section 13.3): the kind of its probabilities, its first position, its factors
+-- ---- what a block's tokens go by (section 13.3, 3535-3549): the kind of its probabilities, its first position, its factors
 -- the second-order block, Y2
 abbrev pub secondKind : Factors → Kind
 secondKind f = record { kind = 1; first = 0; q0 = f .y2dc; q1 = f .y2ac }
@@ -84,13 +84,14 @@ kindOf f small i =
 abbrev pub coded : (table : List ℕ) → Kind → FlagsAt → (top left : List ℕ) → (old : List ℤ) → Reading Coefficients
 coded table k p top left old = block table (k .kind) (k .q0) (k .q1) (getD top (p .x) 0 + getD left (p .y) 0) (k .first) old
 
--- after it both flags are 1 where it ended past its first position
+-- after it both flags are 1 where it ended past its first position (source 20.16, 13289-13292; section 13.3, 3576, asks for a non-zero number)
 abbrev pub flagged : Kind → FlagsAt → (end : ℕ) → (coefficients : List ℤ) → (empty : Bool) → Model → Model
 flagged k p end coefficients empty m =
     let flag = bitOf (ltb (k .first) end) in
     record { top = set (m .top) (p .x) flag; left = set (m .left) (p .y) flag; coefficients = coefficients; empty = empty }
 
--- ---- the second-order block, from sixteen zeros: its inverse Walsh transform gives the first coefficient of each luma block
+-- ---- the second-order block, from sixteen zeros: its inverse Walsh transform gives the first coefficient of each luma block (section 14.2,
+-- 4321-4325: the result at row i, column j goes to block 4i + j)
 -- the first n numbers of dc, each at the start of its block
 unfoldable pub spread : (l dc : List ℤ) → (n : ℕ) → List ℤ
 spread l dc zero = l
@@ -137,7 +138,8 @@ abbrev pub dcStage : (table : List ℕ) → Factors → (small : Bool) → Model
 dcStage table f true m = done m
 dcStage table f false m = second table f m
 
--- a macroblock that is skipped has no coefficients, and clears its flags; that of the second-order block stays where it has none
+-- a macroblock that is skipped has no coefficients (section 13.1, 3374-3376), and clears its flags; that of the second-order block stays where it
+-- has none (section 13.3, 3577-3582)
 abbrev pub cleared : (small : Bool) → (flags : List ℕ) → List ℕ
 cleared true flags = set (replicate 9 0) 8 (getD flags 8 0)
 cleared false flags = replicate 9 0

@@ -27,7 +27,8 @@ spanAt t i = elim (ltb i 8) [ true ↦ getD (t .tokens) i noSpan | false ↦ noS
 abbrev pub tokenContents : List ℕ → Tile → ℕ → List ℕ
 tokenContents bytes t i = contentsOf bytes (spanAt t i)
 
--- a row reads the token partition of its number modulo the count (RFC 6386, section 9.5)
+-- a row reads the token partition of its number modulo the count (RFC 6386: no prose says it; source 20.4,
+-- 8183-8196)
 unfoldable pub pickOf : (row count : ℕ) → ℕ
 pickOf row count = elim (eqb count 0) [ true ↦ 0 | false ↦ row % count ]
 

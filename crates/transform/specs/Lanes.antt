@@ -1,4 +1,4 @@
--- Several blocks of sixteen numbers at once: how they stand side by side, and the residuals of 8 or 16 of them (RFC 6386 section 14.4).
+-- Several blocks of sixteen numbers at once: how they stand side by side, and the residuals of 8 or 16 of them (RFC 6386, section 14.4, 4543-4610).
 use mathlib.Core.Bool.{Bool, true, false, cond, _||_}
 use mathlib.Core.List.{List, _++_}
 use Prim.Native.Nat.{ℕ, zero, suc, _+_, _*_, _/_, _%_}

@@ -1,5 +1,6 @@
--- The inverse transforms of a block of 4 by 4 coefficients: RFC 6386 section 14.3 (Walsh-Hadamard, for Y2) and section 14.4 (DCT). A flag
--- `walsh` says which. Every division rounds down, and nothing on the way is cut to a width.
+-- The inverse transforms of a block of 4 by 4 coefficients: RFC 6386, section 14.3, 4377-4439 (Walsh-Hadamard, for Y2) and section 14.4,
+-- 4543-4610 (DCT). A flag `walsh` says which. Every division rounds down, and nothing on the way is cut to a width; the RFC keeps 16 bits
+-- between the passes (4350-4353, 4507-4510; docs/DIFFERENCES.md).
 use mathlib.Core.Bool.{Bool, true, false, cond, _&&_}
 use mathlib.Core.List.{List, [], _∷_}
 use Prim.Native.Nat.{ℕ, _+_, _*_, _/_, _%_}
@@ -49,7 +50,7 @@ unfoldable pub scaledOf : (k x : ℤ) → ℤ
 scaledOf k x = shrZ (k *ℤ x) 65536
 
 -- Both with the RFC's names. `bias` is what the second pass adds for rounding; the RFC adds it to each of the four results. Section 14.3
--- stands first. Section 14.4's multipliers are sinpi8sqrt2 = 35468 and cospi8sqrt2minus1 = 20091.
+-- stands first. Section 14.4's multipliers are sinpi8sqrt2 = 35468 and cospi8sqrt2minus1 = 20091 (4546-4547).
 unfoldable pub passOf : (walsh : Bool) (bias a b c d : ℤ) → List ℤ
 passOf true bias a b c d =
     let a1 = a +ℤ d +ℤ bias in

@@ -1,4 +1,4 @@
--- The segment tree (RFC 6386, section 9.3), and what its last nodes give.
+-- The segment tree (RFC 6386, section 10, 2305-2310), and what its last nodes give.
 use Prim.Native.Nat.{ℕ, suc, _≤_}
 use mathlib.Core.Path.{_≡_, refl, _∙_, ap}
 use mathlib.Core.List.{List, [], _∷_}

@@ -14,7 +14,7 @@ ghost use Rattle.reader.specs.Reading.{symbol, run};
 ghost use Rattle.reader.specs.Trees.{walkOf};
 ghost use Rattle.try_counted.specs.Segment.{segmentTree, lastOf};
 
-// The segment tree (RFC 6386, section 9.3).
+// The segment tree (RFC 6386, section 10).
 const TREE: [i16; 6] = [1, 2, 0, -1, -2, -3];
 
 // The probabilities of its three nodes.

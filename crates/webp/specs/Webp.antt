@@ -10,7 +10,7 @@ use Rattle.webp.specs.declared.write.Wrapped.{Wrapped}
 use Rattle.webp.specs.declared.read.Found.the-variants as F
 use Rattle.webp.specs.declared.write.Wrapped.the-variants as W
 
--- ---- 2.3 RIFF file format
+-- ---- terminology and basics, before 2.3 RIFF file format: uint32, FourCC; then 2.3, the chunk
 -- uint32: a 32-bit, little-endian, unsigned integer
 abbrev pub byteAt : List ℕ → ℕ → ℕ
 byteAt s i = getD s i 0

@@ -1,5 +1,5 @@
--- The boolean decoder of RFC 6386, section 7.3, with a window of 64 bits: what its calls give, for every input. Arithmetic wraps as the code's
--- does. `top` is the RFC's range less one; the RFC's value is the top of `value`, its bit_count stands in `count`.
+-- The boolean decoder of RFC 6386, section 7.3, 1239-1313, with a window of 64 bits: what its calls give, for every input. Arithmetic wraps
+-- as the code's does. `top` is the RFC's range less one; the RFC's value is the top of `value`, its bit_count stands in `count`.
 use Prim.Native.Nat.{ℕ, _+_, _-_, _*_, _/_, _%_, _^_}
 use mathlib.Core.List.{List}
 use mathlib.Core.Bool.{Bool, true, false}
@@ -73,7 +73,7 @@ wideBitOf w prob =
       next = liftedOf w (w .value - takenOff (lowOf w prob) (onOf w prob)) (rangeOf (w .top) (lowOf w prob) (onOf w prob));
     }
 
--- ---- one symbol at probability 128 (the sign of a number, section 13.2) where the range is below 255: a half of it, doubled once, less one
+-- ---- one symbol at probability 128 (the sign of a number, section 13.2, 3504) where the range is below 255: a half of it, doubled once, less one
 abbrev pub oddOf : ℕ → Bool → ℕ
 oddOf top on = less32 top (bitOf on) / 2 * 2 + 1
 
