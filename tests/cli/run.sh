@@ -261,7 +261,7 @@ hb 1 survey $delivery && mv $out/said $out/survey.txt && mv $out/err $out/survey
 hb 1 survey --json --html $out/survey.html $delivery && mv $out/said $out/survey.json && same $out/err $out/survey.err
 surveyed $out/survey.json $out/survey.txt $out/survey.html
 cp $out/survey.json $out/said
-said '"files": 23,' && said '"unread": 0,' && said '"lost": 0,' && said '"answers": [13, 0, 0, 0, 0, 0, 1, 3],'
+said '"files": 24,' && said '"unread": 0,' && said '"lost": 0,' && said '"answers": [14, 0, 0, 0, 0, 0, 1, 3],'
 said '"apart": {"12": 2, "13": 1, "14": 1, "15": 0, "17": 1, "18": 1, "19": 1, "ivf": 1},'
 grep -q '<li>.*/cut.vp8: cut: 7, a token' $out/survey.html || bad "$what: the page does not name what was cut"
 cp $out/survey.err $out/err
@@ -279,7 +279,7 @@ hb 0 survey --json "$delivery/<b>&\"é.vp8" && mv $out/said $out/part-3.json
 hb 1 survey --add --json $out/part-*.json && same $out/said $out/survey.json && quiet
 cat $out/part-*.json >$out/parts.json # records one after the other
 hb 1 survey --add --html $out/j.html $out/parts.json && same $out/said $out/survey.txt && surveyed $out/survey.json $out/j.html
-hb 0 survey --add $out/part-1.json && said '10 files: 11 pictures, 11 of them whole'
+hb 0 survey --add $out/part-1.json && said '11 files: 12 pictures, 12 of them whole'
 hb 0 survey bench/tile-q50.webp && said '  segment 1             99   38.7 %  #########' && quiet
 said '  small (B_PRED)       230   89.8 %  ####################'
 # shellcheck disable=SC2086
