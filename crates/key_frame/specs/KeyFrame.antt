@@ -23,7 +23,7 @@ use Rattle.key_frame.specs.declared.Shown.{Shown}
 abbrev pub frameCall : List ℕ → Call
 frameCall b = callOf b (takenOf b .answer .tile) (takenOf b .header)
 
--- ---- the loop filter of a frame (section 15)
+-- ---- the loop filter of a frame (section 15, 4690-4693)
 -- the planes deblocked by the header's kind; where the frame's level, loop_filter_level, is 0, the filter is off and they stay
 unfoldable pub framePlanes : List ℤ → Answer → (strengths : List ℕ) → Planes → Planes
 framePlanes header a strengths d =

@@ -26,11 +26,11 @@ sizeFits w h = eqb w 256 && eqb h 256
 unfoldable pub countFits : ℕ → Bool
 countFits n = eqb n 1 || eqb n 2 || eqb n 4
 
--- 3: segments are off, and there is no map (RFC 6386, section 9.3): entries 2 and 3 are 0, each of them
+-- 3: segments are off, and there is no map (RFC 6386, section 9.3, 1880-1882): entries 2 and 3 are 0, each of them
 unfoldable pub segmentsFit : List ℤ → Bool
 segmentsFit h = not (presentAt h segmentsOn) && not (presentAt h mapOn)
 
--- 4: the sharpness is 0 (section 9.4)
+-- 4: the sharpness is 0 (section 9.4, 1943)
 unfoldable pub sharpnessFits : List ℤ → Bool
 sharpnessFits h = not (presentAt h sharpness)
 
