@@ -7,18 +7,18 @@ use lib.ListN.{length, getD, set}
 use Rattle.reader.specs.Boolean.{splitOf}
 use Rattle.reader.specs.Trace.{CodedSymbol}
 
--- the RFC's bool_encoder: the bytes written, `range`, `bottom` (32 bits), `count` its bit_count
+-- the RFC's bool_encoder (7.3, 1131-1137): the bytes written, `range`, `bottom` (32 bits), `count` its bit_count
 pub record Encoder : Type 0 where
   pub out : List ℕ
   pub range : ℕ
   pub bottom : ℕ
   pub count : ℕ
 
--- init_bool_encoder
+-- init_bool_encoder (1141-1147)
 abbrev pub fresh : Encoder
 fresh = record { out = []; range = 255; bottom = 0; count = 24 }
 
--- add_one_to_output, from the end of the first n bytes down: each 255 becomes 0, and the first other byte takes the one
+-- add_one_to_output (1155-1160), from the end of the first n bytes down: each 255 becomes 0, and the first other byte takes the one
 unfoldable pub addOne : ℕ → List ℕ → List ℕ
 addOne zero l = l
 addOne (suc i) l = elim (eqb (getD l i 0) 255) [ true ↦ addOne i (set l i 0) | false ↦ set l i (getD l i 0 + 1) ]
@@ -65,7 +65,7 @@ widthOf range x false = x
 abbrev pub chosen : Encoder → ℕ → Bool → Encoder
 chosen e x b = record { out = e .out; range = widthOf (e .range) x b; bottom = e .bottom + offsetOf x b; count = e .count }
 
--- write_bool
+-- write_bool (1165-1207)
 unfoldable pub writeOf : Encoder → CodedSymbol → Encoder
 writeOf e q = emit 7 (chosen e (splitOf (e .range) (q .prob)) (q .bit))
 
@@ -78,7 +78,7 @@ writeAll e (q ∷ qs) = writeAll (writeOf e q) qs
 abbrev pub fourOf : ℕ → List ℕ
 fourOf v = v / 16777216 ∷ v / 65536 % 256 ∷ v / 256 % 256 ∷ v % 256 ∷ []
 
--- flush_bool_encoder: the carry that is left, then the four bytes of `bottom`, shifted to its top
+-- flush_bool_encoder (1212-1228): the carry that is left, then the four bytes of `bottom`, shifted to its top
 unfoldable pub flushOf : Encoder → List ℕ
 flushOf e = carried (leb (2 ^ (32 - e .count)) (e .bottom)) (e .out) ++ fourOf (e .bottom * 2 ^ e .count % 4294967296)
 
