@@ -7,8 +7,6 @@ use Rattle.numbers.specs.Flags.{bitOf}
 use borrow.Author.Needs.{needs}
 use Rattle.recode.proofs.ample.Statement.{statement}
 use Rattle.recode.proofs.ample.Tie as tie
-use Rattle.recode.proofs.ample.Reads as reads
-use Rattle.recode.proofs.ample.Lts as lts
 
 never : false ≡ true → ⊥
 never e = let z : _≡_ {A = ℕ} 0 1 = ap bitOf e in omega arith

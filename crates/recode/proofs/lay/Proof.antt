@@ -2,11 +2,6 @@ use Rattle.recode.specs.PassLaws.{lays-done}
 use borrow.Author.Needs.{needs}
 use Rattle.recode.proofs.lay.Statement.{statement}
 use Rattle.recode.proofs.lay.Tie as tie
-use Rattle.recode.proofs.lay.Reads as reads
-use Rattle.recode.proofs.lay.Lts as lts
-use Rattle.bytes.proofs.copy.Reads as copy-reads
-use Rattle.recode.proofs.behind.Reads as behind-reads
-use Rattle.recode.proofs.one_tile.Reads as one-tile-reads
 
 copy-requires : tie.Need-copy-requires
 copy-requires c κs = search needs

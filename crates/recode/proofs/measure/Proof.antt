@@ -2,23 +2,16 @@ use Rattle.recode.specs.PassLaws.{pass-measures}
 use borrow.Author.Needs.{needs}
 use Rattle.recode.proofs.measure.Statement.{statement}
 use Rattle.recode.proofs.measure.Tie as tie
-use Rattle.recode.proofs.measure.Reads as reads
-use Rattle.recode.proofs.measure.Lts as lts
-use Rattle.recode.proofs.pass.Reads as pass-reads
 
--- src/lib.rt:74:40
 slice-aggregate-pass : tie.Need-slice-aggregate-pass
 slice-aggregate-pass c = search needs
 
--- src/lib.rt:74:5
 pass-requires : tie.Need-pass-requires
 pass-requires c κs = search needs
 
--- src/lib.rt:69:1
 same-length : tie.Need-same-length
 same-length c = search needs
 
--- src/lib.rt:69:1
 returns : tie.Need-returns
 returns c = pass-measures (c .before .before .before .before .before .before .before .before .args .bytes .now) (c .before .before .before .before .before .before .before .before .args .tile) (c .before .before .before .before .before .before .before .before .args .header .now) (c .before .before .before .before .before .before .before .before .args .columns .now) _ (c .before .before .before .pass .ensures)
 

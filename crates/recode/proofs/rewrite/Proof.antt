@@ -3,13 +3,6 @@ use Rattle.recode.specs.PassLaws.{writes-ample, writes-none, writes-all}
 use borrow.Author.Needs.{needs}
 use Rattle.recode.proofs.rewrite.Statement.{statement}
 use Rattle.recode.proofs.rewrite.Tie as tie
-use Rattle.recode.proofs.rewrite.Reads as reads
-use Rattle.recode.proofs.rewrite.Lts as lts
-use Rattle.recode.proofs.ample.Reads as ample-reads
-use Rattle.recode.proofs.lay.Reads as lay-reads
-use Rattle.recode.proofs.measure.Reads as measure-reads
-use Rattle.recode.proofs.refused.Reads as refused-reads
-use Rattle.tile.proofs.partitions.part.Reads as part-reads
 
 part-requires : tie.Need-part-requires
 part-requires c κs = search needs

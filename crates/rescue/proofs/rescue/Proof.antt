@@ -11,13 +11,6 @@ use Rattle.rescue.specs.RescueLaws.{alive-found, rescue-bad, rescue-foun
 use borrow.Author.Needs.{needs}
 use Rattle.rescue.proofs.rescue.Statement.{statement}
 use Rattle.rescue.proofs.rescue.Tie as tie
-use Rattle.rescue.proofs.rescue.Reads as reads
-use Rattle.rescue.proofs.rescue.Lts as lts
-use Rattle.picture.proofs.halt.Reads as halt-reads
-use Rattle.picture.proofs.rows.Decoded.finished.Reads as finished-reads
-use Rattle.rescue.proofs.checks.refusal_with_marks.Reads as refusal-with-marks-reads
-use Rattle.rescue.proofs.marks.mark.Reads as mark-reads
-use Rattle.rescue.proofs.rest.rest.Reads as rest-reads
 
 abbrev call : tie.Start → Call
 call c = let a = c .args in callOf (a .bytes .now) (a .tile) (a .header .now)
@@ -35,23 +28,18 @@ fine c = sym (c .before .before .before .before .before .before .before .before 
 bytes : (c : tie.After-halt) → Bytes (start c .args .bytes .now)
 bytes c i = c .before .before .before .before .before .before .before .before .before .before .before .before .before .before .before .before .shared-slice-known .given i .fits
 
--- src/lib.rt:76:9
 refusal-with-marks-requires : tie.Need-refusal-with-marks-requires
 refusal-with-marks-requires c κs = search needs
 
--- src/lib.rt:78:9
 returns : tie.Need-returns
 returns c = let s = c .before .before .before .before .before .before .before .before .before .before in rescue-bad (call s) (lent s) (s .args .marks .now) (c .before .refusal-with-marks .ensures) (c .if1 .taken)
 
--- src/lib.rt:80:9
 halt-requires : tie.Need-halt-requires
 halt-requires c κs = search needs
 
--- src/lib.rt:92:9
 finished-requires : tie.Need-finished-requires
 finished-requires c κs = search needs
 
--- src/lib.rt:93:9
 rest-requires : tie.Need-rest-requires
 rest-requires c κs =
     let h = c .before .before .before .before .before .before .before .before .before .before .before .before .before .before .before .before .before .before .before in
@@ -61,39 +49,30 @@ rest-requires c κs =
     let a = alive-found t m (start h .args .marks .now) (fine h) (h .halt .ensures .0) (bytes h) in
     (fine-header t (sizesOf m) e, (shared-start t m e, (a .live, a .upto)))
 
--- src/lib.rt:105:5
 mark-requires : tie.Need-mark-requires
 mark-requires c κs = search needs
 
--- src/lib.rt:48:1
 same-length : tie.Need-same-length
 same-length c = search needs
 
--- src/lib.rt:48:1
 same-length-2 : tie.Need-same-length-2
 same-length-2 c = search needs
 
--- src/lib.rt:48:1
 same-length-3 : tie.Need-same-length-3
 same-length-3 c = search needs
 
--- src/lib.rt:48:1
 same-length-4 : tie.Need-same-length-4
 same-length-4 c = search needs
 
--- src/lib.rt:48:1
 same-length-5 : tie.Need-same-length-5
 same-length-5 c = search needs
 
--- src/lib.rt:48:1
 same-length-6 : tie.Need-same-length-6
 same-length-6 c = search needs
 
--- src/lib.rt:48:1
 same-length-7 : tie.Need-same-length-7
 same-length-7 c = search needs
 
--- src/lib.rt:48:1
 returns-2 : tie.Need-returns-2
 returns-2 c =
     let r = c .before .before .before .before .before .before .before .before .before .before .before .before .before .before .before .before in

@@ -6,8 +6,6 @@ use Rattle.writer.specs.Encoder.{addOne}
 use Rattle.writer.specs.RoomLaws.{add-one-none, add-one-next, add-one-last}
 use Rattle.writer.proofs.add_one.Statement.{statement}
 use Rattle.writer.proofs.add_one.Tie as tie
-use Rattle.writer.proofs.add_one.Reads as reads
-use Rattle.writer.proofs.add_one.Lts as lts
 
 abbrev Inv-loop : tie.InvT-loop
 Inv-loop out₀ n i₀ out i = (length out ≡ length out₀) × (i ≤ n) × (addOne i out ≡ addOne n out₀)
@@ -15,63 +13,48 @@ Inv-loop out₀ n i₀ out i = (length out ≡ length out₀) × (i ≤ n) × (a
 abbrev μ-loop : tie.MeasureT-loop
 μ-loop out₀ n i₀ out i = i
 
--- src/lib.rt:24:5
 loop-holds : tie.Need-loop-holds Inv-loop μ-loop
 loop-holds c = (refl, omega arith, refl)
 
--- src/lib.rt:25:21
 sub-b : tie.Need-sub-b Inv-loop μ-loop
 sub-b c = omega arith
 
--- src/lib.rt:25:17
 slice-read-b : tie.Need-slice-read-b Inv-loop μ-loop
 slice-read-b c = omega arith
 
--- src/lib.rt:27:26
 add-out : tie.Need-add-out Inv-loop μ-loop
 add-out c = let l = c .before .before .before .loop in omega (arith, c .before .slice-known .given (l .i - 1))
 
--- src/lib.rt:27:17
 sub-out : tie.Need-sub-out Inv-loop μ-loop
 sub-out c = omega arith
 
--- src/lib.rt:27:13
 slice-write-out : tie.Need-slice-write-out Inv-loop μ-loop
 slice-write-out c = omega arith
 
--- src/lib.rt:28:13
 same-length : tie.Need-same-length Inv-loop μ-loop
 same-length c = simp length-set (c .before .before .before .loop .inv .0)
 
--- src/lib.rt:28:13
 returns : tie.Need-returns Inv-loop μ-loop
 returns c = let l = c .before .before .before .loop in add-one-last (l .i) (l .out) (omega arith) (c .if1 .taken) ∙ l .inv .2
 
--- src/lib.rt:30:13
 sub-out-2 : tie.Need-sub-out-2 Inv-loop μ-loop
 sub-out-2 c = omega arith
 
--- src/lib.rt:30:9
 slice-write-out-2 : tie.Need-slice-write-out-2 Inv-loop μ-loop
 slice-write-out-2 c = omega arith
 
--- src/lib.rt:31:13
 sub-i : tie.Need-sub-i Inv-loop μ-loop
 sub-i c = omega arith
 
--- src/lib.rt:24:5
 loop-less : tie.Need-loop-less Inv-loop μ-loop
 loop-less c = omega arith
 
--- src/lib.rt:24:5
 loop-again : tie.Need-loop-again Inv-loop μ-loop
 loop-again c = let l = c .before .before .before .loop in (simp length-set (l .inv .0), omega arith, add-one-next (l .i) (l .out) (omega arith) (c .if1 .left) ∙ l .inv .2)
 
--- src/lib.rt:19:1
 same-length-2 : tie.Need-same-length-2 Inv-loop μ-loop
 same-length-2 c = c .before .loop .inv .0
 
--- src/lib.rt:19:1
 returns-2 : tie.Need-returns-2 Inv-loop μ-loop
 returns-2 c = let l = c .before .loop in sym (add-one-none (l .out)) ∙ ap (λ (k : ℕ). addOne k (l .out)) {x = 0} {y = l .i} (omega arith) ∙ l .inv .2
 

@@ -2,28 +2,19 @@ use Rattle.writer.specs.RoomLaws.{byte-is}
 use borrow.Author.Needs.{needs}
 use Rattle.writer.proofs.byte_out.Statement.{statement}
 use Rattle.writer.proofs.byte_out.Tie as tie
-use Rattle.writer.proofs.byte_out.Reads as reads
-use Rattle.writer.proofs.byte_out.Lts as lts
-use Rattle.writer.proofs.carry.Reads as carry-reads
-use Rattle.writer.proofs.put.Reads as put-reads
 
--- src/lib.rt:66:5
 carry-requires : tie.Need-carry-requires
 carry-requires c κs = search needs
 
--- src/lib.rt:67:18
 cast-put : tie.Need-cast-put
 cast-put c = search needs
 
--- src/lib.rt:67:5
 put-requires : tie.Need-put-requires
 put-requires c κs = search needs
 
--- src/lib.rt:63:1
 same-length : tie.Need-same-length
 same-length c = search needs
 
--- src/lib.rt:63:1
 returns : tie.Need-returns
 returns c = byte-is _ (c .before .before .before .before .before .before .before .before .before .args .at) (c .before .before .before .before .before .before .before .before .before .args .due) (c .before .before .before .before .before .before .carry .ensures) (c .before .before .put .ensures)
 

@@ -3,10 +3,7 @@ use Rattle.wide.specs.Wide.{doublingsOf}
 use Rattle.wide.specs.WideLaws.{doublings-below}
 use Rattle.writer.proofs.doublings.Statement.{statement}
 use Rattle.writer.proofs.doublings.Tie as tie
-use Rattle.writer.proofs.doublings.Reads as reads
-use Rattle.writer.proofs.doublings.Lts as lts
 
--- src/lib.rt:99:1
 returns : tie.Need-returns
 unfolding doublingsOf
 returns c = (refl, doublings-below (c .args .range))

@@ -5,14 +5,10 @@ use lib.Pow.{pow-lt}
 use borrow.Author.Needs.{needs}
 use Rattle.writer.proofs.power.Statement.{statement}
 use Rattle.writer.proofs.power.Tie as tie
-use Rattle.writer.proofs.power.Reads as reads
-use Rattle.writer.proofs.power.Lts as lts
 
--- src/lib.rt:146:5
 shl-result : tie.Need-shl-result
 shl-result c = search needs
 
--- src/lib.rt:142:1
 returns : tie.Need-returns
 returns c = ap (λ (x : ℕ). x % 4294967296) (one-mul (2 ^ c .args .k)) ∙ mod-eq-of-lt (pow-lt {j = 32} (c .pre))
 

@@ -2,19 +2,13 @@ use mathlib.Core.Path.{_∙_}
 use borrow.Author.Needs.{needs}
 use Rattle.writer.proofs.raised.Statement.{statement}
 use Rattle.writer.proofs.raised.Tie as tie
-use Rattle.writer.proofs.raised.Reads as reads
-use Rattle.writer.proofs.raised.Lts as lts
-use Rattle.std.proofs.num.wrapping_add_u32.Reads as wrapping-add-u32-reads
 
--- src/lib.rt:93:9
 wrapping-add-u32-requires : tie.Need-wrapping-add-u32-requires
 wrapping-add-u32-requires c κs = search needs
 
--- src/lib.rt:93:9
 returns : tie.Need-returns
 returns c = rw (c .before .if1 .taken) (c .wrapping-add-u32 .ensures)
 
--- src/lib.rt:89:1
 returns-2 : tie.Need-returns-2
 returns-2 c = search needs
 

@@ -6,31 +6,22 @@ use Rattle.wide.specs.WideLaws.{wrapped32}
 use borrow.Author.Needs.{needs}
 use Rattle.writer.proofs.split.Statement.{statement}
 use Rattle.writer.proofs.split.Tie as tie
-use Rattle.writer.proofs.split.Reads as reads
-use Rattle.writer.proofs.split.Lts as lts
-use Rattle.std.proofs.num.wrapping_sub_u32.Reads as wrapping-sub-u32-reads
 
--- src/lib.rt:74:9
 wrapping-sub-u32-requires : tie.Need-wrapping-sub-u32-requires
 wrapping-sub-u32-requires c κs = search needs
 
--- src/lib.rt:75:12
 cast-result : tie.Need-cast-result
 cast-result c = search needs
 
--- src/lib.rt:75:12
 mul-result : tie.Need-mul-result
 mul-result c = omega (arith, mul-le-mul {n₁ = c .wrapping-sub-u32 .result} {m₁ = c .before .args .prob} {n₂ = 4294967295} {m₂ = 255} (omega arith) (omega arith))
 
--- src/lib.rt:75:11
 cast-result-2 : tie.Need-cast-result-2
 cast-result-2 c = search needs
 
--- src/lib.rt:75:5
 add-result : tie.Need-add-result
 add-result c = search needs
 
--- src/lib.rt:71:1
 returns : tie.Need-returns
 returns c = (ap (λ (x : ℕ). 1 + x * (c .before .args .prob) % 2 ^ 32 / 256) (wrapped32 _ _ _ (omega arith) (omega arith) (c .wrapping-sub-u32 .ensures)), omega arith)
 

@@ -3,19 +3,13 @@ use Rattle.wide.specs.WideLaws.{wrapped32}
 use borrow.Author.Needs.{needs}
 use Rattle.writer.proofs.width.Statement.{statement}
 use Rattle.writer.proofs.width.Tie as tie
-use Rattle.writer.proofs.width.Reads as reads
-use Rattle.writer.proofs.width.Lts as lts
-use Rattle.std.proofs.num.wrapping_sub_u32.Reads as wrapping-sub-u32-reads
 
--- src/lib.rt:83:9
 wrapping-sub-u32-requires : tie.Need-wrapping-sub-u32-requires
 wrapping-sub-u32-requires c κs = search needs
 
--- src/lib.rt:83:9
 returns : tie.Need-returns
 returns c = rw (c .before .if1 .taken) (wrapped32 _ _ _ (omega arith) (omega arith) (c .wrapping-sub-u32 .ensures))
 
--- src/lib.rt:79:1
 returns-2 : tie.Need-returns-2
 returns-2 c = search needs
 

@@ -2,32 +2,22 @@ use Rattle.hookbarley.specs.CallsLaws.{deblock-called}
 use borrow.Author.Needs.{needs}
 use Rattle.hookbarley.proofs.deblocking.hookbarley_deblock.Statement.{statement}
 use Rattle.hookbarley.proofs.deblocking.hookbarley_deblock.Tie as tie
-use Rattle.hookbarley.proofs.deblocking.hookbarley_deblock.Reads as reads
-use Rattle.hookbarley.proofs.deblocking.hookbarley_deblock.Lts as lts
-use Rattle.deblock.proofs.deblock.Reads as deblock-reads
-use Rattle.hookbarley.proofs.deblocking.number_of.Reads as number-of-reads
 
--- src/deblocking.rt:31:15
 deblock-requires : tie.Need-deblock-requires
 deblock-requires c κs = search needs
 
--- src/deblocking.rt:31:5
 number-of-requires : tie.Need-number-of-requires
 number-of-requires c κs = search needs
 
--- src/deblocking.rt:18:1
 same-length : tie.Need-same-length
 same-length c = search needs
 
--- src/deblocking.rt:18:1
 same-length-2 : tie.Need-same-length-2
 same-length-2 c = search needs
 
--- src/deblocking.rt:18:1
 same-length-3 : tie.Need-same-length-3
 same-length-3 c = search needs
 
--- src/deblocking.rt:18:1
 returns : tie.Need-returns
 returns c = deblock-called _ _ _ _ _ (c .number-of .ensures) (c .before .before .before .before .before .before .before .deblock .ensures)
 

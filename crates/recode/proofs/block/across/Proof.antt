@@ -5,36 +5,27 @@ use Rattle.residual.specs.Residual.{coordinates}
 use borrow.Author.Needs.{needs}
 use Rattle.recode.proofs.block.across.Statement.{statement}
 use Rattle.recode.proofs.block.across.Tie as tie
-use Rattle.recode.proofs.block.across.Reads as reads
-use Rattle.recode.proofs.block.across.Lts as lts
 
--- src/block.rt:119:9
 returns : tie.Need-returns
 unfolding acrossOf
 returns c = (rw (eq-eqb _ _ (c .if1 .taken), acrossOf), omega arith)
 
--- src/block.rt:121:13
 sub-i : tie.Need-sub-i
 sub-i c = search needs
 
--- src/block.rt:123:9
 returns-2 : tie.Need-returns-2
 unfolding acrossOf coordinates
 returns-2 c = (rw (ne-eqb _ _ (c .before .if1 .left), acrossOf, lt-ltb _ _ (c .if2 .taken), coordinates), omega arith)
 
--- src/block.rt:125:9
 mul-result : tie.Need-mul-result
 mul-result c = search needs
 
--- src/block.rt:125:5
 add-result : tie.Need-add-result
 add-result c = search needs
 
--- src/block.rt:125:5
 add-result-2 : tie.Need-add-result-2
 add-result-2 c = search needs
 
--- src/block.rt:114:1
 returns-3 : tie.Need-returns-3
 unfolding acrossOf coordinates
 returns-3 c = (rw (ne-eqb _ _ (c .before .if1 .left), acrossOf, le-ltb _ _ (c .if2 .left), coordinates), omega arith)

@@ -7,18 +7,13 @@ use Rattle.coefficients.specs.BlockSteps.{band-below}
 use borrow.Author.Needs.{needs}
 use Rattle.recode.proofs.block.band.Statement.{statement}
 use Rattle.recode.proofs.block.band.Tie as tie
-use Rattle.recode.proofs.block.band.Reads as reads
-use Rattle.recode.proofs.block.band.Lts as lts
 
--- src/block.rt:37:5
 element-copy-out-result : tie.Need-element-copy-out-result
 element-copy-out-result c = search needs
 
--- src/block.rt:37:5
 cast-result : tie.Need-cast-result
 cast-result c = rw (c .before .pre .0) (omega (arith, band-below (c .before .args .n)))
 
--- src/block.rt:32:1
 returns : tie.Need-returns
 returns c = (ap (λ (l : List ℕ). getD l (c .before .args .n) 0) (c .before .pre .0), rw (c .before .pre .0) (band-below (c .before .args .n)))
 

@@ -1,22 +1,16 @@
 use borrow.Author.Needs.{needs}
 use Rattle.recode.proofs.block.cleared.Statement.{statement}
 use Rattle.recode.proofs.block.cleared.Tie as tie
-use Rattle.recode.proofs.block.cleared.Reads as reads
-use Rattle.recode.proofs.block.cleared.Lts as lts
 
--- src/block.rt:196:19
 array-read-next : tie.Need-array-read-next
 array-read-next c = search needs
 
--- src/block.rt:196:9
 array-write-next : tie.Need-array-write-next
 array-write-next c = search needs
 
--- src/block.rt:191:1
 returns : tie.Need-returns
 returns c = rw (c .if1 .taken)
 
--- src/block.rt:191:1
 returns-2 : tie.Need-returns-2
 returns-2 c = search needs
 

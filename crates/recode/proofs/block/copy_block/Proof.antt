@@ -4,12 +4,6 @@ use mathlib.Core.Path.{_∙_, refl}
 use Rattle.recode.specs.BlockCopies.{Blocking, blocking-start, blocking-next, blocking-over, blocking-end}
 use Rattle.recode.proofs.block.copy_block.Statement.{statement}
 use Rattle.recode.proofs.block.copy_block.Tie as tie
-use Rattle.recode.proofs.block.copy_block.Reads as reads
-use Rattle.recode.proofs.block.copy_block.Lts as lts
-use Rattle.recode.proofs.block.near.Reads as near-reads
-use Rattle.recode.proofs.block.place.Reads as place-reads
-use Rattle.recode.proofs.token.copy_rest.Reads as copy-rest-reads
-use Rattle.recode.proofs.token.copy_token.Reads as copy-token-reads
 
 abbrev Inv-loop : tie.InvT-loop
 Inv-loop s out₀ table kind ctx first next₀ n₀ context₀ zero₀ out next n context zero = Blocking table kind ctx first s next₀ out₀ next n context zero out
@@ -17,51 +11,39 @@ Inv-loop s out₀ table kind ctx first next₀ n₀ context₀ zero₀ out next 
 abbrev μ-loop : tie.MeasureT-loop
 μ-loop s out₀ table kind ctx first next₀ n₀ context₀ zero₀ out next n context zero = 16 - n
 
--- src/block.rt:72:5
 loop-holds : tie.Need-loop-holds Inv-loop μ-loop
 loop-holds c = blocking-start _ _ _ _ _ _ _ (c .before .before .before .pre .1 .2) (c .before .before .before .pre .1 .1)
 
--- src/block.rt:73:49
 place-requires : tie.Need-place-requires Inv-loop μ-loop
 place-requires c κs = (c .before .before .before .before .before .before .pre .1 .0, c .before .loop-test .taken, c .before .before .loop .inv .few)
 
--- src/block.rt:73:13
 copy-token-requires : tie.Need-copy-token-requires Inv-loop μ-loop
 copy-token-requires c κs = omega (arith, c .place .ensures .1, c .before .before .before .before .before .before .before .pre .0)
 
--- src/block.rt:77:13
 same-length : tie.Need-same-length Inv-loop μ-loop
 same-length c = c .before .before .before .before .copy-token .kept .1 .1 .0 ∙ c .before .before .before .before .before .before .before .before .loop .inv .long
 
--- src/block.rt:77:13
 returns : tie.Need-returns Inv-loop μ-loop
 returns c = blocking-over (c .before .before .before .before .before .before .before .before .loop .inv) (c .before .before .before .before .before .before .before .loop-test .taken) (c .before .before .before .before .before .place .ensures .0) (c .before .before .before .before .copy-token .ensures .0) (c .if1 .taken)
 
--- src/block.rt:79:9
 copy-rest-requires : tie.Need-copy-rest-requires Inv-loop μ-loop
 copy-rest-requires c κs = omega (arith, c .before .if1 .left, c .before .before .before .before .before .copy-token .ensures .1)
 
--- src/block.rt:80:9
 near-requires : tie.Need-near-requires Inv-loop μ-loop
 near-requires c κs = tt
 
--- src/block.rt:82:13
 add-n : tie.Need-add-n Inv-loop μ-loop
 add-n c = omega arith
 
--- src/block.rt:72:5
 loop-less : tie.Need-loop-less Inv-loop μ-loop
 loop-less c = omega arith
 
--- src/block.rt:72:5
 loop-again : tie.Need-loop-again Inv-loop μ-loop
 loop-again c = blocking-next (c .before .before .before .before .before .before .before .before .before .before .before .before .before .loop .inv) (c .before .before .before .before .before .before .before .before .before .before .before .before .loop-test .taken) (c .before .before .before .before .before .before .before .before .before .before .place .ensures .0) (c .before .before .before .before .before .before .before .before .before .copy-token .ensures .0) (c .before .before .before .before .before .if1 .left) (c .before .before .before .copy-rest .ensures) (c .near .ensures .0) (c .near .ensures .1) refl (c .before .before .before .before .before .before .before .before .before .copy-token .kept .1 .1 .0) (c .before .before .before .copy-rest .kept .1 .1 .0)
 
--- src/block.rt:63:1
 same-length-2 : tie.Need-same-length-2 Inv-loop μ-loop
 same-length-2 c = c .before .loop .inv .long
 
--- src/block.rt:63:1
 returns-2 : tie.Need-returns-2 Inv-loop μ-loop
 returns-2 c = blocking-end (c .before .loop .inv) (c .loop-test .left)
 

@@ -2,53 +2,34 @@ use Rattle.recode.specs.BlockCopies.{part-copies}
 use borrow.Author.Needs.{needs}
 use Rattle.recode.proofs.block.copy_part.Statement.{statement}
 use Rattle.recode.proofs.block.copy_part.Tie as tie
-use Rattle.recode.proofs.block.copy_part.Reads as reads
-use Rattle.recode.proofs.block.copy_part.Lts as lts
-use Rattle.recode.proofs.block.across.Reads as across-reads
-use Rattle.recode.proofs.block.context_at.Reads as context-at-reads
-use Rattle.recode.proofs.block.copy_block.Reads as copy-block-reads
-use Rattle.recode.proofs.block.down.Reads as down-reads
-use Rattle.recode.proofs.block.first_of.Reads as first-of-reads
-use Rattle.recode.proofs.block.flagged.Reads as flagged-reads
-use Rattle.recode.proofs.block.kind_of.Reads as kind-of-reads
 
--- src/block.rt:174:9
 across-requires : tie.Need-across-requires
 across-requires c κs = search needs
 
--- src/block.rt:175:9
 down-requires : tie.Need-down-requires
 down-requires c κs = search needs
 
--- src/block.rt:176:9
 first-of-requires : tie.Need-first-of-requires
 first-of-requires c κs = search needs
 
--- src/block.rt:179:47
 kind-of-requires : tie.Need-kind-of-requires
 kind-of-requires c κs = search needs
 
--- src/block.rt:179:66
 context-at-requires : tie.Need-context-at-requires
 context-at-requires c κs = search needs
 
--- src/block.rt:179:9
 copy-block-requires : tie.Need-copy-block-requires
 copy-block-requires c κs = search needs
 
--- src/block.rt:182:9
 flagged-requires : tie.Need-flagged-requires
 flagged-requires c κs = search needs
 
--- src/block.rt:183:9
 flagged-requires-2 : tie.Need-flagged-requires-2
 flagged-requires-2 c κs = search needs
 
--- src/block.rt:169:1
 same-length : tie.Need-same-length
 same-length c = search needs
 
--- src/block.rt:169:1
 returns : tie.Need-returns
 returns c = part-copies (c .before .before .before .before .before .before .before .before .before .before .before .before .before .before .before .before .before .before .args .table .now) (c .before .before .before .before .before .before .before .before .before .before .before .before .before .before .before .before .before .before .args .small) _ (c .before .before .before .before .before .before .before .before .before .before .before .before .before .before .before .before .before .before .args .m) _ (c .before .before .before .before .before .before .before .before .kind-of .result) (c .before .before .before .before .before .before .before .context-at .result) (c .before .before .before .before .before .before .before .before .before .before .before .before .first-of .result) (c .before .before .before .before .before .before .before .before .before .before .before .before .before .before .across .result) (c .before .before .before .before .before .before .before .before .before .before .before .before .before .down .result) (c .before .before .before .before .before .before .copy-block .result .end) _ _ (c .before .before .before .before .before .before .copy-block .ensures) (c .before .before .before .before .before .before .before .context-at .ensures .0) _ _ (c .before .flagged .ensures) (c .flagged2 .ensures) (c .before .before .before .before .before .before .before .before .before .before .before .before .before .before .before .before .before .before .args .j) (c .before .before .before .before .before .before .before .before .kind-of .ensures .0) (c .before .before .before .before .before .before .before .before .before .before .before .before .first-of .ensures .0) (c .before .before .before .before .before .before .before .before .before .before .before .before .before .before .across .ensures .0) (c .before .before .before .before .before .before .before .before .before .before .before .before .before .down .ensures .0)
 

@@ -5,9 +5,6 @@ use native.Mathlib.Omega.{arith}
 use Rattle.recode.specs.BlockCopies.{Parting, parting-start, parting-next, parting-end}
 use Rattle.recode.proofs.block.copy_parts.Statement.{statement}
 use Rattle.recode.proofs.block.copy_parts.Tie as tie
-use Rattle.recode.proofs.block.copy_parts.Reads as reads
-use Rattle.recode.proofs.block.copy_parts.Lts as lts
-use Rattle.recode.proofs.block.copy_part.Reads as copy-part-reads
 
 abbrev Inv-loop : tie.InvT-loop
 Inv-loop s out₀ table small m₀ j₀ out m j = Parting table small s m₀ out₀ m j out
@@ -15,35 +12,27 @@ Inv-loop s out₀ table small m₀ j₀ out m j = Parting table small s m₀ out
 abbrev μ-loop : tie.MeasureT-loop
 μ-loop s out₀ table small m₀ j₀ out m j = 25 - j
 
--- src/block.rt:208:17
 cast-j : tie.Need-cast-j Inv-loop μ-loop
 cast-j c = search needs
 
--- src/block.rt:209:5
 loop-holds : tie.Need-loop-holds Inv-loop μ-loop
 loop-holds c = parting-start _ _ _ _ _ refl
 
--- src/block.rt:210:9
 copy-part-requires : tie.Need-copy-part-requires Inv-loop μ-loop
 copy-part-requires c κs = (c .before .before .before .before .before .before .pre, c .before .loop-test .taken)
 
--- src/block.rt:211:13
 add-j : tie.Need-add-j Inv-loop μ-loop
 add-j c = omega arith
 
--- src/block.rt:209:5
 loop-less : tie.Need-loop-less Inv-loop μ-loop
 loop-less c = omega arith
 
--- src/block.rt:209:5
 loop-again : tie.Need-loop-again Inv-loop μ-loop
 loop-again c = parting-next (c .before .before .before .before .before .loop .inv) (c .before .before .before .before .loop-test .taken) (c .before .before .copy-part .ensures) (c .before .before .copy-part .kept .1 .1 .0)
 
--- src/block.rt:203:1
 same-length : tie.Need-same-length Inv-loop μ-loop
 same-length c = c .before .loop .inv .long
 
--- src/block.rt:203:1
 returns : tie.Need-returns Inv-loop μ-loop
 returns c = parting-end (c .before .loop .inv) (c .loop-test .left)
 

@@ -2,32 +2,22 @@ use Rattle.recode.specs.BlockCopies.{residual-skipped, residual-read}
 use borrow.Author.Needs.{needs}
 use Rattle.recode.proofs.block.copy_residual.Statement.{statement}
 use Rattle.recode.proofs.block.copy_residual.Tie as tie
-use Rattle.recode.proofs.block.copy_residual.Reads as reads
-use Rattle.recode.proofs.block.copy_residual.Lts as lts
-use Rattle.recode.proofs.block.cleared.Reads as cleared-reads
-use Rattle.recode.proofs.block.copy_parts.Reads as copy-parts-reads
 
--- src/block.rt:225:13
 cleared-requires : tie.Need-cleared-requires
 cleared-requires c κs = search needs
 
--- src/block.rt:226:13
 cleared-requires-2 : tie.Need-cleared-requires-2
 cleared-requires-2 c κs = search needs
 
--- src/block.rt:227:9
 returns : tie.Need-returns
 returns c = residual-skipped (c .before .before .before .before .before .before .before .before .before .args .table .now) (c .before .before .before .before .before .before .before .before .before .args .small) (c .before .before .before .before .before .before .before .before .before .args .m) (c .before .before .before .before .before .if1 .taken) (c .before .cleared .ensures) (c .cleared2 .ensures)
 
--- src/block.rt:233:5
 copy-parts-requires : tie.Need-copy-parts-requires
 copy-parts-requires c κs = search needs
 
--- src/block.rt:217:1
 same-length : tie.Need-same-length
 same-length c = search needs
 
--- src/block.rt:217:1
 returns-2 : tie.Need-returns-2
 returns-2 c = residual-read (c .before .before .before .before .before .before .before .before .args .table .now) (c .before .before .before .before .before .before .before .before .args .small) (c .before .before .before .before .if1 .left) (c .before .before .copy-parts .ensures)
 

@@ -5,36 +5,27 @@ use Rattle.residual.specs.Residual.{coordinates}
 use borrow.Author.Needs.{needs}
 use Rattle.recode.proofs.block.down.Statement.{statement}
 use Rattle.recode.proofs.block.down.Tie as tie
-use Rattle.recode.proofs.block.down.Reads as reads
-use Rattle.recode.proofs.block.down.Lts as lts
 
--- src/block.rt:134:9
 returns : tie.Need-returns
 unfolding downOf
 returns c = (rw (eq-eqb _ _ (c .if1 .taken), downOf), omega arith)
 
--- src/block.rt:136:13
 sub-i : tie.Need-sub-i
 sub-i c = search needs
 
--- src/block.rt:138:9
 returns-2 : tie.Need-returns-2
 unfolding downOf coordinates
 returns-2 c = (rw (ne-eqb _ _ (c .before .if1 .left), downOf, lt-ltb _ _ (c .if2 .taken), coordinates), omega arith)
 
--- src/block.rt:140:9
 mul-result : tie.Need-mul-result
 mul-result c = search needs
 
--- src/block.rt:140:5
 add-result : tie.Need-add-result
 add-result c = search needs
 
--- src/block.rt:140:5
 add-result-2 : tie.Need-add-result-2
 add-result-2 c = search needs
 
--- src/block.rt:129:1
 returns-3 : tie.Need-returns-3
 unfolding downOf coordinates
 returns-3 c = (rw (ne-eqb _ _ (c .before .if1 .left), downOf, le-ltb _ _ (c .if2 .left), coordinates), omega arith)

@@ -3,20 +3,15 @@ use native.Mathlib.Omega.{arith}
 use Rattle.recode.specs.BlockCopies.{firstOf}
 use Rattle.recode.proofs.block.first_of.Statement.{statement}
 use Rattle.recode.proofs.block.first_of.Tie as tie
-use Rattle.recode.proofs.block.first_of.Reads as reads
-use Rattle.recode.proofs.block.first_of.Lts as lts
 
--- src/block.rt:108:9
 returns : tie.Need-returns
 unfolding firstOf
 returns c = (rw (c .if1 .taken, firstOf), omega arith)
 
--- src/block.rt:104:1
 returns-2 : tie.Need-returns-2
 unfolding firstOf
 returns-2 c = (rw (c .before .if1 .left, firstOf, c .if2 .taken), omega arith)
 
--- src/block.rt:104:1
 returns-3 : tie.Need-returns-3
 unfolding firstOf
 returns-3 c = (rw (c .before .if1 .left, firstOf, c .if2 .left), omega arith)

@@ -4,18 +4,13 @@ use Rattle.coefficients.specs.BlockSteps.{context-one, context-more}
 use Rattle.recode.specs.BlockCopies.{near-zero, near-number}
 use Rattle.recode.proofs.block.near.Statement.{statement}
 use Rattle.recode.proofs.block.near.Tie as tie
-use Rattle.recode.proofs.block.near.Reads as reads
-use Rattle.recode.proofs.block.near.Lts as lts
 
--- src/block.rt:54:9
 returns : tie.Need-returns
 returns c = (near-zero _ (c .if1 .taken), omega arith)
 
--- src/block.rt:57:9
 returns-2 : tie.Need-returns-2
 returns-2 c = (context-one _ (c .if2 .taken) ∙ near-number _ (c .before .if1 .left), omega arith)
 
--- src/block.rt:50:1
 returns-3 : tie.Need-returns-3
 returns-3 c = (context-more _ (c .if2 .left) ∙ near-number _ (c .before .if1 .left), omega arith)
 

@@ -3,11 +3,6 @@ use Rattle.recode.specs.Copies.{asked}
 use borrow.Author.Needs.{needs}
 use Rattle.recode.proofs.pipe.ask.Statement.{statement}
 use Rattle.recode.proofs.pipe.ask.Tie as tie
-use Rattle.recode.proofs.pipe.ask.Reads as reads
-use Rattle.recode.proofs.pipe.ask.Lts as lts
-use Rattle.wide.proofs.wide.Wide.bit.Reads as bit-reads
-use Rattle.wide.proofs.wide.Wide.fill.Reads as fill-reads
-use Rattle.writer.proofs.Writer.write.Reads as write-reads
 
 fill-requires : tie.Need-fill-requires
 fill-requires c κs = search needs

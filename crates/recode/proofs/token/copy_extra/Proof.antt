@@ -4,9 +4,6 @@ use lib.ListN.{length}
 use Rattle.recode.specs.TokenCopies.{Taking, taking-start, taking-next, taking-end}
 use Rattle.recode.proofs.token.copy_extra.Statement.{statement}
 use Rattle.recode.proofs.token.copy_extra.Tie as tie
-use Rattle.recode.proofs.token.copy_extra.Reads as reads
-use Rattle.recode.proofs.token.copy_extra.Lts as lts
-use Rattle.recode.proofs.pipe.ask.Reads as ask-reads
 
 abbrev Inv-loop : tie.InvT-loop
 Inv-loop s out₀ probs next₀ i₀ out next i = Taking s probs next₀ out₀ next i out
@@ -14,35 +11,27 @@ Inv-loop s out₀ probs next₀ i₀ out next i = Taking s probs next₀ out₀ 
 abbrev μ-loop : tie.MeasureT-loop
 μ-loop s out₀ probs next₀ i₀ out next i = length probs - i
 
--- src/token.rt:106:5
 loop-holds : tie.Need-loop-holds Inv-loop μ-loop
 loop-holds c = taking-start _ _ _ _
 
--- src/token.rt:107:35
 shared-slice-read-ask : tie.Need-shared-slice-read-ask Inv-loop μ-loop
 shared-slice-read-ask c = omega arith
 
--- src/token.rt:107:13
 ask-requires : tie.Need-ask-requires Inv-loop μ-loop
 ask-requires c κs = tt
 
--- src/token.rt:109:13
 add-i : tie.Need-add-i Inv-loop μ-loop
 add-i c = omega arith
 
--- src/token.rt:106:5
 loop-less : tie.Need-loop-less Inv-loop μ-loop
 loop-less c = omega arith
 
--- src/token.rt:106:5
 loop-again : tie.Need-loop-again Inv-loop μ-loop
 loop-again c = taking-next (c .before .before .before .before .before .before .before .loop .inv) (c .before .before .before .before .before .before .loop-test .taken) (c .before .before .before .ask .ensures) (c .before .before .before .ask .kept .1 .1 .0)
 
--- src/token.rt:101:1
 same-length : tie.Need-same-length Inv-loop μ-loop
 same-length c = c .before .loop .inv .long
 
--- src/token.rt:101:1
 returns : tie.Need-returns Inv-loop μ-loop
 returns c = taking-end (c .before .loop .inv) (c .loop-test .left)
 

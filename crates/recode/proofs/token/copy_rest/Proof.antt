@@ -2,28 +2,19 @@ use Rattle.recode.specs.TokenCopies.{rest-zero, rest-number}
 use borrow.Author.Needs.{needs}
 use Rattle.recode.proofs.token.copy_rest.Statement.{statement}
 use Rattle.recode.proofs.token.copy_rest.Tie as tie
-use Rattle.recode.proofs.token.copy_rest.Reads as reads
-use Rattle.recode.proofs.token.copy_rest.Lts as lts
-use Rattle.recode.proofs.pipe.ask.Reads as ask-reads
-use Rattle.recode.proofs.token.copy_magnitude.Reads as copy-magnitude-reads
 
--- src/token.rt:146:9
 returns : tie.Need-returns
 returns c = rest-zero (c .if1 .taken)
 
--- src/token.rt:148:9
 copy-magnitude-requires : tie.Need-copy-magnitude-requires
 copy-magnitude-requires c κs = search needs
 
--- src/token.rt:149:9
 ask-requires : tie.Need-ask-requires
 ask-requires c κs = search needs
 
--- src/token.rt:141:1
 same-length : tie.Need-same-length
 same-length c = search needs
 
--- src/token.rt:141:1
 returns-2 : tie.Need-returns-2
 returns-2 c = rest-number _ (c .before .before .before .before .before .before .before .before .before .if1 .left) (c .before .before .before .before .before .before .before .copy-magnitude .ensures) (c .before .before .before .ask .ensures)
 

@@ -8,10 +8,6 @@ use Rattle.recode.specs.TokenCopies.{Walking, walking-start, walking-nex
 use borrow.Author.Needs.{needs}
 use Rattle.recode.proofs.token.copy_token.Statement.{statement}
 use Rattle.recode.proofs.token.copy_token.Tie as tie
-use Rattle.recode.proofs.token.copy_token.Reads as reads
-use Rattle.recode.proofs.token.copy_token.Lts as lts
-use Rattle.recode.proofs.pipe.ask.Reads as ask-reads
-use Rattle.recode.proofs.token.lead.Reads as lead-reads
 
 abbrev Inv-loop : tie.InvT-loop
 Inv-loop s out₀ table at zero next₀ i₀ out next i = Walking s (elevenAt table at) zero next₀ out₀ next i out
@@ -19,47 +15,36 @@ Inv-loop s out₀ table at zero next₀ i₀ out next i = Walking s (elevenAt ta
 abbrev μ-loop : tie.MeasureT-loop
 μ-loop s out₀ table at zero next₀ i₀ out next i = 23 - i
 
--- src/token.rt:88:17
 cast-i : tie.Need-cast-i Inv-loop μ-loop
 cast-i c = search needs
 
--- src/token.rt:89:5
 loop-holds : tie.Need-loop-holds Inv-loop μ-loop
 loop-holds c = walking-start _ _ _ _ _ refl
 
--- src/token.rt:90:41
 add-ask : tie.Need-add-ask Inv-loop μ-loop
 add-ask c = omega (arith, c .before .before .before .before .before .before .pre)
 
--- src/token.rt:90:35
 shared-slice-read-ask : tie.Need-shared-slice-read-ask Inv-loop μ-loop
 shared-slice-read-ask c = omega (arith, c .before .before .before .before .before .before .before .pre)
 
--- src/token.rt:90:13
 ask-requires : tie.Need-ask-requires Inv-loop μ-loop
 ask-requires c κs = tt
 
--- src/token.rt:91:9
 lead-requires : tie.Need-lead-requires Inv-loop μ-loop
 lead-requires c κs = c .before .before .before .before .before .loop-test .taken
 
--- src/token.rt:89:5
 loop-less : tie.Need-loop-less Inv-loop μ-loop
 loop-less c = omega (arith, c .before .lead .ensures .1, c .before .lead .ensures .2)
 
--- src/token.rt:89:5
 loop-again : tie.Need-loop-again Inv-loop μ-loop
 loop-again c = walking-next (c .before .before .before .before .before .before .before .before .loop .inv) (c .before .before .before .before .before .before .before .loop-test .taken) (sym (eleven-at _ _ _ (c .before .before .before .before .before .before .before .loop-test .taken))) (c .before .before .before .before .ask .ensures) (c .before .lead .ensures .0) (c .before .lead .ensures .2) (c .before .lead .ensures .1) (c .before .before .before .before .ask .kept .1 .1 .0)
 
--- src/token.rt:95:16
 cast-t17 : tie.Need-cast-t17 Inv-loop μ-loop
 cast-t17 c = omega (arith, c .before .loop .inv .low)
 
--- src/token.rt:82:1
 same-length : tie.Need-same-length Inv-loop μ-loop
 same-length c = c .before .loop .inv .long
 
--- src/token.rt:82:1
 returns : tie.Need-returns Inv-loop μ-loop
 returns c = (walking-end (c .before .loop .inv) (c .loop-test .left), omega (arith, c .before .loop .inv .low))
 

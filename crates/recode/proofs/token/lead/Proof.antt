@@ -4,30 +4,22 @@ use Rattle.recode.specs.TokenCopies.{lead-is}
 use borrow.Author.Needs.{needs}
 use Rattle.recode.proofs.token.lead.Statement.{statement}
 use Rattle.recode.proofs.token.lead.Tie as tie
-use Rattle.recode.proofs.token.lead.Reads as reads
-use Rattle.recode.proofs.token.lead.Lts as lts
 
--- src/token.rt:78:11
 add-result : tie.Need-add-result
 add-result c = search needs
 
--- src/token.rt:78:25
 cast-result : tie.Need-cast-result
 cast-result c = search needs
 
--- src/token.rt:78:11
 add-result-2 : tie.Need-add-result-2
 add-result-2 c = omega (arith, bit-small (c .args .bit))
 
--- src/token.rt:78:5
 array-read-result : tie.Need-array-read-result
 array-read-result c = omega (arith, bit-small (c .args .bit))
 
--- src/token.rt:78:5
 cast-result-2 : tie.Need-cast-result-2
 cast-result-2 c = let l = lead-is (c .args .node) (c .args .bit) (c .pre) in rw (l .0) (omega (arith, l .2))
 
--- src/token.rt:73:1
 returns : tie.Need-returns
 returns c = let l = lead-is (c .args .node) (c .args .bit) (c .pre) in (l .0, rw (l .0) (l .1), rw (l .0) (l .2))
 

@@ -2,10 +2,6 @@ use Rattle.recode.specs.TurnCopies.{flow-is}
 use borrow.Author.Needs.{needs}
 use Rattle.recode.proofs.turn.tokens_copied.Statement.{statement}
 use Rattle.recode.proofs.turn.tokens_copied.Tie as tie
-use Rattle.recode.proofs.turn.tokens_copied.Reads as reads
-use Rattle.recode.proofs.turn.tokens_copied.Lts as lts
-use Rattle.recode.proofs.block.copy_residual.Reads as copy-residual-reads
-use Rattle.wide.proofs.wide.widen.Reads as widen-reads
 
 widen-requires : tie.Need-widen-requires
 widen-requires c κs = search needs

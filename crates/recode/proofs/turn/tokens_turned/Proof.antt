@@ -3,13 +3,6 @@ use Rattle.recode.specs.TurnCopies.{tokens-done}
 use borrow.Author.Needs.{needs}
 use Rattle.recode.proofs.turn.tokens_turned.Statement.{statement}
 use Rattle.recode.proofs.turn.tokens_turned.Tie as tie
-use Rattle.recode.proofs.turn.tokens_turned.Reads as reads
-use Rattle.recode.proofs.turn.tokens_turned.Lts as lts
-use Rattle.lent.proofs.columns.write_column.Reads as write-column-reads
-use Rattle.modes.proofs.contexts.bottom.Reads as bottom-reads
-use Rattle.modes.proofs.contexts.right.Reads as right-reads
-use Rattle.recode.proofs.turn.tokens_copied.Reads as tokens-copied-reads
-use Rattle.wide.proofs.wide.narrow.Reads as narrow-reads
 
 tokens-copied-requires : tie.Need-tokens-copied-requires
 tokens-copied-requires c κs = c .before .before .before .before .before .pre

@@ -7,30 +7,19 @@ use Rattle.recode.specs.TurnCopies.{turn-none, turn-done}
 use borrow.Author.Needs.{needs}
 use Rattle.recode.proofs.turn.turn.Statement.{statement}
 use Rattle.recode.proofs.turn.turn.Tie as tie
-use Rattle.recode.proofs.turn.turn.Reads as reads
-use Rattle.recode.proofs.turn.turn.Lts as lts
-use Rattle.lent.proofs.columns.read_column.Reads as read-column-reads
-use Rattle.modes.proofs.whole.read_modes.Reads as read-modes-reads
-use Rattle.recode.proofs.turn.beside.Reads as beside-reads
-use Rattle.recode.proofs.turn.tokens_turned.Reads as tokens-turned-reads
 
--- src/turn.rt:60:9
 read-column-requires : tie.Need-read-column-requires
 read-column-requires c κs = search needs
 
--- src/turn.rt:62:9
 beside-requires : tie.Need-beside-requires
 beside-requires c κs = search needs
 
--- src/turn.rt:72:9
 read-modes-requires : tie.Need-read-modes-requires
 read-modes-requires c κs = search needs
 
--- src/turn.rt:74:21
 enum-known-answer : tie.Need-enum-known-answer
 enum-known-answer c = search needs
 
--- src/turn.rt:75:9
 same-length : tie.Need-same-length
 same-length c = search needs
 

@@ -8,9 +8,6 @@ use Rattle.rescue.specs.Rescue.{markOf}
 use Rattle.rescue.specs.RescueLaws.{marks-built}
 use Rattle.rescue.proofs.marks.mark.Statement.{statement}
 use Rattle.rescue.proofs.marks.mark.Tie as tie
-use Rattle.rescue.proofs.marks.mark.Reads as reads
-use Rattle.rescue.proofs.marks.mark.Lts as lts
-use Rattle.rescue.proofs.marks.mark_of.Reads as mark-of-reads
 
 abbrev Inv-loop : tie.InvT-loop
 Inv-loop marks₀ whole saved i₀ marks i = Filled marks (length marks₀) (markOf whole saved) i
@@ -18,35 +15,27 @@ Inv-loop marks₀ whole saved i₀ marks i = Filled marks (length marks₀) (mar
 abbrev μ-loop : tie.MeasureT-loop
 μ-loop marks₀ whole saved i₀ marks i = length marks₀ - i
 
--- src/marks.rt:22:5
 loop-holds : tie.Need-loop-holds Inv-loop μ-loop
 loop-holds c = filled-none _ _ _ refl
 
--- src/marks.rt:23:20
 mark-of-requires : tie.Need-mark-of-requires Inv-loop μ-loop
 mark-of-requires c κs = search needs
 
--- src/marks.rt:23:9
 slice-write-marks : tie.Need-slice-write-marks Inv-loop μ-loop
 slice-write-marks c = search needs
 
--- src/marks.rt:24:13
 add-i : tie.Need-add-i Inv-loop μ-loop
 add-i c = search needs
 
--- src/marks.rt:22:5
 loop-less : tie.Need-loop-less Inv-loop μ-loop
 loop-less c = omega (arith, c .before .loop-test .taken, c .before .before .loop .inv .long)
 
--- src/marks.rt:22:5
 loop-again : tie.Need-loop-again Inv-loop μ-loop
 loop-again c = filled-next _ (omega (arith, c .before .loop-test .taken, c .before .before .loop .inv .long)) (c .mark-of .ensures) (c .before .before .loop .inv)
 
--- src/marks.rt:18:1
 same-length : tie.Need-same-length Inv-loop μ-loop
 same-length c = c .before .loop .inv .long
 
--- src/marks.rt:18:1
 returns : tie.Need-returns Inv-loop μ-loop
 returns c = marks-built _ _ _ (filled-all (omega (arith, c .loop-test .left, c .before .loop .inv .long)) (c .before .loop .inv))
 

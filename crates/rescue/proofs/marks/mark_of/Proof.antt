@@ -1,18 +1,13 @@
 use Rattle.rescue.specs.RescueLaws.{mark-whole, mark-modes, mark-grey}
 use Rattle.rescue.proofs.marks.mark_of.Statement.{statement}
 use Rattle.rescue.proofs.marks.mark_of.Tie as tie
-use Rattle.rescue.proofs.marks.mark_of.Reads as reads
-use Rattle.rescue.proofs.marks.mark_of.Lts as lts
 
--- src/marks.rt:10:9
 returns : tie.Need-returns
 returns c = mark-whole _ _ _ (c .if1 .taken)
 
--- src/marks.rt:13:9
 returns-2 : tie.Need-returns-2
 returns-2 c = mark-modes _ _ _ (c .before .if1 .left) (c .if2 .taken)
 
--- src/marks.rt:6:1
 returns-3 : tie.Need-returns-3
 returns-3 c = mark-grey _ _ _ (c .before .if1 .left) (c .if2 .left)
 

@@ -22,13 +22,6 @@ use Rattle.rescue.specs.RescueLaws.{legible-at, held-at, rebuilt-turn}
 use Rattle.rescue.proofs.Turns.{Going, going-start, going-next, going-refused, going-end, not-done, gone-none, gone-tokens, tokens-upto, some-wide}
 use Rattle.rescue.proofs.rest.rest.Statement.{statement}
 use Rattle.rescue.proofs.rest.rest.Tie as tie
-use Rattle.rescue.proofs.rest.rest.Reads as reads
-use Rattle.rescue.proofs.rest.rest.Lts as lts
-use Rattle.header.proofs.frame.take.Reads as take-reads
-use Rattle.picture.proofs.rows.Decoded.finished.Reads as finished-reads
-use Rattle.rescue.proofs.turn.turn.Reads as turn-reads
-use Rattle.tile.proofs.partitions.part.Reads as part-reads
-use Rattle.tile.proofs.partitions.pick.Reads as pick-reads
 
 abbrev Inv-loop : tie.InvT-loop
 Inv-loop bytes tile header y₀ u₀ v₀ columns₀ modes₀ strengths₀ from wide blocks first frame r₀ readers₀ left₀ k₀ y u v columns modes strengths r readers left k =
@@ -91,61 +84,47 @@ turned-is c =
     let a = inner c .before in
     rebuilt-turn (pic a) (a .loop .k) (state a) (c .before .before .before .before .before .before .before .before .pick .result) _ _ (c .turn .ensures) (a .before .before .before .before .before .before .part .ensures) (frame-is a) (picked (c .before .before .before .before .before .before .before .before))
 
--- src/rest.rt:51:27
 enum-known-answer : tie.Need-enum-known-answer Inv-loop μ-loop
 enum-known-answer c = search needs
 
--- src/rest.rt:52:9
 finished-requires : tie.Need-finished-requires Inv-loop μ-loop
 finished-requires c κs = search needs
 
--- src/rest.rt:52:9
 returns : tie.Need-returns Inv-loop μ-loop
 returns c =
     let a = c .before .before .before .before .before .before .before .before .before .args in
     gone-none _ _ (a .stop .answer) (stateOf (a .stop .reader) (a .stop .readers) (a .stop .left) (memoryOf (a .y .now) (a .u .now) (a .v .now) (a .columns .now) (a .modes .now) (a .strengths .now))) (c .before .match .keys2) (c .finished .ensures)
 
--- src/rest.rt:55:18
 mul-blocks : tie.Need-mul-blocks Inv-loop μ-loop
 mul-blocks c = let s = c .before .before .before .before .before .before .before .before .before .before .before .before .pre .1 .0 in omega (arith, mul-le-mul (s .wide) (s .high))
 
--- src/rest.rt:56:9
 part-requires : tie.Need-part-requires Inv-loop μ-loop
 part-requires c κs = search needs
 
--- src/rest.rt:57:9
 take-requires : tie.Need-take-requires Inv-loop μ-loop
 take-requires c κs = search needs
 
--- src/rest.rt:63:5
 loop-holds : tie.Need-loop-holds Inv-loop μ-loop
 loop-holds c = let s = c .before .before .before .before .before .before .before .before .before .before .before .before .before .before .before .before .before .before in going-start _ _ _ (tokens-upto (c .before .before .before .before .before .before .before .before .before .answer .given .1) (s .pre .1 .1 .1)) (s .pre .1 .1 .0)
 
--- src/rest.rt:64:19
 div-row : tie.Need-div-row Inv-loop μ-loop
 div-row c = some-wide _ _ _ (less c)
 
--- src/rest.rt:65:13
 pick-requires : tie.Need-pick-requires Inv-loop μ-loop
 pick-requires c κs = search needs
 
--- src/rest.rt:66:17
 mul-t : tie.Need-mul-t Inv-loop μ-loop
 mul-t c = omega (arith, pick-eight c)
 
--- src/rest.rt:66:17
 array-copy-out-t : tie.Need-array-copy-out-t Inv-loop μ-loop
 array-copy-out-t c = pick-eight c
 
--- src/rest.rt:74:29
 rem-readers : tie.Need-rem-readers Inv-loop μ-loop
 rem-readers c = some-wide _ _ _ (less (c .before .before))
 
--- src/rest.rt:76:28
 mul-t36 : tie.Need-mul-t36 Inv-loop μ-loop
 mul-t36 c = omega (arith, shared (c .before .before .before) .wide)
 
--- src/rest.rt:67:13
 turn-requires : tie.Need-turn-requires Inv-loop μ-loop
 turn-requires c κs =
     let i = c .before .before .before .before .before .before .before .before in
@@ -159,88 +138,68 @@ turn-requires c κs =
       ),
     )
 
--- src/rest.rt:88:26
 enum-known-finish : tie.Need-enum-known-finish Inv-loop μ-loop
 enum-known-finish c = search needs
 
--- src/rest.rt:93:9
 mul-readers : tie.Need-mul-readers Inv-loop μ-loop
 mul-readers c = omega (arith, pick-eight (c .before .before .before .before .before .before .before .before .before .before .before .before .before .before .before .before .before .before .before .before .before .before .before .before .before))
 
--- src/rest.rt:93:9
 array-set-from-readers : tie.Need-array-set-from-readers Inv-loop μ-loop
 array-set-from-readers c = pick-eight (c .before .before .before .before .before .before .before .before .before .before .before .before .before .before .before .before .before .before .before .before .before .before .before .before .before)
 
--- src/rest.rt:95:13
 add-k : tie.Need-add-k Inv-loop μ-loop
 add-k c = let i = inner (c .before .before .before .before .before .before .before .before .before .before .before .before .before .before .before .before .before .before) in omega (arith, less i, small (i .before))
 
--- src/rest.rt:63:5
 loop-less : tie.Need-loop-less Inv-loop μ-loop
 loop-less c = let i = inner (c .before .before .before .before .before .before .before .before .before .before .before .before .before .before .before .before .before .before) in omega (arith, less i)
 
--- src/rest.rt:63:5
 loop-again : tie.Need-loop-again Inv-loop μ-loop
 loop-again c =
     let b = c .before .before .before .before .before .before .before .before .before .before .before .before .before .before .before .before .before .before in
     let i = inner b in
     going-next (shared (i .before)) (i .before .loop .inv) (less i) (first-bytes (i .before)) (after b) (turned-is b) (c .before .before .before .before .finish .given .1) (picked (b .before .before .before .before .before .before .before .before))
 
--- src/rest.rt:26:1
 same-length : tie.Need-same-length Inv-loop μ-loop
 same-length c = c .before .loop .inv .live .y ∙ sym (begin (c .before) .pre .1 .1 .0 .y)
 
--- src/rest.rt:26:1
 same-length-2 : tie.Need-same-length-2 Inv-loop μ-loop
 same-length-2 c = c .before .loop .inv .live .u ∙ sym (begin (c .before) .pre .1 .1 .0 .u)
 
--- src/rest.rt:26:1
 same-length-3 : tie.Need-same-length-3 Inv-loop μ-loop
 same-length-3 c = c .before .loop .inv .live .v ∙ sym (begin (c .before) .pre .1 .1 .0 .v)
 
--- src/rest.rt:26:1
 same-length-4 : tie.Need-same-length-4 Inv-loop μ-loop
 same-length-4 c = c .before .loop .inv .live .columns ∙ sym (begin (c .before) .pre .1 .1 .0 .columns)
 
--- src/rest.rt:26:1
 same-length-5 : tie.Need-same-length-5 Inv-loop μ-loop
 same-length-5 c = c .before .loop .inv .live .modes ∙ sym (begin (c .before) .pre .1 .1 .0 .modes)
 
--- src/rest.rt:26:1
 same-length-6 : tie.Need-same-length-6 Inv-loop μ-loop
 same-length-6 c = c .before .loop .inv .live .strengths ∙ sym (begin (c .before) .pre .1 .1 .0 .strengths)
 
--- src/rest.rt:26:1
 returns-2 : tie.Need-returns-2 Inv-loop μ-loop
 returns-2 c =
     let a = c .before in
     gone-tokens _ (pic a) (state₀ a) (a .before .before .before .before .before .before .before .before .before .before .answer .given .1) (going-end (a .loop .inv) (c .loop-test .left))
 
--- src/rest.rt:26:1
 same-length-7 : tie.Need-same-length-7 Inv-loop μ-loop
 same-length-7 c = let b = c .before .before .before .before .before .before .before .before .before .before .before .before .before in let a = inner b .before in b .turn .kept .1 .1 .0 ∙ a .loop .inv .live .y ∙ sym (begin a .pre .1 .1 .0 .y)
 
--- src/rest.rt:26:1
 same-length-8 : tie.Need-same-length-8 Inv-loop μ-loop
 same-length-8 c = let b = c .before .before .before .before .before .before .before .before .before .before .before .before .before in let a = inner b .before in b .turn .kept .1 .1 .1 .0 ∙ a .loop .inv .live .u ∙ sym (begin a .pre .1 .1 .0 .u)
 
--- src/rest.rt:26:1
 same-length-9 : tie.Need-same-length-9 Inv-loop μ-loop
 same-length-9 c = let b = c .before .before .before .before .before .before .before .before .before .before .before .before .before in let a = inner b .before in b .turn .kept .1 .1 .1 .1 .0 ∙ a .loop .inv .live .v ∙ sym (begin a .pre .1 .1 .0 .v)
 
--- src/rest.rt:26:1
 same-length-10 : tie.Need-same-length-10 Inv-loop μ-loop
 same-length-10 c = let b = c .before .before .before .before .before .before .before .before .before .before .before .before .before in let a = inner b .before in b .turn .kept .1 .1 .1 .1 .1 .0 ∙ a .loop .inv .live .columns ∙ sym (begin a .pre .1 .1 .0 .columns)
 
--- src/rest.rt:26:1
 same-length-11 : tie.Need-same-length-11 Inv-loop μ-loop
 same-length-11 c = let b = c .before .before .before .before .before .before .before .before .before .before .before .before .before in let a = inner b .before in b .turn .kept .1 .1 .1 .1 .1 .1 .0 ∙ a .loop .inv .live .modes ∙ sym (begin a .pre .1 .1 .0 .modes)
 
--- src/rest.rt:26:1
 same-length-12 : tie.Need-same-length-12 Inv-loop μ-loop
 same-length-12 c = let b = c .before .before .before .before .before .before .before .before .before .before .before .before .before in let a = inner b .before in b .turn .kept .1 .1 .1 .1 .1 .1 .1 .0 ∙ a .loop .inv .live .strengths ∙ sym (begin a .pre .1 .1 .0 .strengths)
 
--- src/rest.rt:26:1
 returns-3 : tie.Need-returns-3 Inv-loop μ-loop
 returns-3 c =
     let b = c .before .before .before .before .before .before .before .before .before .before .before .before .before in

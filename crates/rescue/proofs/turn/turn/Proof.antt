@@ -10,14 +10,6 @@ use Rattle.rescue.proofs.Turns.{not-done}
 use borrow.Author.Needs.{needs}
 use Rattle.rescue.proofs.turn.turn.Statement.{statement}
 use Rattle.rescue.proofs.turn.turn.Tie as tie
-use Rattle.rescue.proofs.turn.turn.Reads as reads
-use Rattle.rescue.proofs.turn.turn.Lts as lts
-use Rattle.lent.proofs.columns.read_column.Reads as read-column-reads
-use Rattle.lent.proofs.columns.write_column.Reads as write-column-reads
-use Rattle.lent.proofs.macroblocks.write_mode_record.Reads as write-mode-record-reads
-use Rattle.lent.proofs.macroblocks.write_strength.Reads as write-strength-reads
-use Rattle.macroblock.proofs.rebuilt.rebuild.Reads as rebuild-reads
-use Rattle.picture.proofs.turn.beside.Reads as beside-reads
 
 -- places: the function's start from behind the call
 abbrev start : tie.After-rebuild → tie.Start
@@ -50,79 +42,60 @@ ends c x e =
     (λ i. c .before .before .before .before .before .before .before .before .before .before .before .before .before .before .before .shared-slice-known .given i .fits)
     (p .1 .0 .valid) x e
 
--- src/turn.rt:53:9
 read-column-requires : tie.Need-read-column-requires
 read-column-requires c κs = search needs
 
--- src/turn.rt:55:9
 beside-requires : tie.Need-beside-requires
 beside-requires c κs = search needs
 
--- src/turn.rt:56:9
 rebuild-requires : tie.Need-rebuild-requires
 rebuild-requires c κs = search needs
 
--- src/turn.rt:70:22
 enum-known-answer : tie.Need-enum-known-answer
 enum-known-answer c = search needs
 
--- src/turn.rt:72:9
 same-length : tie.Need-same-length
 same-length c = search needs
 
--- src/turn.rt:72:9
 same-length-2 : tie.Need-same-length-2
 same-length-2 c = search needs
 
--- src/turn.rt:72:9
 same-length-3 : tie.Need-same-length-3
 same-length-3 c = search needs
 
--- src/turn.rt:72:9
 same-length-4 : tie.Need-same-length-4
 same-length-4 c = search needs
 
--- src/turn.rt:72:9
 returns : tie.Need-returns
 returns c = let d = c .before .before .before .before .before .before .before .before in turn-stopped _ _ _ (before d) (step d) (answer d) (not-done (d .rebuild .result .answer) (c .before .match .keys2))
 
--- src/turn.rt:82:5
 write-column-requires : tie.Need-write-column-requires
 write-column-requires c κs = search needs
 
--- src/turn.rt:83:5
 write-mode-record-requires : tie.Need-write-mode-record-requires
 write-mode-record-requires c κs = search needs
 
--- src/turn.rt:84:5
 write-strength-requires : tie.Need-write-strength-requires
 write-strength-requires c κs = search needs
 
--- src/turn.rt:29:1
 same-length-5 : tie.Need-same-length-5
 same-length-5 c = search needs
 
--- src/turn.rt:29:1
 same-length-6 : tie.Need-same-length-6
 same-length-6 c = search needs
 
--- src/turn.rt:29:1
 same-length-7 : tie.Need-same-length-7
 same-length-7 c = search needs
 
--- src/turn.rt:29:1
 same-length-8 : tie.Need-same-length-8
 same-length-8 c = search needs
 
--- src/turn.rt:29:1
 same-length-9 : tie.Need-same-length-9
 same-length-9 c = search needs
 
--- src/turn.rt:29:1
 same-length-10 : tie.Need-same-length-10
 same-length-10 c = search needs
 
--- src/turn.rt:29:1
 returns-2 : tie.Need-returns-2
 returns-2 c =
     let w = c .before .before in

@@ -5,28 +5,19 @@ use Rattle.writer.specs.RoomLaws.{fine-fact, flush-bad, flush-good}
 use borrow.Author.Needs.{needs}
 use Rattle.writer.proofs.Writer.flush.Statement.{statement}
 use Rattle.writer.proofs.Writer.flush.Tie as tie
-use Rattle.writer.proofs.Writer.flush.Reads as reads
-use Rattle.writer.proofs.Writer.flush.Lts as lts
-use Rattle.writer.proofs.fine.Reads as fine-reads
-use Rattle.writer.proofs.finish.Reads as finish-reads
 
--- src/lib.rt:215:13
 fine-requires : tie.Need-fine-requires
 fine-requires c κs = search needs
 
--- src/lib.rt:216:13
 returns : tie.Need-returns
 returns c = flush-bad _ _ (sym (c .before .fine .ensures) ∙ not-true _ (c .if1 .taken))
 
--- src/lib.rt:218:9
 finish-requires : tie.Need-finish-requires
 finish-requires c κs = let f = fine-fact _ (sym (c .before .before .fine .ensures) ∙ not-false _ (c .before .if1 .left)) in (f .0, f .1)
 
--- src/lib.rt:212:5
 same-length : tie.Need-same-length
 same-length c = search needs
 
--- src/lib.rt:212:5
 returns-2 : tie.Need-returns-2
 returns-2 c = let f = c .before .before .finish .ensures in (λ i. endedOf (f .0 i) (f .1 i)) ∙ flush-good _ _ (sym (c .before .before .before .before .before .fine .ensures) ∙ not-false _ (c .before .before .before .before .if1 .left))
 
