@@ -1,5 +1,6 @@
 // The tokens of a block, and of the blocks of a macroblock, read and written again (RFC 6386, section 13).
 use crate::pipe::Pipe;
+use crate::token::LEADS;
 use crate::token::copy_rest;
 use crate::token::copy_token;
 ghost use mathlib.Core.Path.{_≡_};
@@ -39,12 +40,12 @@ fn band(table: &[u8; 16], n: usize) -> usize
 }
 
 // Where the eleven probabilities of a position stand in the table.
-fn place(kind: usize, n: usize, ctx: usize) -> usize
+fn place(table: &[u8; 16], kind: usize, n: usize, ctx: usize) -> usize
+    requires { ⌜ now table ≡ bands ⌝ }
     requires { ⌜ (kind < 4) × (n < 16) × (ctx < 3) ⌝ }
     ensures { λ r. ⌜ (r ≡ probabilityPlace kind n ctx) × (r + 11 ≤ probabilityCount) ⌝ }
 {
-    let bands = BANDS;
-    ((kind * 8 + band(&bands, n)) * 3 + ctx) * 11
+    ((kind * 8 + band(table, n)) * 3 + ctx) * 11
 }
 
 // The context after a token 1..11.
@@ -74,12 +75,15 @@ fn copy_block(
     requires { ⌜ (kind < 4) × (ctx < 3) × (first ≤ 1) ⌝ }
     ensures { λ q. ⌜ BlockCopies (now (table .entry)) kind ctx first (now (s .entry)) p (now (out .entry)) (q .end) (q .next) (now (out .exit)) ⌝ }
 {
+    let bands = BANDS;
+    let leads = LEADS;
     let mut next = p;
     let mut n = first;
     let mut context = ctx;
     let mut zero = false;
     while n < 16 {
-        let t = copy_token(s, next, out, table, place(kind, n, context), zero);
+        let at = place(&bands, kind, n, context);
+        let t = copy_token(s, next, out, table, &leads, at, zero);
         let token = t.token;
         let q = t.next;
         if token == 0 {

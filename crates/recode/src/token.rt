@@ -8,12 +8,11 @@ ghost use Rattle.numbers.specs.Flags.{bitOf};
 ghost use Rattle.coefficients.specs.Block.{magnitude, signedValue};
 ghost use Rattle.reader.specs.Extra.{extra};
 ghost use Rattle.reader.specs.Token.{token, elevenAt};
-ghost use Rattle.reader.specs.Trees.{branchAt};
 ghost use Rattle.recode.specs.Copies.{Copies, same, nothing};
-ghost use Rattle.recode.specs.TokenCopies.{ledTo, Rest};
+ghost use Rattle.recode.specs.TokenCopies.{leads, ledTo, From, Rest};
 
 // Where each entry of coeff_tree leads: a node, or 11 and the token.
-const LEADS: [u8; 22] = [
+pub(crate) const LEADS: [u8; 22] = [
     11,
     1,
     12,
@@ -57,39 +56,89 @@ pub(crate) struct TokenCopied {
     pub next: Pipe,
 }
 
-// Where the bit leads from a node.
-fn lead(node: usize, bit: bool) -> usize
+// Where the bit leads from a node. The table is made once a block and lent: a constant array is written to the stack at each use.
+fn lead(tree: &[u8; 22], node: usize, bit: bool) -> usize
+    requires { ⌜ now tree ≡ leads ⌝ }
     requires { ⌜ node < 11 ⌝ }
     ensures { λ r. ⌜ (r ≡ ledTo node bit) × (node < r) × (r < 23) ⌝ }
 {
-    let leads = LEADS;
-    leads[node + node + bit as usize] as usize
+    tree[node + node + bit as usize] as usize
 }
 
-// One token, its eleven probabilities from `at` on in the table; after a zero the block does not end.
-pub(crate) fn copy_token(
+// A number's token, from node 2 on.
+fn copy_number(
     s: &[u8],
     p: Pipe,
     out: &mut [u8],
     table: &[u8],
+    tree: &[u8; 22],
     at: usize,
-    zero: bool,
 ) -> TokenCopied
+    requires { ⌜ now tree ≡ leads ⌝ }
     requires { ⌜ at + 11 ≤ length (now table) ⌝ }
-    ensures { λ q. ⌜ Copies same (token (elevenAt (now (table .entry)) at) zero) (now (s .entry)) p (now (out .entry))
-        (q .token) (q .next) (now (out .exit)) × (q .token < 12) ⌝ }
+    ensures { λ q. ⌜ From (now (s .entry)) (elevenAt (now (table .entry)) at) 2 p (now (out .entry)) (q .token) (q .next) (now (out .exit))
+        × (q .token < 12) ⌝ }
 {
     let mut next = p;
-    let mut i = zero as usize;
+    let mut i = 2;
     while i < 11 {
         let a = ask(s, next, out, table[at + i]);
-        i = lead(i, a.bit);
+        i = lead(tree, i, a.bit);
         next = a.next;
     }
     TokenCopied {
         token: (i - 11) as u8,
         next: next,
     }
+}
+
+// A zero or a number, from node 1 on.
+fn copy_value(
+    s: &[u8],
+    p: Pipe,
+    out: &mut [u8],
+    table: &[u8],
+    tree: &[u8; 22],
+    at: usize,
+) -> TokenCopied
+    requires { ⌜ now tree ≡ leads ⌝ }
+    requires { ⌜ at + 11 ≤ length (now table) ⌝ }
+    ensures { λ q. ⌜ From (now (s .entry)) (elevenAt (now (table .entry)) at) 1 p (now (out .entry)) (q .token) (q .next) (now (out .exit))
+        × (q .token < 12) ⌝ }
+{
+    let z = ask(s, p, out, table[at + 1]);
+    let x = z.next;
+    if !z.bit {
+        return TokenCopied { token: 1, next: x };
+    }
+    copy_number(s, x, out, table, tree, at)
+}
+
+// One token, its eleven probabilities from `at` on in the table; after a zero the block does not end. The end and a zero, the most frequent
+// tokens, are found by tests and not by the table.
+pub(crate) fn copy_token(
+    s: &[u8],
+    p: Pipe,
+    out: &mut [u8],
+    table: &[u8],
+    tree: &[u8; 22],
+    at: usize,
+    zero: bool,
+) -> TokenCopied
+    requires { ⌜ now tree ≡ leads ⌝ }
+    requires { ⌜ at + 11 ≤ length (now table) ⌝ }
+    ensures { λ q. ⌜ Copies same (token (elevenAt (now (table .entry)) at) zero) (now (s .entry)) p (now (out .entry))
+        (q .token) (q .next) (now (out .exit)) × (q .token < 12) ⌝ }
+{
+    if zero {
+        return copy_value(s, p, out, table, tree, at);
+    }
+    let e = ask(s, p, out, table[at]);
+    let x = e.next;
+    if !e.bit {
+        return TokenCopied { token: 0, next: x };
+    }
+    copy_value(s, x, out, table, tree, at)
 }
 
 // As many bits as there are probabilities.

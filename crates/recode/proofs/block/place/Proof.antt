@@ -1,6 +1,5 @@
 use native.Mathlib.Omega.{arith}
-use mathlib.Core.Path.{refl}
-use Rattle.coefficients.specs.Block.{bands, probabilityPlace}
+use Rattle.coefficients.specs.Block.{probabilityPlace}
 use borrow.Author.Needs.{needs}
 use Rattle.recode.proofs.block.place.Statement.{statement}
 use Rattle.recode.proofs.block.place.Tie as tie
@@ -9,8 +8,7 @@ mul-result : tie.Need-mul-result
 mul-result c = search needs
 
 band-requires : tie.Need-band-requires
-unfolding bands
-band-requires c κs = (refl, c .before .pre .1)
+band-requires c κs = (c .pre .0, c .pre .1 .1)
 
 add-result : tie.Need-add-result
 add-result c = search needs
@@ -26,7 +24,7 @@ mul-result-3 c = search needs
 
 returns : tie.Need-returns
 unfolding probabilityPlace
-returns c = (rw (c .band .ensures .0), omega (arith, c .band .ensures .1, c .before .before .pre))
+returns c = (rw (c .band .ensures .0), omega (arith, c .band .ensures .1, c .before .pre .1))
 
 pub place-spec : {M : Type 1} → statement M
 place-spec =

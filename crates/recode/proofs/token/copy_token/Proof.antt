@@ -1,67 +1,66 @@
-use Prim.Native.Nat.{_-_}
+use Prim.Native.Nat.{ℕ, _+_}
 use native.Mathlib.Omega.{arith}
-use mathlib.Core.Path.{refl, sym}
-use lib.ListN.{length}
+use mathlib.Core.List.{List}
+use mathlib.Core.Path.{_≡_, refl, sym, _∙_, ap}
+use lib.ListN.{getD}
+use borrow.Author.Needs.{needs}
+use borrow.Author.Tests.{not-true, not-false}
 use Rattle.reader.specs.Token.{elevenAt}
 use Rattle.reader.specs.TokenLaws.{eleven-at}
-use Rattle.recode.specs.TokenCopies.{Walking, walking-start, walking-next, walking-end}
-use borrow.Author.Needs.{needs}
+use Rattle.recode.specs.TokenCopies.{from-leaf, from-node, token-from}
 use Rattle.recode.proofs.token.copy_token.Statement.{statement}
 use Rattle.recode.proofs.token.copy_token.Tie as tie
 
-abbrev Inv-loop : tie.InvT-loop
-Inv-loop s out₀ table at zero next₀ i₀ out next i = Walking s (elevenAt table at) zero next₀ out₀ next i out
+first : (table : List ℕ) (at : ℕ) → getD table at 0 ≡ getD (elevenAt table at) 0 0
+first table at =
+    let e : at ≡ at + 0 = omega arith in
+    ap (λ (k : ℕ). getD table k 0) e ∙ sym (eleven-at table at 0 (omega arith))
 
-abbrev μ-loop : tie.MeasureT-loop
-μ-loop s out₀ table at zero next₀ i₀ out next i = 23 - i
+copy-value-requires : tie.Need-copy-value-requires
+copy-value-requires c κs = c .before .before .before .before .before .pre
 
-cast-i : tie.Need-cast-i Inv-loop μ-loop
-cast-i c = search needs
+same-length : tie.Need-same-length
+same-length c = search needs
 
-loop-holds : tie.Need-loop-holds Inv-loop μ-loop
-loop-holds c = walking-start _ _ _ _ _ refl
+returns : tie.Need-returns
+returns c = let a = c .before .before .before .before .before .before .before .before .args in (token-from (elevenAt (a .table .now) (a .at)) (c .before .before .before .before .if1 .taken) (c .before .before .copy-value .ensures .0), c .before .before .copy-value .ensures .1)
 
-add-ask : tie.Need-add-ask Inv-loop μ-loop
-add-ask c = omega (arith, c .before .before .before .before .before .before .pre)
+shared-slice-read-ask : tie.Need-shared-slice-read-ask
+shared-slice-read-ask c = omega (arith, c .before .before .before .before .before .before .pre .1)
 
-shared-slice-read-ask : tie.Need-shared-slice-read-ask Inv-loop μ-loop
-shared-slice-read-ask c = omega (arith, c .before .before .before .before .before .before .before .pre)
-
-ask-requires : tie.Need-ask-requires Inv-loop μ-loop
+ask-requires : tie.Need-ask-requires
 ask-requires c κs = tt
 
-lead-requires : tie.Need-lead-requires Inv-loop μ-loop
-lead-requires c κs = c .before .before .before .before .before .loop-test .taken
+same-length-2 : tie.Need-same-length-2
+same-length-2 c = search needs
 
-loop-less : tie.Need-loop-less Inv-loop μ-loop
-loop-less c = omega (arith, c .before .lead .ensures .1, c .before .lead .ensures .2)
+returns-2 : tie.Need-returns-2
+returns-2 c =
+    let a = c .before .before .before .before .before .before .before .before .before .before .before .before .args in
+    (token-from (elevenAt (a .table .now) (a .at)) (c .before .before .before .before .before .before .before .before .if1 .left) (from-leaf (elevenAt (a .table .now) (a .at)) 0 (omega arith) (first (a .table .now) (a .at)) (c .before .before .before .before .before .ask .ensures) (not-true _ (c .if2 .taken)) refl), omega arith)
 
-loop-again : tie.Need-loop-again Inv-loop μ-loop
-loop-again c = walking-next (c .before .before .before .before .before .before .before .before .loop .inv) (c .before .before .before .before .before .before .before .loop-test .taken) (sym (eleven-at _ _ _ (c .before .before .before .before .before .before .before .loop-test .taken))) (c .before .before .before .before .ask .ensures) (c .before .lead .ensures .0) (c .before .lead .ensures .2) (c .before .lead .ensures .1) (c .before .before .before .before .ask .kept .1 .1 .0)
+copy-value-requires-2 : tie.Need-copy-value-requires-2
+copy-value-requires-2 c κs = c .before .before .before .before .before .before .before .before .before .before .before .before .before .pre
 
-cast-t17 : tie.Need-cast-t17 Inv-loop μ-loop
-cast-t17 c = omega (arith, c .before .loop .inv .low)
+same-length-3 : tie.Need-same-length-3
+same-length-3 c = search needs
 
-same-length : tie.Need-same-length Inv-loop μ-loop
-same-length c = c .before .loop .inv .long
-
-returns : tie.Need-returns Inv-loop μ-loop
-returns c = (walking-end (c .before .loop .inv) (c .loop-test .left), omega (arith, c .before .loop .inv .low))
+returns-3 : tie.Need-returns-3
+returns-3 c =
+    let a = c .before .before .before .before .before .before .before .before .before .before .before .before .before .before .before .before .args in
+    (token-from (elevenAt (a .table .now) (a .at)) (c .before .before .before .before .before .before .before .before .before .before .before .before .if1 .left) (from-node (elevenAt (a .table .now) (a .at)) 0 (omega arith) (first (a .table .now) (a .at)) (c .before .before .before .before .before .before .before .before .before .ask .ensures) (not-false _ (c .before .before .before .before .if2 .left)) refl (c .before .before .copy-value2 .ensures .0)), c .before .before .copy-value2 .ensures .1)
 
 pub copy-token-spec : {M : Type 1} → statement M
 copy-token-spec =
     tie.close
     (tie.spec
-    Inv-loop
-    μ-loop
-    cast-i
-    loop-holds
-    add-ask
+    copy-value-requires
+    same-length
+    returns
     shared-slice-read-ask
     ask-requires
-    lead-requires
-    loop-less
-    loop-again
-    cast-t17
-    same-length
-    returns)
+    same-length-2
+    returns-2
+    copy-value-requires-2
+    same-length-3
+    returns-3)

@@ -6,24 +6,24 @@ use Rattle.recode.proofs.token.lead.Statement.{statement}
 use Rattle.recode.proofs.token.lead.Tie as tie
 
 add-result : tie.Need-add-result
-add-result c = search needs
+add-result c = omega (arith, c .pre .1)
 
 cast-result : tie.Need-cast-result
 cast-result c = search needs
 
 add-result-2 : tie.Need-add-result-2
-add-result-2 c = omega (arith, bit-small (c .args .bit))
+add-result-2 c = omega (arith, bit-small (c .args .bit), c .pre .1)
 
-array-read-result : tie.Need-array-read-result
-array-read-result c = omega (arith, bit-small (c .args .bit))
+element-copy-out-result : tie.Need-element-copy-out-result
+element-copy-out-result c = omega (arith, bit-small (c .args .bit), c .pre .1)
 
 cast-result-2 : tie.Need-cast-result-2
-cast-result-2 c = let l = lead-is (c .args .node) (c .args .bit) (c .pre) in rw (l .0) (omega (arith, l .2))
+cast-result-2 c = omega (arith, lead-is (c .before .args .node) (c .before .args .bit) (c .before .pre .0) (c .before .pre .1) .2)
 
 returns : tie.Need-returns
-returns c = let l = lead-is (c .args .node) (c .args .bit) (c .pre) in (l .0, rw (l .0) (l .1), rw (l .0) (l .2))
+returns c = lead-is (c .before .args .node) (c .before .args .bit) (c .before .pre .0) (c .before .pre .1)
 
 pub lead-spec : {M : Type 1} → statement M
 lead-spec =
     tie.close
-    (tie.spec add-result cast-result add-result-2 array-read-result cast-result-2 returns)
+    (tie.spec add-result cast-result add-result-2 element-copy-out-result cast-result-2 returns)
