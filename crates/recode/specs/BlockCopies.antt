@@ -1,15 +1,15 @@
 -- The blocks of a macroblock, read and written again: the steps of the proofs.
-use Prim.Native.Nat.{ℕ, zero, suc, _+_, _-_, _*_, _/_, _%_, _≤_, _<_}
+use Prim.Native.Nat.{ℕ, zero, suc, _+_, _-_, _*_, _≤_, _<_}
 use native.Mathlib.Numerals.{add-one}
 use native.Mathlib.Omega.{arith}
 use mathlib.Core.Path.{_≡_, refl, sym, _∙_, ap, subst}
-use mathlib.Core.Bool.{Bool, true, false, _&&_, _||_}
+use mathlib.Core.Bool.{Bool, true, false, _&&_}
 use mathlib.Core.List.{List}
 use mathlib.Core.Logic.{⊎-elim}
-use lib.Dec.{ltb, leb, eqb}
+use lib.Dec.{ltb, eqb}
 use lib.IntN.{ℤ, pos}
 use lib.ListN.{length, getD, set, replicate}
-use borrow.Author.Tests.{le-leb, lt-leb, eq-eqb, ne-eqb}
+use borrow.Author.Tests.{eq-eqb, ne-eqb}
 use Rattle.numbers.specs.Flags.{bitOf}
 use Rattle.numbers.specs.Tests.{lt-or, eq-or}
 use Rattle.header.specs.declared.quantizers.Factors.{Factors}
@@ -17,14 +17,16 @@ use Rattle.reader.specs.declared.boolean.Reader.{Reader}
 use Rattle.reader.specs.Reading.{Reading, done, _>>=_}
 use Rattle.reader.specs.Token.{token, elevenAt}
 use Rattle.coefficients.specs.Block.{Coefficients, block, blockFrom, probabilityPlace, probabilitiesAt, signedValue, quantizerAt, contextAfter, zigzag}
+use Rattle.coefficients.specs.FastLaws.{restOf}
 use Rattle.transform.specs.Transform.{samplesOf}
-use Rattle.residual.specs.Residual.{Model, Flags, initial, cleared, coordinates, secondKind, lumaKind, coded, flagged, secondPlace, spread, second, emptyOf, advance, blocksFrom, dcStage, residualOf, sixteenAt, stored}
-use Rattle.residual.specs.Residual as residual
-use Rattle.residual.specs.ResidualLaws.{coordinates-in, kind-luma, kind-chroma, flags-flagged, flags-cleared}
+use Rattle.residual.specs.Residual.{Model, Flags, initial, cleared, coordinates, secondKind, lumaKind, flagged, secondPlace, spread, second, emptyOf, advance, blocksFrom, residualOf, sixteenAt, stored}
+use Rattle.residual.specs.Quick.{kindAt, placeAt, quickPart}
+use Rattle.residual.specs.QuickLaws.{kind-later}
+use Rattle.residual.specs.ResidualLaws.{kind-luma, kind-chroma, flags-flagged}
 use Rattle.writer.specs.Encoder.{Encoder}
 use Rattle.recode.specs.declared.pipe.Pipe.{Pipe}
 use Rattle.recode.specs.declared.block.Flow.{Flow}
-use Rattle.recode.specs.Copies.{same, nothing, Going, Gave, Copies, Called, going-done, going-as, going-call, gave-as}
+use Rattle.recode.specs.Copies.{same, Going, Copies, going-done, going-as, going-call}
 use Rattle.recode.specs.TokenCopies.{Rest}
 
 -- ---- a block
@@ -49,29 +51,19 @@ BlockCopies table kind ctx first s p room end q new = (q0 q1 : ℕ) (values : Li
 
 -- what follows a token
 module _ (table : List ℕ) (kind q0 q1 left n : ℕ) (values : List ℤ) where
-  unfoldable restOf : ℕ → Reading Coefficients
-  restOf t =
-      elim (eqb t 0) [
-        | true ↦ done (record { end = n; values = values })
-        | false ↦ elim (eqb t 1) [
-          | true ↦ blockFrom table kind q0 q1 left (n + 1) 0 true values
-          | false ↦ signedValue t (quantizerAt n q0 q1) >>= (λ v. blockFrom table kind q0 q1 left (n + 1) (contextAfter t) false (set values (getD zigzag n 0) v))
-        ]
-      ]
-
-  block-asks : (ctx : ℕ) (z : Bool) → blockFrom table kind q0 q1 (suc left) n ctx z values ≡ (token (probabilitiesAt table kind n ctx) z >>= restOf)
+  block-asks : (ctx : ℕ) (z : Bool) → blockFrom table kind q0 q1 (suc left) n ctx z values ≡ (token (probabilitiesAt table kind n ctx) z >>= restOf table kind q0 q1 left n values)
   unfolding blockFrom restOf
   block-asks ctx z = refl
 
-  rest-ends : (t : ℕ) → t ≡ 0 → restOf t ≡ done (record { end = n; values = values })
+  rest-ends : (t : ℕ) → t ≡ 0 → restOf table kind q0 q1 left n values t ≡ done (record { end = n; values = values })
   unfolding restOf
   rest-ends t e = rw (eq-eqb _ _ e, restOf)
 
-  rest-zero : (t : ℕ) → t ≡ 1 → restOf t ≡ blockFrom table kind q0 q1 left (n + 1) 0 true values
+  rest-zero : (t : ℕ) → t ≡ 1 → restOf table kind q0 q1 left n values t ≡ blockFrom table kind q0 q1 left (n + 1) 0 true values
   unfolding restOf
-  rest-zero t e = ap restOf e
+  rest-zero t e = ap (restOf table kind q0 q1 left n values) e
 
-  rest-number : (t : ℕ) → (t ≡ 0 → ⊥) → (t ≡ 1 → ⊥) → restOf t ≡ (signedValue t (quantizerAt n q0 q1) >>= (λ v. blockFrom table kind q0 q1 left (n + 1) (contextAfter t) false (set values (getD zigzag n 0) v)))
+  rest-number : (t : ℕ) → (t ≡ 0 → ⊥) → (t ≡ 1 → ⊥) → restOf table kind q0 q1 left n values t ≡ (signedValue t (quantizerAt n q0 q1) >>= (λ v. blockFrom table kind q0 q1 left (n + 1) (contextAfter t) false (set values (getD zigzag n 0) v)))
   unfolding restOf
   rest-number t e f = rw (ne-eqb _ _ e, restOf, ne-eqb _ _ f, restOf)
 
@@ -150,23 +142,6 @@ module _ {table : List ℕ} {kind ctx₀ first : ℕ} {s : List ℕ} {p₀ : Pip
             }
 
 -- ---- a part: 0 is the second-order block, i + 1 is block i
-unfoldable pub kindOf : Bool → ℕ → ℕ
-kindOf small j = elim (eqb j 0) [ true ↦ 1 | false ↦ elim (leb 17 j) [ true ↦ 2 | false ↦ elim small [ true ↦ 3 | false ↦ 0 ] ] ]
-
-unfoldable pub firstOf : Bool → ℕ → ℕ
-firstOf small j = elim (eqb j 0 || leb 17 j) [ true ↦ 0 | false ↦ elim small [ true ↦ 0 | false ↦ 1 ] ]
-
-unfoldable pub acrossOf : ℕ → ℕ
-acrossOf j = elim (eqb j 0) [ true ↦ 8 | false ↦ coordinates (j - 1) .x ]
-
-unfoldable pub downOf : ℕ → ℕ
-downOf j = elim (eqb j 0) [ true ↦ 8 | false ↦ coordinates (j - 1) .y ]
-
--- its grammar
-abbrev pub partOf : List ℕ → Factors → Bool → ℕ → Model → Reading Model
-partOf table f small zero m = second table f m
-partOf table f small (suc i) m = advance table f small i m
-
 -- the flags are what its caller sees
 abbrev pub edges : Model → List ℕ × List ℕ
 edges m = (m .top, m .left)
@@ -174,38 +149,27 @@ edges m = (m .top, m .left)
 pub record PartCopies (table : List ℕ) (small : Bool) (j : ℕ) (s : List ℕ) (m : Flow) (room : List ℕ) (q : Flow) (new : List ℕ) : Type 0 where
   pub top : Flags (m .top) → Flags (q .top)
   pub left : Flags (m .left) → Flags (q .left)
-  pub copies : (f : Factors) (x : Model) → x .top ≡ m .top → x .left ≡ m .left → Flags (m .top) → Flags (m .left) → Copies edges (partOf table f small j x) s (m .pipe) room (q .top, q .left) (q .pipe) new
+  pub copies : (f : Factors) (x : Model) → x .top ≡ m .top → x .left ≡ m .left → Flags (m .top) → Flags (m .left) → Copies edges (quickPart table f small j x) s (m .pipe) room (q .top, q .left) (q .pipe) new
 
--- the kind, the first position and the flags of block i, whatever the factors
-kind-same : (f : Factors) (small : Bool) (i : ℕ) → (residual.kindOf f small i .kind ≡ kindOf small (suc i)) × (residual.kindOf f small i .first ≡ firstOf small (suc i))
-unfolding kindOf firstOf
-kind-same f small i =
+-- the kind of luma and of chroma, whatever the factors
+pub kind-luma-at : (f : Factors) (small : Bool) (j : ℕ) → (j ≡ 0 → ⊥) → j < 17 → lumaKind f small .kind ≡ kindAt f small j .kind
+kind-luma-at f small j n l = (λ i. sym (kind-luma f small (j - 1) (omega arith)) i .kind) ∙ (λ i. kind-later f small j n i .kind)
+
+pub kind-chroma-at : (f : Factors) (small : Bool) (j : ℕ) → 17 ≤ j → 2 ≡ kindAt f small j .kind
+kind-chroma-at f small j l = (λ i. sym (kind-chroma f small (j - 1) (omega arith)) i .kind) ∙ (λ i. kind-later f small j (λ e. omega arith) i .kind)
+
+-- the first position goes by it
+luma-starts : (f : Factors) (small : Bool) → lumaKind f small .first ≡ bitOf (eqb (lumaKind f small .kind) 0)
+luma-starts f true = refl
+luma-starts f false = refl
+
+kind-starts : (f : Factors) (small : Bool) (j : ℕ) → kindAt f small j .first ≡ bitOf (eqb (kindAt f small j .kind) 0)
+kind-starts f small zero = refl
+kind-starts f small (suc i) =
     ⊎-elim
-    (λ (h : i < 16). ((λ j. kind-luma f small i h j .kind) ∙ luma-kind small h, (λ j. kind-luma f small i h j .first) ∙ luma-first small h))
-    (λ (h : 16 ≤ i). ((λ j. kind-chroma f small i h j .kind) ∙ rw (some, kindOf, le-leb 17 (suc i) (omega arith), kindOf), (λ j. kind-chroma f small i h j .first) ∙ rw (some, le-leb 17 (suc i) (omega arith), firstOf)))
+    (λ (h : i < 16). (λ j. kind-luma f small i h j .first) ∙ luma-starts f small ∙ (λ j. bitOf (eqb (sym (kind-luma f small i h) j .kind) 0)))
+    (λ (h : 16 ≤ i). (λ j. kind-chroma f small i h j .first) ∙ (λ j. bitOf (eqb (sym (kind-chroma f small i h) j .kind) 0)))
     (lt-or i 16)
-  where
-    some : eqb (suc i) 0 ≡ false
-    some = ne-eqb (suc i) 0 (λ e. omega arith)
-
-    luma-kind : (b : Bool) → i < 16 → lumaKind f b .kind ≡ kindOf b (suc i)
-    luma-kind true h = rw (some, kindOf, lt-leb 17 (suc i) (omega arith), kindOf)
-    luma-kind false h = rw (some, kindOf, lt-leb 17 (suc i) (omega arith), kindOf)
-
-    luma-first : (b : Bool) → i < 16 → lumaKind f b .first ≡ firstOf b (suc i)
-    luma-first true h = rw (some, lt-leb 17 (suc i) (omega arith), firstOf)
-    luma-first false h = rw (some, lt-leb 17 (suc i) (omega arith), firstOf)
-
-less-one : (i : ℕ) → i ≡ suc i - 1
-less-one i = omega arith
-
-across-same : (i : ℕ) → coordinates i .x ≡ acrossOf (suc i)
-unfolding acrossOf
-across-same i = rw (ne-eqb (suc i) 0 (λ e. omega arith), acrossOf) (λ j. coordinates (less-one i j) .x)
-
-down-same : (i : ℕ) → coordinates i .y ≡ downOf (suc i)
-unfolding downOf
-down-same i = rw (ne-eqb (suc i) 0 (λ e. omega arith), downOf) (λ j. coordinates (less-one i j) .y)
 
 module _ (table : List ℕ) (small : Bool) (s : List ℕ) (m : Flow) (room : List ℕ) (kind ctx first x y end : ℕ) (q : Pipe) (new : List ℕ) (b : BlockCopies table kind ctx first s (m .pipe) room end q new)
     (c : getD (m .top) x 0 ≤ 1 → getD (m .left) y 0 ≤ 1 → ctx ≡ getD (m .top) x 0 + getD (m .left) y 0) (top left : List ℕ) (t : top ≡ set (m .top) x (bitOf (ltb first end))) (l : left ≡ set (m .left) y (bitOf (ltb first end))) where
@@ -224,20 +188,22 @@ module _ (table : List ℕ) (small : Bool) (s : List ℕ) (m : Flow) (room : Lis
       ∙ (λ j. (set (sym a j) (sym g j) (bitOf (ltb (sym f j) (z .seen j))), set (sym d j) (sym h j) (bitOf (ltb (sym f j) (z .seen j)))))
       ∙ sym (see (z .d)))
 
-  part-flags : (j : ℕ) → ((f : Factors) (n : Model) → n .top ≡ m .top → n .left ≡ m .left → Flags (m .top) → Flags (m .left) → Copies edges (partOf table f small j n) s (m .pipe) room (top, left) q new)
+  starts : (f : Factors) (j : ℕ) → ((f : Factors) → kind ≡ kindAt f small j .kind) → first ≡ bitOf (eqb kind 0) → kindAt f small j .first ≡ first
+  starts f j e g = kind-starts f small j ∙ ap (λ (n : ℕ). bitOf (eqb n 0)) (sym (e f)) ∙ sym g
+
+  part-flags : (j : ℕ) → ((f : Factors) (n : Model) → n .top ≡ m .top → n .left ≡ m .left → Flags (m .top) → Flags (m .left) → Copies edges (quickPart table f small j n) s (m .pipe) room (top, left) q new)
       → PartCopies table small j s m room (record { pipe = q; top = top; left = left }) new
   part-flags j g = record { top = λ h. rw t (flags-flagged h x (ltb first end)); left = λ h. rw l (flags-flagged h y (ltb first end)); copies = g }
 
-  pub part-copies : (j : ℕ) → kind ≡ kindOf small j → first ≡ firstOf small j → x ≡ acrossOf j → y ≡ downOf j → PartCopies table small j s m room (record { pipe = q; top = top; left = left }) new
-  unfolding kindOf firstOf acrossOf downOf second advance
+  pub part-copies : (j : ℕ) → ((f : Factors) → kind ≡ kindAt f small j .kind) → first ≡ bitOf (eqb kind 0) → x ≡ placeAt j .x → y ≡ placeAt j .y → PartCopies table small j s m room (record { pipe = q; top = top; left = left }) new
+  unfolding quickPart second advance
   part-copies zero e f g h =
-      part-flags 0 (λ F n. block-part 1 (F .y2dc) (F .y2ac) 0 8 8 (replicate 16 (pos 0)) n (λ v. flagged (secondKind F) secondPlace (v .end) (spread (n .coefficients) (samplesOf true (v .values)) 16) (n .empty) n) (sym e) (sym f) (sym g) (sym h) (λ v. refl))
+      part-flags 0 (λ F n. block-part 1 (F .y2dc) (F .y2ac) 0 8 8 (replicate 16 (pos 0)) n (λ v. flagged (secondKind F) secondPlace (v .end) (spread (n .coefficients) (samplesOf true (v .values)) 16) (n .empty) n) (sym (e F)) (starts F 0 e f) (sym g) (sym h) (λ v. refl))
   part-copies (suc i) e f g h =
       part-flags (suc i) (λ F n.
-      let k = kind-same F small i in
-      let K = residual.kindOf F small i in
-      block-part (K .kind) (K .q0) (K .q1) (K .first) (coordinates i .x) (coordinates i .y) (sixteenAt (n .coefficients) (16 * i)) n (λ v. flagged (residual.kindOf F small i) (coordinates i) (v .end) (stored (n .coefficients) (16 * i) (v .values)) (n .empty && emptyOf v) n)
-      (k .0 ∙ sym e) (k .1 ∙ sym f) (across-same i ∙ sym g) (down-same i ∙ sym h) (λ v. refl))
+      let K = kindAt F small (suc i) in
+      block-part (K .kind) (K .q0) (K .q1) (K .first) (coordinates i .x) (coordinates i .y) (sixteenAt (n .coefficients) (16 * i)) n (λ v. flagged K (coordinates i) (v .end) (stored (n .coefficients) (16 * i) (v .values)) (n .empty && emptyOf v) n)
+      (sym (e F)) (starts F (suc i) e f) (sym g) (sym h) (λ v. refl))
 
 -- ---- all parts
 abbrev pub ResidualCopies : (table : List ℕ) (small skip : Bool) → (s : List ℕ) → Flow → List ℕ → Flow → List ℕ → Type 0
@@ -262,8 +228,8 @@ unfolding residualOf fromPart
 parts-start table f true top left = refl
 parts-start table f false top left = refl
 
-parts-next : (table : List ℕ) (f : Factors) (small : Bool) (j : ℕ) (m : Model) → j < 25 → fromPart table f small j m ≡ (partOf table f small j m >>= (λ n. fromPart table f small (suc j) n))
-unfolding fromPart blocksFrom
+parts-next : (table : List ℕ) (f : Factors) (small : Bool) (j : ℕ) (m : Model) → j < 25 → fromPart table f small j m ≡ (quickPart table f small j m >>= (λ n. fromPart table f small (suc j) n))
+unfolding fromPart blocksFrom quickPart
 parts-next table f small zero m h = refl
 parts-next table f small (suc i) m h =
     let e : 24 - i ≡ suc (24 - suc i) = omega arith in
@@ -306,7 +272,7 @@ module _ {table : List ℕ} {small : Bool} {s : List ℕ} {m₀ : Flow} {room₀
         long = k ∙ w .long;
         way = λ f t l a r2 F old g.
             let y = w .way f t l a r2 F old g in
-            let d = going-call (partOf table f small j (y .x)) (λ n. fromPart table f small (suc j) n) (going-as (parts-next table f small j (y .x) h) (y .going)) (c .copies f (y .x) (y .top) (y .left) (y .above) (y .beside)) in
+            let d = going-call (quickPart table f small j (y .x)) (λ n. fromPart table f small (suc j) n) (going-as (parts-next table f small j (y .x) h) (y .going)) (c .copies f (y .x) (y .top) (y .left) (y .above) (y .beside)) in
             record { x = d .d; top = ap (λ (e : List ℕ × List ℕ). e .0) (sym (d .seen)); left = ap (λ (e : List ℕ × List ℕ). e .1) (sym (d .seen)); above = c .top (y .above); beside = c .left (y .beside); going = going-as (ap (λ (k : ℕ). fromPart table f small k (d .d)) (sym (add-one j))) (d .going) };
       }
 

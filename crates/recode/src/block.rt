@@ -12,8 +12,9 @@ ghost use Rattle.header.specs.Entries.{probabilityCount};
 ghost use Rattle.header.specs.declared.quantizers.Factors.{Factors};
 ghost use Rattle.numbers.specs.Flags.{bitOf};
 ghost use Rattle.coefficients.specs.Block.{bands, probabilityPlace};
+ghost use Rattle.residual.specs.Quick.{kindAt, placeAt};
 ghost use Rattle.residual.specs.Residual.{cleared};
-ghost use Rattle.recode.specs.BlockCopies.{nearOf, kindOf, firstOf, acrossOf, downOf, BlockCopies, PartCopies, ResidualCopies};
+ghost use Rattle.recode.specs.BlockCopies.{nearOf, BlockCopies, PartCopies, ResidualCopies};
 
 // coeff_bands
 const BANDS: [u8; 16] = [0, 1, 2, 3, 6, 4, 5, 6, 6, 6, 6, 6, 6, 6, 6, 7];
@@ -22,6 +23,12 @@ const BANDS: [u8; 16] = [0, 1, 2, 3, 6, 4, 5, 6, 6, 6, 6, 6, 6, 6, 6, 7];
 pub(crate) struct BlockCopied {
     pub end: usize,
     pub next: Pipe,
+}
+
+// Where a part's flag above and its flag to the left stand.
+struct FlagPlace {
+    x: usize,
+    y: usize,
 }
 
 // What goes from block to block: the pipe, and the flags above and to the left.
@@ -99,7 +106,7 @@ fn copy_block(
 
 // Part 0 is the second-order block, part i + 1 is block i: the kind of its probabilities,
 fn kind_of(small: bool, j: usize) -> usize
-    ensures { λ r. ⌜ (r ≡ kindOf small j) × (r < 4) ⌝ }
+    ensures { λ r. ⌜ ((f : Factors) → r ≡ kindAt f small j .kind) × (r < 4) ⌝ }
 {
     if j == 0 {
         return 1;
@@ -113,44 +120,23 @@ fn kind_of(small: bool, j: usize) -> usize
     0
 }
 
-// its first position,
-fn first_of(small: bool, j: usize) -> usize
-    ensures { λ r. ⌜ (r ≡ firstOf small j) × (r ≤ 1) ⌝ }
-{
-    if (j == 0) | (17 <= j) {
-        return 0;
-    }
-    if small { 0 } else { 1 }
-}
-
-// its flag above,
-fn across(j: usize) -> usize
+// and its flags, above and to the left.
+fn flags_of(j: usize) -> FlagPlace
     requires { ⌜ j < 25 ⌝ }
-    ensures { λ r. ⌜ (r ≡ acrossOf j) × (r < 9) ⌝ }
+    ensures { λ p. ⌜ (p .x ≡ placeAt j .x) × (p .y ≡ placeAt j .y) × (p .x < 9) × (p .y < 9) ⌝ }
 {
     if j == 0 {
-        return 8;
+        return FlagPlace { x: 8, y: 8 };
     }
     let i = j - 1;
     if i < 16 {
-        return i % 4;
+        return FlagPlace { x: i % 4, y: i / 4 };
     }
-    4 + (i - 16) / 4 * 2 + i % 2
-}
-
-// and its flag to the left.
-fn down(j: usize) -> usize
-    requires { ⌜ j < 25 ⌝ }
-    ensures { λ r. ⌜ (r ≡ downOf j) × (r < 9) ⌝ }
-{
-    if j == 0 {
-        return 8;
+    let base = 4 + (i - 16) / 4 * 2;
+    FlagPlace {
+        x: base + i % 2,
+        y: base + i % 4 / 2,
     }
-    let i = j - 1;
-    if i < 16 {
-        return i / 4;
-    }
-    4 + (i - 16) / 4 * 2 + i % 4 / 2
 }
 
 fn on(flag: u8) -> usize
@@ -177,15 +163,17 @@ fn flagged(flags: [u8; 9], x: usize, on: bool) -> [u8; 9]
     next
 }
 
-// A part in the context of its two flags.
+// A part in the context of its two flags. Only luma whose first numbers the second-order block has, kind 0, starts at position 1.
 fn copy_part(s: &[u8], m: Flow, out: &mut [u8], table: &[u8], small: bool, j: usize) -> Flow
     requires { ⌜ length (now table) ≡ probabilityCount ⌝ }
     requires { ⌜ j < 25 ⌝ }
     ensures { λ q. ⌜ PartCopies (now (table .entry)) small j (now (s .entry)) m (now (out .entry)) q (now (out .exit)) ⌝ }
 {
-    let x = across(j);
-    let y = down(j);
-    let first = first_of(small, j);
+    let p = flags_of(j);
+    let x = p.x;
+    let y = p.y;
+    let kind = kind_of(small, j);
+    let first = (kind == 0) as usize;
     let top = m.top;
     let left = m.left;
     let b = copy_block(
@@ -193,7 +181,7 @@ fn copy_part(s: &[u8], m: Flow, out: &mut [u8], table: &[u8], small: bool, j: us
         m.pipe,
         out,
         table,
-        kind_of(small, j),
+        kind,
         context_at(top, left, x, y),
         first,
     );

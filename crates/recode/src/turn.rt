@@ -12,6 +12,7 @@ use modes::contexts::Context;
 use modes::contexts::bottom;
 use modes::contexts::right;
 use modes::whole::read_modes;
+use picture::turn::beside;
 use reader::boolean::Reader;
 use wide::wide::narrow;
 use wide::wide::widen;
@@ -20,7 +21,6 @@ ghost use mathlib.Core.Path.{_≡_};
 ghost use lib.ListN.{length};
 ghost use Rattle.header.specs.Entries.{probabilityCount};
 ghost use Rattle.lent.specs.Records.{packed};
-ghost use Rattle.picture.specs.Picture.{besideOf};
 ghost use Rattle.recode.specs.TurnCopies.{flowAt, TokensTurned, TurnCopies};
 ghost use Rattle.recode.specs.BlockCopies.{ResidualCopies};
 
@@ -41,16 +41,6 @@ pub struct Turned {
     pub token: Reader,
     pub writer: Writer,
     pub left: Context,
-}
-
-// At column 0 nothing lies to the left.
-fn beside(column: usize, left: Context) -> Context
-    ensures { λ r. ⌜ r ≡ besideOf column left ⌝ }
-{
-    if column == 0 {
-        return Context::empty();
-    }
-    left
 }
 
 // Its tokens, read and written again.
