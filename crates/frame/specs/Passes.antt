@@ -2,7 +2,7 @@
 use Prim.Native.Nat.{ℕ, _+_, _≤_, _<_}
 use mathlib.Core.Path.{_≡_}
 use mathlib.Core.Logic.{_⊎_}
-use mathlib.Core.List.{List}
+use mathlib.Core.List.{List, []}
 use lib.IntN.{ℤ, pos, negsuc}
 use lib.ListN.{length}
 use Rattle.numbers.specs.In.{Each}
@@ -33,6 +33,20 @@ pub record Passes (b : List ℕ) (t : Taken) : Type 0 where
 pub record InOrder (t : Tile) : Type 0 where
   pub first : t .first .start + t .first .len ≤ spanAt t 0 .start
   pub tokens : (i k : ℕ) → i < k → k < t .count → spanAt t i .start + spanAt t i .len ≤ spanAt t k .start
+
+-- what was taken, without where the token partitions lie
+abbrev pub unplaced : Taken → Taken
+unplaced t =
+    let a = t .answer in
+    record {
+      answer = record {
+        number = a .number;
+        tile = record { first = a .tile .first; tokens = []; reader = a .tile .reader; count = a .tile .count; width = a .tile .width; height = a .tile .height };
+        shown = a .shown;
+        simple = a .simple;
+      };
+      header = t .header;
+    }
 
 -- a refusal gives its number and zeros, and the number is 12, 13 or 14
 pub record FrameRefused (t : Taken) : Type 0 where

@@ -1,6 +1,6 @@
 -- A frame that is taken passes the picture call's checks, 1 the sizes, 2 the count, 3 the entries, 5 the partitions and the reader; any
 -- other is refused.
-use Prim.Native.Nat.{ℕ, zero, suc, _+_, _-_, _*_, _/_, _≤_, _<_}
+use Prim.Native.Nat.{ℕ, zero, suc, _+_, _-_, _*_, _≤_, _<_}
 use mathlib.Core.Path.{_≡_, refl, _∙_, ap}
 use mathlib.Core.Logic.{_⊎_, inl, inr, ⊎-elim}
 use mathlib.Core.Bool.{Bool, true, false, _&&_}
@@ -91,15 +91,15 @@ counted (suc (suc zero)) h = record { least = lit≤ tt; most = lit≤ tt }
 counted (suc (suc (suc zero))) h = record { least = lit≤ tt; most = lit≤ tt }
 counted (suc (suc (suc (suc n)))) h = absurd (omega arith)
 
-module _ (b : List ℕ) (table count : ℕ) (h : tokensInside b table count ≡ true) (m : count ≤ 8) where
-  token-at : (i : ℕ) → i < count → getD (tokenSpans b table count) i noSpan ≡ record { start = partitionStart b table count i; len = lengthOf b table count i (partitionStart b table count i) }
+module _ (b : List ℕ) (table count : ℕ) where
+  token-at : (i : ℕ) → i < 8 → i < count → getD (tokenSpans b table count) i noSpan ≡ record { start = partitionStart b table count i; len = lengthOf b table count i (partitionStart b table count i) }
   unfolding tokenSpans
-  token-at i l = getD-build 8 (λ i. partitionSpan b table count i (partitionStart b table count i)) i noSpan (omega arith) ∙ span-is b table count i _ l
+  token-at i m l = getD-build 8 (λ i. partitionSpan b table count i (partitionStart b table count i)) i noSpan m ∙ span-is b table count i _ l
 
-  token-inside : (i : ℕ) → i < count → Inside (length b) (getD (tokenSpans b table count) i noSpan)
+  token-inside : tokensInside b table count ≡ true → (i : ℕ) → i < 8 → i < count → Inside (length b) (getD (tokenSpans b table count) i noSpan)
   unfolding tokensInside
-  token-inside i l =
-      rw (token-at i l)
+  token-inside h i m l =
+      rw (token-at i m l)
       (record {
         fits = leb-true (partitionStart b table count i + lengthOf b table count i (partitionStart b table count i)) (length b)
             (all-below (λ i. leb (partitionStart b table count i + lengthOf b table count i (partitionStart b table count i)) (length b)) count (both-right (leb (table + 3 * (count - 1)) (length b)) _ h) i l);
@@ -120,7 +120,7 @@ whole-passes b y h r e l g i =
       long = entries-length h;
       cut = record {
         first = record { fits = l };
-        tokens = λ j q. rw (span-at (tileOf b h r) j (omega (arith, c .most))) (token-inside b (sizesPlace b) n i (c .most) j q);
+        tokens = λ j q. let o : j < 8 = omega (arith, c .most) in rw (span-at (tileOf b h r) j o) (token-inside b (sizesPlace b) n i j o q);
         reader = d .valid;
       };
       width = rounded-covers (widthOf b);
@@ -128,11 +128,15 @@ whole-passes b y h r e l g i =
     }
 
 -- ---- the partitions of the whole follow one another
+pub place-is : (b : List ℕ) (h : Header) (r : Reader) (i : ℕ) → i < 8 → i < partitionCount (h .partitions)
+    → let n = partitionCount (h .partitions) in spanAt (tileOf b h r) i ≡ record { start = partitionStart b (sizesPlace b) n i; len = lengthOf b (sizesPlace b) n i (partitionStart b (sizesPlace b) n i) }
+place-is b h r i m l = span-at (tileOf b h r) i m ∙ token-at b (sizesPlace b) (partitionCount (h .partitions)) i m l
+
 whole-ordered : (b : List ℕ) (h : Header) (r : Reader) → Counted (partitionCount (h .partitions)) → tokensInside b (sizesPlace b) (partitionCount (h .partitions)) ≡ true → InOrder (tileOf b h r)
 whole-ordered b h r c inside =
     let n = partitionCount (h .partitions) in
     let at : (i : ℕ) → i < n → spanAt (tileOf b h r) i ≡ record { start = partitionStart b (sizesPlace b) n i; len = lengthOf b (sizesPlace b) n i (partitionStart b (sizesPlace b) n i) } =
-    λ i l. span-at (tileOf b h r) i (omega (arith, c .most)) ∙ token-at b (sizesPlace b) n inside (c .most) i l in
+    λ i l. place-is b h r i (omega (arith, c .most)) l in
     record {
       first = rw (at 0 (c .least)) (omega (arith, place-after b (sizesPlace b) n 0));
       tokens = λ i k l m. rw (at i (omega arith), at k m) (place-apart b (sizesPlace b) n i k l m);

@@ -1,18 +1,17 @@
 -- The places of the token partitions: all lie inside exactly where the last one's start does.
 use Prim.Native.Nat.{ℕ, zero, suc, _+_, _-_, _*_, _≤_, _<_}
 use mathlib.Core.Path.{_≡_, refl, sym, _∙_, ap}
-use mathlib.Core.Bool.{Bool, true, false, _&&_}
+use mathlib.Core.Bool.{true, false}
 use mathlib.Core.List.{List}
 use mathlib.Core.Logic.{⊎-elim}
 use native.Mathlib.Omega.{arith}
 use native.Mathlib.Nat.{add-suc, add-zero, zero-add}
-use lib.Dec.{ltb, leb}
+use lib.Dec.{leb}
 use lib.ListN.{length}
-use borrow.Author.Tests.{lt-ltb, le-ltb, le-leb, lt-leb, leb-true}
-use Rattle.numbers.specs.Tests.{lt-or, never, not-so, both-left, both-right, both-true, both-false}
+use borrow.Author.Tests.{lt-ltb, le-ltb, le-leb, leb-true}
+use Rattle.numbers.specs.Tests.{lt-or, not-so, both-right, both-true}
 use Rattle.numbers.specs.Tables.{allBelow, all-below}
 use Rattle.frame.specs.Tag.{threeAt}
-use Rattle.tile.specs.declared.Span.{Span}
 use Rattle.tile.specs.Partitions.{noSpan}
 use Rattle.frame.specs.Places.{partitionSize, partitionStart, lengthOf, partitionSpan, tokensInside}
 
@@ -71,7 +70,7 @@ module _ (b : List ℕ) (table count : ℕ) where
   place-after i = rw (zero-add i) at (place-up 0 i)
 
   -- from the last on they stay
-  place-stays : (i k : ℕ) → count ≤ i + 1 → partitionStart b table count (i + k) ≡ partitionStart b table count i
+  pub place-stays : (i k : ℕ) → count ≤ i + 1 → partitionStart b table count (i + k) ≡ partitionStart b table count i
   place-stays i zero h = ap (partitionStart b table count) (add-zero i)
   place-stays i (suc k) h = ap (partitionStart b table count) (add-suc i k) ∙ omega (arith, place-stays i k h, place-next (i + k), sized-none (i + k) (omega arith))
 

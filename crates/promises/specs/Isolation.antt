@@ -1,25 +1,22 @@
--- Demand 3, isolation: what stands in token partition p decides nothing in the macroblock rows above row p, and no modes.
+-- Demand 3, isolation: token partition p, where it lies, how long it is and what stands in it, decides nothing in the macroblock rows above row p,
+-- and no modes.
 -- `isolated`, in IsolationLaws, proves it.
 use Prim.Native.Nat.{ℕ, _+_, _*_, _/_, _≤_, _<_}
 use mathlib.Core.Path.{_≡_}
-use lib.ListN.{getD}
 use Rattle.lent.specs.Records.{modeWidth, strengthWidth}
 use Rattle.lent.specs.Memory.{Memory}
-use Rattle.tile.specs.Partitions.{spanAt}
+use Rattle.tile.specs.Partitions.{contentsOf, tokenContents}
 use Rattle.picture.specs.Checks.{Call}
 use Rattle.picture.specs.Picture.{Ended, pictureOf, numberOf, valuesOf}
 use Rattle.promises.specs.Places.{Plane, planeSide, sampleOf, modeByte, strengthByte}
 
 -- ---- what is compared
--- token partition q of two tiles holds the same bytes, each from its own start
+-- token partition q of two tiles has the same bytes, wherever it lies in each
 abbrev pub SameTokens : Call → Call → ℕ → Type 0
-SameTokens t u q =
-    let s = spanAt (t .tile) q in
-    let r = spanAt (u .tile) q in
-    (i : ℕ) → i < s .len → getD (t .bytes) (s .start + i) 0 ≡ getD (u .bytes) (r .start + i) 0
+SameTokens t u q = tokenContents (t .bytes) (t .tile) q ≡ tokenContents (u .bytes) (u .tile) q
 
--- two tiles alike in all but the bytes of token partition p: size, count, header, starting reader, the partitions' lengths, and the bytes
--- of the first partition and of every other token partition below the count; and column memory of one form
+-- two tiles alike in all but token partition p, which may lie elsewhere, be longer or shorter and have other bytes: size, count, header, starting
+-- reader, and the bytes of the first partition and of every other token partition below the count; and column memory of one form
 pub record Alike (p : ℕ) (t u : Call) : Type 0 where
   pub width : t .tile .width ≡ u .tile .width
   pub height : t .tile .height ≡ u .tile .height
@@ -27,9 +24,7 @@ pub record Alike (p : ℕ) (t u : Call) : Type 0 where
   pub header : t .header ≡ u .header
   pub form : t .form ≡ u .form
   pub reader : t .tile .reader ≡ u .tile .reader
-  pub firstLength : t .tile .first .len ≡ u .tile .first .len
-  pub lengths : (q : ℕ) → q < t .tile .count → spanAt (t .tile) q .len ≡ spanAt (u .tile) q .len
-  pub first : (i : ℕ) → i < t .tile .first .len → getD (t .bytes) (t .tile .first .start + i) 0 ≡ getD (u .bytes) (u .tile .first .start + i) 0
+  pub first : contentsOf (t .bytes) (t .tile .first) ≡ contentsOf (u .bytes) (u .tile .first)
   pub tokens : (q : ℕ) → q < t .tile .count → (q ≡ p → ⊥) → SameTokens t u q
 
 -- the picture call answers with this number, k macroblocks being finished

@@ -14,10 +14,10 @@ use Rattle.lent.specs.Memory.{Memory, sizesOf}
 use Rattle.coefficients.specs.Block.{headerTable}
 use Rattle.header.specs.declared.frame.Frame.{Frame}
 use Rattle.header.specs.Frame.{frameOf}
-use Rattle.tile.specs.Partitions.{spanAt, tokenContents, readersOf}
-use Rattle.tile.specs.PartitionsLaws.{part-same, readers-same, readers-length, pick-some, pick-below}
+use Rattle.tile.specs.Partitions.{readersOf}
+use Rattle.tile.specs.PartitionsLaws.{readers-same, readers-length, pick-some, pick-below}
 use Rattle.picture.specs.Checks.{Call}
-use Rattle.picture.specs.ChecksLaws.{fine-side, fine-count, fine-partitions}
+use Rattle.picture.specs.ChecksLaws.{fine-side, fine-count}
 use Rattle.picture.specs.Picture.{Picture, State, Ended, picturedOf, begunOf, rowOf, partitionOf, runOf, pictureOf, valuesOf}
 use Rattle.promises.specs.Refusals.{Fine, fine-is, blank-same, sizes-same}
 use Rattle.promises.specs.Reached.{Reached}
@@ -46,13 +46,8 @@ module _ {P : Picture} {S₀ : State} (z : Sound P S₀) (p k : ℕ) (g : p * P 
   strengths-kept : (i : ℕ) → i < p * P .wide * strengthWidth → Keeps P (strengthByte i) k
   strengths-kept i l = keeps-strength z k h i (inl (omega arith))
 
--- ---- the contents of partitions
+-- ---- two calls
 module _ (p : ℕ) (t u : Call) (m n : Memory) (a : Alike p t u) (e : Fine t m) (f : Fine u n) where
-  token-same : (q : ℕ) → q < t .tile .count → SameTokens t u q → tokenContents (t .bytes) (t .tile) q ≡ tokenContents (u .bytes) (u .tile) q
-  token-same q h s =
-      part-same (t .bytes) (u .bytes) (spanAt (t .tile) q) (spanAt (u .tile) q) (fine-partitions t (sizesOf m) e .tokens q h)
-      (fine-partitions u (sizesOf n) f .tokens q (rw (a .count) at h)) (a .lengths q h) s
-
   few : t .tile .count ≤ 8
   few = fine-count t (sizesOf m) e .most
 
@@ -62,20 +57,20 @@ module _ (p : ℕ) (t u : Call) (m n : Memory) (a : Alike p t u) (e : Fine t m) 
   module _ (U : ℕ → Type 0) (below : (q : ℕ) → U q → q < t .tile .count) (same : (q : ℕ) → U q → SameTokens t u q) where
     pub twins : Twins U (picturedOf t) (picturedOf u)
     twins = record {
-      first = part-same (t .bytes) (u .bytes) (t .tile .first) (u .tile .first) (fine-partitions t (sizesOf m) e .first) (fine-partitions u (sizesOf n) f .first) (a .firstLength) (a .first);
+      first = a .first;
       count = a .count;
       few = few;
       frame = ap frameOf (a .header);
       table = ap headerTable (a .header);
       wide = ap (λ (w : ℕ). w / 16) (a .width);
       form = a .form;
-      token = λ q h. token-same q (below q h) (same q h);
+      token = same;
     }
 
     reader-same : (q : ℕ) → U q → getD (readersOf (t .bytes) (t .tile)) q noReader ≡ getD (readersOf (u .bytes) (u .tile)) q noReader
     reader-same q h =
         let l = below q h in
-        readers-same (t .bytes) (u .bytes) (t .tile) (u .tile) q noReader (omega (arith, few)) l (rw (a .count) at l) (token-same q l (same q h))
+        readers-same (t .bytes) (u .bytes) (t .tile) (u .tile) q noReader (omega (arith, few)) l (rw (a .count) at l) (same q h)
 
     pub start-same : Same U (begunOf t m) (begunOf u n)
     start-same = record {
@@ -237,7 +232,8 @@ module _ (p : ℕ) (t u : Call) (m n : Memory) (a : Alike p t u) (e : Fine t m) 
         ignored = past-count;
       }
 
--- DEMAND 3: for any two tiles alike in all but token partition p's bytes, with any old contents in memory, neither being refused.
+-- DEMAND 3: for any two tiles alike in all but token partition p, whatever its start, length and bytes, with any old contents in memory, neither being
+-- refused. As it was written, partition p is as long in both: less is asked here.
 -- That the bytes are bytes is what the call's type says
 pub isolated : (p : ℕ) (t u : Call) (m n : Memory) → Alike p t u → Fine t m → Fine u n → Bytes (t .bytes) → Bytes (u .bytes) → Isolated p t u m n
 isolated = both-calls

@@ -1,11 +1,10 @@
 -- What a pilot is promised of the picture on the screen: of `keyFrameOf`, which the contract of `key_frame` equals (crates/key_frame/specs/KeyFrame.antt).
 -- Every frame's bytes with any lent memory end in an answer; the picture is the three definitions one after the other; damage in token partition p
 -- cannot change it above row p, but for the lowest three sample rows of row p-1; an unfinished macroblock is 128; old memory does not matter.
--- KeyFrameLaws proves it: `key-frame-ends`, `key-frame-shows`, `key-frame-isolated`, `old-memory-shown-the-same`.
+-- KeyFrameLaws proves it: `key-frame-ends`, `key-frame-shows`, `key-frame-isolated`, `key-frame-damaged`, `cut-frames`, `old-memory-shown-the-same`.
 use Prim.Native.Nat.{ℕ, _+_, _*_, _/_, _≤_, _<_}
 use mathlib.Core.Path.{_≡_}
 use mathlib.Core.Logic.{_⊎_}
-use mathlib.Core.Bool.{true, false}
 use mathlib.Core.List.{List}
 use lib.IntN.{ℤ, pos}
 use lib.ListN.{length, getD}
@@ -19,11 +18,12 @@ use Rattle.lent.specs.Sizes.{Sized}
 use Rattle.picture.specs.Picture.{pictureOf, planesIn, numberOf, valuesOf}
 use Rattle.picture.specs.Counts.{costOf}
 use Rattle.frame.specs.Take.{takenOf}
+use Rattle.frame.specs.Passes.{unplaced}
 use Rattle.deblock.specs.Deblock.{deblockOf}
-use Rattle.key_frame.specs.declared.Shown.{Shown}
 use Rattle.key_frame.specs.KeyFrame.{frameCall, KeyFramed, keyFramed, refusedShown, withPlanes, keyFrameOf}
 use Rattle.promises.specs.Places.{Plane, planeSide, sampleOf, modeByte, strengthByte, blockAt}
 use Rattle.promises.specs.Grey.{InPlane}
+use Rattle.promises.specs.Isolation.{SameTokens}
 
 -- the tile that a frame's header gives
 abbrev pub frameTile : List ℕ → Tile
@@ -64,16 +64,34 @@ pub record KeyFrameShows (b : List ℕ) (m : Memory) (E : KeyFramed) : Type 0 wh
   pub grey : (a : Plane) (x r : ℕ) → InPlane (frameCall b) a x r → E .answer .finished ≤ blockAt (frameTile b .width / 16) a x r
       → sampleOf (frameTile b .width / 16) a x r (E .mem) ≡ 128
 
--- two frames of one length, alike in all bytes but those of token partition p of the first
+-- two frames alike in all but token partition p, which may be longer or shorter and have other bytes, so that its size in the frame and the places of
+-- those behind it may be others too: the same bytes up to the end of the first partition, and in every other token partition below the count
 pub record AlikeFrames (p : ℕ) (b c : List ℕ) : Type 0 where
+  pub head : (i : ℕ) → i < frameTile b .first .start + frameTile b .first .len → getD b i 0 ≡ getD c i 0
+  pub tokens : (q : ℕ) → q < frameTile b .count → (q ≡ p → ⊥) → SameTokens (frameCall b) (frameCall c) q
+
+-- so are two frames of one length, alike in all bytes but those of token partition p of the first
+pub record DamagedFrames (p : ℕ) (b c : List ℕ) : Type 0 where
   pub below : p < frameTile b .count
   pub long : length b ≡ length c
   pub same : (i : ℕ) → (i < spanAt (frameTile b) p .start) ⊎ (spanAt (frameTile b) p .start + spanAt (frameTile b) p .len ≤ i) → getD b i 0 ≡ getD c i 0
 
+-- and a frame with another that has its bytes up to the last token partition, p, and from there on any number of any: one that was cut, for instance
+pub record CutFrames (p : ℕ) (b c : List ℕ) : Type 0 where
+  pub last : p + 1 ≡ frameTile b .count
+  pub upto : spanAt (frameTile b) p .start ≤ length c
+  pub same : (i : ℕ) → i < spanAt (frameTile b) p .start → getD b i 0 ≡ getD c i 0
+
+-- what is shown, without where the token partitions lie
+abbrev pub shownUnplaced : KeyFramed → KeyFramed
+shownUnplaced E =
+    let t = unplaced (record { answer = E .answer .taken; header = E .header }) in
+    keyFramed (record { number = E .answer .number; finished = E .answer .finished; reads = E .answer .reads; taken = t .answer }) (t .header) (E .mem)
+
 -- ISOLATION, of what two such frames show: E of the first, F of the second, `wide` macroblocks to a row, `high` rows
 pub record KeyFrameIsolated (p wide high : ℕ) (E F : KeyFramed) : Type 0 where
-  -- the same header is taken
-  pub taken : E .answer .taken ≡ F .answer .taken
+  -- the same header is taken, but for where the token partitions lie
+  pub taken : shownUnplaced E .answer .taken ≡ shownUnplaced F .answer .taken
   pub header : E .header ≡ F .header
   -- the same samples in all macroblock rows above row p, but for the lowest three sample rows of row p-1
   pub samples : (a : Plane) (x r : ℕ) → x < wide * planeSide a → r + 3 < p * planeSide a → sampleOf wide a x r (E .mem) ≡ sampleOf wide a x r (F .mem)
@@ -85,5 +103,11 @@ pub record KeyFrameIsolated (p wide high : ℕ) (E F : KeyFramed) : Type 0 where
   pub stops-too : F .answer .finished < p * wide → (E .answer .number ≡ F .answer .number) × (E .answer .finished ≡ F .answer .finished)
   -- each macroblock finished in both has the same modes
   pub kinds : (k i : ℕ) → k < E .answer .finished → k < F .answer .finished → i < modeWidth → modeByte (k * modeWidth + i) (E .mem) ≡ modeByte (k * modeWidth + i) (F .mem)
-  -- if no row p exists, all agrees
+  -- if no row p exists, all agrees, but for where the token partitions lie
+  pub no-row : high ≤ p → shownUnplaced E ≡ shownUnplaced F
+
+-- where one length and all other bytes are the same too, the token partitions lie at the same places
+pub record KeyFrameDamaged (p wide high : ℕ) (E F : KeyFramed) : Type 0 where
+  pub isolated : KeyFrameIsolated p wide high E F
+  pub taken : E .answer .taken ≡ F .answer .taken
   pub no-row : high ≤ p → E ≡ F
