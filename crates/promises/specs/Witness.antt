@@ -13,7 +13,6 @@ use lib.ListN.{length, replicate}
 use Rattle.numbers.specs.Lists.{build}
 use Rattle.numbers.specs.Tables.{allOf, all-of-any}
 use Rattle.reader.specs.Boolean.{Bytes, validOf, firstReader, symbolOf, splitOf, grow, decidedOf}
-use Rattle.reader.specs.Trace.{count}
 use Rattle.lent.specs.Memory.{Memory, memoryOf}
 use Rattle.lent.specs.Sizes.{longOf, sizesFine}
 use Rattle.tile.specs.Partitions.{spanAt, contentsOf, pickOf, readerOf, readersOf}
@@ -64,10 +63,11 @@ witnessTile rows header a b c =
 abbrev pub heldOf : (rows x : ℕ) → Memory
 heldOf rows x = memoryOf (replicate (256 * rows) x) (replicate (64 * rows) x) (replicate (64 * rows) x) (replicate 4 x) (replicate (20 * rows) x) (replicate (6 * rows) x)
 
--- a header of zeros, and a partition of zeros
+-- a header of zeros
 abbrev pub plain : List ℤ
 plain = replicate 1096 (pos 0)
 
+-- a partition of zeros
 abbrev pub zeros : List ℕ
 zeros = replicate 32 0
 
@@ -88,7 +88,7 @@ fines : Fine (whole 0) (heldOf 2 7) × Fine (whole 128) (heldOf 2 9) × Fine cut
 unfolding refusalOf failed sidesOf sideOf countOf entriesOf fineTo lengthsOf sizesFine longOf partitionsOf insideOf tokensFine spanAt validOf contentsOf
 fines = (refl, refl, refl, refl)
 
-bytes-by : (l : List ℕ) → allOf (λ x. ltb x 256) l ≡ true → Bytes l
+pub bytes-by : (l : List ℕ) → allOf (λ x. ltb x 256) l ≡ true → Bytes l
 bytes-by l e i = ltb-true _ 256 (all-of-any (λ x. ltb x 256) l 0 refl e i)
 
 two-tiles : (c d : List ℕ) → Alike 1 (witnessTile 2 plain zeros zeros c) (witnessTile 2 plain zeros zeros d)
