@@ -1,3 +1,2 @@
 pub mod BlockAnswers
 pub mod BlockTurns
-pub mod CountTurns

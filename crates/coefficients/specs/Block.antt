@@ -1,5 +1,5 @@
 -- The coefficients of a block (RFC 6386, sections 13, 3350-3370, 13.2, 13.3 and 14.1), as grammars over the tokens of `reader`.
-use Prim.Native.Nat.{ℕ, zero, suc, _+_, _-_, _*_, _%_}
+use Prim.Native.Nat.{ℕ, zero, suc, _+_, _-_, _*_}
 use mathlib.Core.Bool.{Bool, true, false, _&&_}
 use mathlib.Core.List.{List, [], _∷_}
 use lib.Dec.{ltb, leb, eqb}
@@ -23,7 +23,6 @@ use Rattle.coefficients.specs.declared.block.Block.the-variants as B
 use Rattle.coefficients.specs.declared.block.Signed.{Signed}
 use Rattle.coefficients.specs.declared.block.Signed.the-variants as S
 use Rattle.coefficients.specs.declared.block.Table.{Table}
-use Rattle.numbers.specs.declared.Checked.{Checked}
 use Rattle.numbers.specs.declared.Checked.the-variants as H
 
 -- ---- the number of a token (section 13.2, 3448-3494, DCTextra)

@@ -21,17 +21,14 @@ use Rattle.reader.specs.BooleanLaws.{Bytes, Valid, valid-test}
 use Rattle.header.specs.Entries.{coefficientProbability, entryCount, probabilityCount}
 use Rattle.header.specs.Header.{entry, probabilityOf}
 use Rattle.header.specs.HeaderLaws.{probability-below}
-use Rattle.reader.specs.ExtraLaws.{extra-within, fromNumber, from-number}
+use Rattle.reader.specs.ExtraLaws.{extra-within}
 use Rattle.reader.specs.Reading.{run, Within, ends}
-use Rattle.reader.specs.ReadingLaws.{never-both, within-symbol, within-bind, within-more}
-use Rattle.reader.specs.Token.{token}
+use Rattle.reader.specs.ReadingLaws.{within-symbol, within-bind, within-more}
 use Rattle.reader.specs.TokenLaws.{eleven-at, token-fits}
 use Rattle.reader.specs.Trace.{count}
-use Rattle.reader.specs.TraceLaws.{count-within}
 use Rattle.reader.specs.declared.boolean.Reader.{Reader}
-use Rattle.reader.specs.declared.extra.Number.{Number}
-use Rattle.coefficients.specs.BlockSteps.{place-below, decode-passed, decode-refused, reads-passed, table-refused, table-done}
-use Rattle.coefficients.specs.Block.{categories, bases, category, magnitude, signOf, signedValue, zigzag, quantizerAt, contextAfter, toSigned, magnitudeOf, signedOf, numericOf, numberAnswer, signedAnswer, headerTable, probabilitiesAt, probabilityPlace, Coefficients, blockFrom, block, BlockCalled, toBlockCalled, blockOf, sixteenBits, blockArguments, blockCallOf, tableOf, blockReads}
+use Rattle.coefficients.specs.BlockSteps.{fromSigned, place-below, decode-passed, reads-passed, table-refused, table-done}
+use Rattle.coefficients.specs.Block.{categories, bases, category, magnitude, signOf, signedValue, zigzag, quantizerAt, contextAfter, headerTable, probabilitiesAt, probabilityPlace, Coefficients, blockFrom, block, BlockCalled, toBlockCalled, blockOf, sixteenBits, blockArguments, blockCallOf, tableOf, blockReads}
 use Rattle.coefficients.specs.declared.block.Block.{Block}
 use Rattle.coefficients.specs.declared.block.Block.the-variants as K
 use Rattle.coefficients.specs.declared.block.Signed.{Signed}
@@ -110,46 +107,6 @@ module _ (table : List ℕ) (kind q0 q1 : ℕ) (y : Bytes table) (first : ℕ) w
   pub block-within : (ctx : ℕ) (values : List ℤ) → first ≤ 1 → Sixteen values → Within (Fine first) (19 * (16 - first)) (block table kind q0 q1 ctx first values)
   block-within ctx values l x = within-more (omega arith) (from-within (16 - first) first ctx false values (omega arith) (omega arith) x)
 
--- ---- the public calls of a token: what an answer says of the grammar
-pub magnituded : (s : List ℕ) (t : ℕ) (r : Reader) {x : Number} → x ≡ magnitudeOf s t r → run (magnitude t) s r ≡ fromNumber x
-unfolding magnitudeOf
-magnituded s t r e = from-number (run (magnitude t) s r) ∙ ap fromNumber (sym e)
-
-abbrev pub fromSigned : Signed → Given ℤ
-fromSigned (G.Value v r) = given v r
-fromSigned G.Missing = missing
-fromSigned G.Refused = missing
-
-module _ (s : List ℕ) (t q : ℕ) (r : Reader) where
-  pub signeded : {x : Signed} → x ≡ signedOf s t q r → run (signedValue t q) s r ≡ fromSigned x
-  unfolding signedOf
-  signeded e = from (run (signedValue t q) s r) ∙ ap fromSigned (sym e)
-    where
-      from : (g : Given ℤ) → g ≡ fromSigned (toSigned g)
-      from (given v q) = refl
-      from missing = refl
-
-numeric : {t : ℕ} → 2 ≤ t → t ≤ 11 → numericOf t ≡ true
-numeric l h = both-true (le-leb _ _ l) (le-leb _ _ h)
-
-module _ (s : List ℕ) (t : ℕ) (r : Reader) where
-  pub number-good : Valid s r → 2 ≤ t → t ≤ 11 → magnitudeOf s t r ≡ numberAnswer s t r
-  unfolding numberAnswer
-  number-good v l h = rw (both-true (valid-test s r v) (numeric l h), numberAnswer)
-
-  -- THE LAW for callers of `number`
-  pub number-answered : Valid s r → 2 ≤ t → t ≤ 11 → {x : Number} → x ≡ numberAnswer s t r → run (magnitude t) s r ≡ fromNumber x
-  number-answered v l h e = magnituded s t r (e ∙ sym (number-good v l h))
-
-  module _ (q : ℕ) where
-    pub signed-good : Valid s r → 2 ≤ t → t ≤ 11 → signedOf s t q r ≡ signedAnswer s t q r
-    unfolding signedAnswer
-    signed-good v l h = rw (both-true (valid-test s r v) (numeric l h), signedAnswer)
-
-    -- THE LAW for callers of `dequant`
-    pub signed-answered : Valid s r → 2 ≤ t → t ≤ 11 → {x : Signed} → x ≡ signedAnswer s t q r → run (signedValue t q) s r ≡ fromSigned x
-    signed-answered v l h e = signeded s t q r (e ∙ sym (signed-good v l h))
-
 -- ---- the public call of a block
 -- what it asks of its arguments besides the reader
 pub record Good (table : List ℕ) (kind ctx first : ℕ) (old : List ℤ) : Type 0 where
@@ -164,8 +121,8 @@ unfolding sixteenBits
 small-test l e zero = refl
 small-test l e (suc n) = both-true (small-test l e n) (both-true (le-true (e .at n .low)) (le-true (e .at n .high)))
 
-good-test : {table : List ℕ} {kind ctx first : ℕ} {old : List ℤ} → Good table kind ctx first old → blockArguments table kind ctx first ≡ true
-good-test g = both-true (eq-eqb _ _ (g .size)) (both-true (lt-ltb _ _ (g .kinds)) (both-true (lt-ltb _ _ (g .near)) (le-leb _ _ (g .start))))
+good-tests : {s : List ℕ} {r : Reader} {table : List ℕ} {kind ctx first : ℕ} {old : List ℤ} → Valid s r → Good table kind ctx first old → validOf s r && (blockArguments table kind ctx first && sixteenBits old 16) ≡ true
+good-tests {s} {r} {old} v g = both-true (valid-test s r v) (both-true (both-true (eq-eqb _ _ (g .size)) (both-true (lt-ltb _ _ (g .kinds)) (both-true (lt-ltb _ _ (g .near)) (le-leb _ _ (g .start))))) (small-test old (g .each) 16))
 
 -- what an answer, with the numbers behind it, says of the grammar
 abbrev pub fromBlock : List ℤ → Block → Given Coefficients
@@ -184,45 +141,15 @@ module _ (s : List ℕ) (r : Reader) (table : List ℕ) (kind ctx first q0 q1 : 
   -- with good arguments it is the inner definition
   pub decode-good : Valid s r → Good table kind ctx first old → blockOf s r table kind ctx first q0 q1 old ≡ blockCallOf s r table kind ctx first q0 q1 old
   decode-good v g =
-      decode-passed s r table kind ctx first q0 q1 old (valid-test s r v) (good-test g) (small-test old (g .each) 16)
-
-  -- what an answer of the inner definition says of the grammar; one that is no end leaves the numbers as they were
-  module _ {x : Block} {l : List ℤ} (e : record { answer = x; out = l } ≡ blockOf s r table kind ctx first q0 q1 old) where
-    pub block-decoded : run (block table kind q0 q1 ctx first old) s r ≡ fromBlock l x
-    unfolding blockOf
-    block-decoded = from-called old (run (block table kind q0 q1 ctx first old) s r) ∙ ap fromBlockCalled (sym e)
-
-    pub block-kept : fromBlock l x ≡ missing → l ≡ old
-    unfolding blockOf
-    block-kept m =
-        let w : blockOf s r table kind ctx first q0 q1 old ≡ toBlockCalled old missing = ap (toBlockCalled old) (block-decoded ∙ m) in
-        ap (λ (c : BlockCalled). c .out) (e ∙ w)
+      decode-passed s r table kind ctx first q0 q1 old (good-tests v g)
 
   -- THE LAWS for callers of `decode`: what it gave, and how many symbols it read
   pub decoded : Valid s r → Good table kind ctx first old → {x : Block} {l : List ℤ} → record { answer = x; out = l } ≡ blockCallOf s r table kind ctx first q0 q1 old → run (block table kind q0 q1 ctx first old) s r ≡ fromBlock l x
-  decoded v g e = block-decoded (e ∙ sym (decode-good v g))
+  unfolding blockOf
+  decoded v g e = from-called old (run (block table kind q0 q1 ctx first old) s r) ∙ ap fromBlockCalled (sym (e ∙ sym (decode-good v g)))
 
   pub decode-reads : Valid s r → Good table kind ctx first old → {n : ℕ} → n ≡ blockReads s r table kind ctx first q0 q1 old → n ≡ count (block table kind q0 q1 ctx first old) s r
-  decode-reads v g e = e ∙ sym (reads-passed s r table kind ctx first q0 q1 old (valid-test s r v) (good-test g) (small-test old (g .each) 16))
-
-  -- at most 19 symbols a position, whatever they are
-  pub block-few : Bytes table → first ≤ 1 → Sixteen old → count (block table kind q0 q1 ctx first old) s r ≤ 304
-  block-few y l x = omega (arith, count-within s r (block-within table kind q0 q1 y first ctx old l x))
-
-  -- an answer that is no end leaves the numbers as they were, whatever the arguments
-  pub decode-kept : {x : Block} {l : List ℤ} → record { answer = x; out = l } ≡ blockCallOf s r table kind ctx first q0 q1 old → fromBlock l x ≡ missing → l ≡ old
-  unfolding blockCallOf blockOf
-  decode-kept {x} {l} e m = ap (λ (c : BlockCalled). c .out) e ∙ go (validOf s r && (blockArguments table kind ctx first && sixteenBits old 16)) refl
-    where
-      given-not : (g : Given Coefficients) → fromBlockCalled (toBlockCalled old g) ≡ missing → toBlockCalled old g .out ≡ old
-      given-not (given x r) f = absurd (never-both refl f)
-      given-not missing f = refl
-
-      go : (b : Bool) → validOf s r && (blockArguments table kind ctx first && sixteenBits old 16) ≡ b → blockCallOf s r table kind ctx first q0 q1 old .out ≡ old
-      go true k =
-          let w : blockCallOf s r table kind ctx first q0 q1 old ≡ toBlockCalled old (run (block table kind q0 q1 ctx first old) s r) = rw (k, blockCallOf) in
-          ap (λ (c : BlockCalled). c .out) w ∙ given-not (run (block table kind q0 q1 ctx first old) s r) (sym (ap fromBlockCalled (e ∙ w)) ∙ m)
-      go false k = ap (λ (c : BlockCalled). c .out) (sym (decode-refused s r table kind ctx first q0 q1 old k))
+  decode-reads v g e = e ∙ sym (reads-passed s r table kind ctx first q0 q1 old (good-tests v g))
 
 -- ---- a header's table
 pub length-header : (h : List ℤ) → length (headerTable h) ≡ probabilityCount

@@ -14,19 +14,17 @@ use lib.Seq.{getD-set-same, getD-set-other}
 use mir.Syntax.{w16}
 use borrow.Author.Tests.{eqb-true, ltb-true, lt-ltb, le-ltb, eq-eqb, ne-eqb, leb-true, le-leb, lt-leb}
 use Rattle.header.specs.Entries.{probabilityCount}
-use Rattle.numbers.specs.Flags.{bitOf}
 use Rattle.numbers.specs.Hand.{there}
 use Rattle.numbers.specs.Know.{round}
 use Rattle.numbers.specs.Lists.{build, length-build, getD-build, build-same, build-constant, getD-constant, built}
 use Rattle.numbers.specs.Parts.{up, dn, of-le, of-eq, add-parts, sub-parts-ℤ, up-times, dn-times}
-use Rattle.numbers.specs.Runs.{length-placed, placed-in, placed-off}
 use Rattle.numbers.specs.Tables.{allBelow, all-below}
-use Rattle.numbers.specs.Tests.{lt-or, eq-or, never, both-left, both-right, both-true, both-false}
+use Rattle.numbers.specs.Tests.{lt-or, never, both-left, both-right, both-true, both-false}
 use Rattle.numbers.specs.Wrap.{wrapZ}
 use Rattle.numbers.specs.WrapLaws.{wrap-is}
 use Rattle.reader.specs.BooleanLaws.{Bytes}
-use Rattle.reader.specs.Counts.{tokenDepths}
-use Rattle.reader.specs.CountsLaws.{costs-walk, depthsOf}
+use Rattle.reader.specs.Counts.{Costs, ends, tokenDepths}
+use Rattle.reader.specs.CountsLaws.{costs-bind, costs-walk, depthsOf, extra-costs}
 use Rattle.reader.specs.Extra.{extra}
 use Rattle.reader.specs.Reading.{Reading, done, ask, symbol, _>>=_}
 use Rattle.reader.specs.Token.{tokenTree, token, elevenAt}
@@ -46,79 +44,16 @@ use Rattle.wide.specs.declared.wide.Wide.{Wide}
 use Rattle.coefficients.specs.Fast.{sixteenAt, stored, spotsOf, spaced, strewn, BlockCoded, CodedWhere, roomOf}
 use Rattle.coefficients.specs.BlockLaws.{SixteenBits, magnitude-within}
 use Rattle.coefficients.specs.BlockSteps.{place-below, zigzag-below, context-more, arguments-fact}
-use Rattle.coefficients.specs.CountSteps.{bitsOf, magnitude-costs}
-use Rattle.coefficients.specs.Block.{categories, category, magnitude, signOf, signedValue, bands, zigzag, probabilityPlace, probabilitiesAt, quantizerAt, contextAfter, Coefficients, blockFrom, block, blockArguments}
+use Rattle.coefficients.specs.Block.{categories, bases, category, magnitude, signOf, signedValue, bands, zigzag, probabilityPlace, probabilitiesAt, quantizerAt, contextAfter, Coefficients, blockFrom, block, blockArguments}
 use Rattle.coefficients.specs.declared.fast.Number.{Number}
 use Rattle.coefficients.specs.declared.fast.WideBlock.{WideBlock}
 use Rattle.coefficients.specs.declared.fast.Zeros.{Zeros}
 
--- ---- sixteen numbers in a longer list
+-- ---- two lists that agree in every place
 same-list : (l m : List ℤ) → length l ≡ length m → ((i : ℕ) → i < length m → getD l i (pos 0) ≡ getD m i (pos 0)) → l ≡ m
 same-list l m e h =
     built l (length m) (λ i. getD m i (pos 0)) (pos 0) e h
     ∙ sym (built m (length m) (λ i. getD m i (pos 0)) (pos 0) refl (λ i k. refl))
-
-module _ (l : List ℤ) (at : ℕ) (room : at + 16 ≤ length l) where
-  -- two lists agree where they do in the sixteen places and outside of them
-  by-place : (x y : List ℤ) → length x ≡ length l → length y ≡ length l → ((j : ℕ) → j < 16 → getD x (at + j) (pos 0) ≡ getD y (at + j) (pos 0))
-      → ((i : ℕ) → (i < at) ⊎ (at + 16 ≤ i) → getD x i (pos 0) ≡ getD y i (pos 0)) → x ≡ y
-  by-place x y e f g h = same-list x y (e ∙ sym f) (λ i k. go i)
-    where
-      go : (i : ℕ) → getD x i (pos 0) ≡ getD y i (pos 0)
-      go i = elim (lt-or i at) [
-        | inl a ↦ h i (inl a)
-        | inr a ↦ elim (lt-or i (at + 16)) [
-          | inl b ↦ let e : i ≡ at + (i - at) = omega arith in rw e (g (i - at) (omega arith))
-          | inr b ↦ h i (inr b)
-        ]
-      ]
-
-  pub stored-same : l ≡ stored l at (sixteenAt l at)
-  unfolding sixteenAt
-  stored-same =
-      let c : List ℤ = sixteenAt l at in
-      by-place l (stored l at c) refl (length-placed l at (λ j. getD c j (pos 0)) 16)
-      (λ j h. sym (placed-in l at (λ j. getD c j (pos 0)) 16 j (pos 0) room h ∙ getD-build 16 (λ j. getD l (at + j) (pos 0)) j (pos 0) h))
-      (λ i h. sym (placed-off l at (λ j. getD c j (pos 0)) 16 i (pos 0) h))
-
-  pub sixteen-stored : (c : List ℤ) → length c ≡ 16 → sixteenAt (stored l at c) at ≡ c
-  unfolding sixteenAt
-  sixteen-stored c e =
-      sym (built c 16 (λ j. getD (stored l at c) (at + j) (pos 0)) (pos 0) e (λ j h. sym (placed-in l at (λ j. getD c j (pos 0)) 16 j (pos 0) room h)))
-
-  -- one of them set
-  pub stored-set : (c : List ℤ) (z : ℕ) (v : ℤ) → length c ≡ 16 → z < 16 → set (stored l at c) (at + z) v ≡ stored l at (set c z v)
-  stored-set c z v e k =
-      by-place (set (stored l at c) (at + z) v) (stored l at (set c z v))
-      (length-set (stored l at c) (at + z) v ∙ long c) (long (set c z v)) inner outer
-    where
-      long : (d : List ℤ) → length (stored l at d) ≡ length l
-      long d = length-placed l at (λ j. getD d j (pos 0)) 16
-
-      inner : (j : ℕ) → j < 16 → getD (set (stored l at c) (at + z) v) (at + j) (pos 0) ≡ getD (stored l at (set c z v)) (at + j) (pos 0)
-      inner j h = elim (ℕ-discrete j z) [
-        | yes f ↦ rw f
-            (getD-set-same (stored l at c) (at + z) v (pos 0) (rw (long c) (omega arith))
-            ∙ sym (placed-in l at (λ j. getD (set c z v) j (pos 0)) 16 z (pos 0) room k ∙ getD-set-same c z v (pos 0) (rw e k)))
-        | no f ↦
-            getD-set-other (stored l at c) (at + z) (at + j) v (pos 0) (λ q. f (omega arith))
-            ∙ placed-in l at (λ j. getD c j (pos 0)) 16 j (pos 0) room h
-            ∙ sym (placed-in l at (λ j. getD (set c z v) j (pos 0)) 16 j (pos 0) room h ∙ getD-set-other c z j v (pos 0) f)
-      ]
-
-      outer : (i : ℕ) → (i < at) ⊎ (at + 16 ≤ i) → getD (set (stored l at c) (at + z) v) i (pos 0) ≡ getD (stored l at (set c z v)) i (pos 0)
-      outer i h =
-          getD-set-other (stored l at c) (at + z) i v (pos 0) (off h)
-          ∙ placed-off l at (λ j. getD c j (pos 0)) 16 i (pos 0) h
-          ∙ sym (placed-off l at (λ j. getD (set c z v) j (pos 0)) 16 i (pos 0) h)
-        where
-          off : (i < at) ⊎ (at + 16 ≤ i) → i ≡ at + z → ⊥
-          off (inl a) q = omega arith
-          off (inr a) q = omega arith
-
-pub length-sixteen : (l : List ℤ) (at : ℕ) → length (sixteenAt l at) ≡ 16
-unfolding sixteenAt
-length-sixteen l at = length-build 16 _
 
 -- ---- sixteen numbers a step apart
 -- places a step apart are apart, and none is past the last
@@ -282,6 +217,26 @@ place-first kind ctx (suc (suc n)) h = absurd (omega arith)
 pub place-near : (kind n ctx : ℕ) {near at : ℕ} → near ≡ ctx * 11 → at ≡ probabilityPlace kind n 0 → at + near ≡ probabilityPlace kind n ctx
 unfolding probabilityPlace
 place-near kind n ctx e f = omega arith
+
+-- the symbols of a number: as many as its category has probabilities
+unfoldable pub bitsOf : ℕ → ℕ
+bitsOf t = elim (ltb t 6) [ true ↦ 0 | false ↦ length (getD categories (t - 6) []) ]
+
+magnitude-costs : (t : ℕ) → Costs (λ (v : ℕ). bitsOf t) 0 (magnitude t)
+unfolding magnitude bitsOf
+magnitude-costs t = ⊎-elim (few t) (many t) (lt-or t 6)
+  where
+    few : (t : ℕ) → t < 6 → Costs (λ (v : ℕ). bitsOf t) 0 (magnitude t)
+    few t k =
+        let e : bitsOf t ≡ 0 = rw (lt-ltb t 6 k, bitsOf) in
+        let f : magnitude t ≡ done (t - 1) = rw (lt-ltb t 6 k, magnitude) in
+        rw (e, f) (ends refl)
+
+    many : (t : ℕ) → 6 ≤ t → Costs (λ (v : ℕ). bitsOf t) 0 (magnitude t)
+    many t k =
+        let e : bitsOf t ≡ length (getD categories (t - 6) []) = rw (le-ltb t 6 k, bitsOf) in
+        let f : magnitude t ≡ category (getD bases (t - 6) 0) (getD categories (t - 6) []) = rw (le-ltb t 6 k, magnitude) in
+        rw (e, f) (costs-bind (extra-costs (getD categories (t - 6) [])) (λ v. ends refl))
 
 -- a token's symbols and its extra bits
 unfoldable pub tokenSymbols : List ℕ

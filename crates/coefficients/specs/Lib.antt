@@ -1,7 +1,6 @@
--- tokens: definitions, the steps of a block and of its count, laws that callers cite; the same over a wide reader
+-- tokens: definitions, the steps of a block, laws that callers cite; the same over a wide reader
 pub mod Block
 pub mod BlockSteps
-pub mod CountSteps
 pub mod BlockLaws
 pub mod Fast
 pub mod FastLaws

@@ -1,6 +1,5 @@
 // The coefficients of a block: tokens, the numbers and signs that follow them, where they stand and what they are multiplied by
 // (RFC 6386, sections 13 and 14.1). A token itself is `reader::token::walk_token`.
-use crate::counts::count_from;
 use header::entries::COEFFICIENT_PROBABILITY;
 use header::entries::ENTRY_COUNT;
 use header::entries::PROBABILITY_COUNT;
@@ -12,6 +11,7 @@ use reader::boolean::Reader;
 use reader::boolean::Symbol;
 use reader::boolean::valid;
 use reader::extra::Number;
+use reader::extra::NumberRead;
 use reader::extra::extra_bits;
 use reader::token::Token;
 use reader::token::walk_token;
@@ -25,20 +25,16 @@ ghost use Rattle.numbers.specs.Wrap.{wrapZ};
 ghost use Rattle.reader.specs.BooleanLaws.{Valid};
 ghost use Rattle.reader.specs.Reading.{run};
 ghost use Rattle.reader.specs.Extra.{toNumber};
-ghost use Rattle.coefficients.specs.Block.{category, signOf, bands, zigzag, probabilityPlace, quantizerAt, contextAfter, magnitudeOf};
-ghost use Rattle.coefficients.specs.Block.{signedOf, numericOf, numberAnswer, signedAnswer, blockOf, sixteenBits};
-ghost use Rattle.coefficients.specs.Block.{blockArguments, blockCallOf};
+ghost use Rattle.reader.specs.Trace.{count};
+ghost use Rattle.coefficients.specs.Block.{category, magnitude, signOf, bands, zigzag, probabilityPlace, quantizerAt, contextAfter};
+ghost use Rattle.coefficients.specs.Block.{magnitudeOf, signedValue, signedOf, numericOf, numberAnswer, signedAnswer};
+ghost use Rattle.coefficients.specs.Block.{blockOf, sixteenBits, blockArguments, blockCallOf};
 ghost use Rattle.coefficients.specs.Block.{blockByHeaderOf, tableOf, block, blockReads, blockByHeaderReads};
-ghost use Rattle.coefficients.specs.CountSteps.{costs, countGiven};
 
 // The band of a position, and where its number stands in the block.
-pub(crate) const BANDS: [u8; 16] = [0, 1, 2, 3, 6, 4, 5, 6, 6, 6, 6, 6, 6, 6, 6, 7];
+const BANDS: [u8; 16] = [0, 1, 2, 3, 6, 4, 5, 6, 6, 6, 6, 6, 6, 6, 6, 7];
 
 pub(crate) const ZIGZAG: [u8; 16] = [0, 1, 4, 8, 5, 2, 3, 6, 9, 12, 13, 10, 7, 11, 14, 15];
-
-// The symbols of each token, with its number's bits and its sign, where its walk starts at the root. After a zero it does not, so the token
-// there is counted one too many, and a zero therefore one too few; a zero at the last position is put right after the loop.
-const COSTS: [u8; 12] = [1, 1, 4, 6, 7, 7, 8, 9, 11, 12, 13, 19];
 
 // The probabilities of a category's extra bits: the RFC's Pcat1 to Pcat6.
 pub(crate) const CAT1: [u8; 1] = [159];
@@ -58,6 +54,12 @@ pub enum Signed {
     Value(i32, Reader),
     Missing,
     Refused,
+}
+
+// The answer, and how many symbols were read; where one is missing, those before it.
+struct SignedRead {
+    answer: Signed,
+    reads: u64,
 }
 
 // Where a block ended and the reader after it; Missing where a byte was; Refused where an argument is out of range.
@@ -82,23 +84,38 @@ pub struct Table {
 // ---- the number of a token
 
 // A category's least number and what its extra bits add.
-pub(crate) fn extended(s: &[u8], r: Reader, probs: &[u8], base: u32) -> Number
+fn extended(s: &[u8], r: Reader, probs: &[u8], base: u32) -> NumberRead
     requires { ⌜ Valid (now s) r ⌝ }
     requires { ⌜ (length (now probs) ≤ 16) × (base < 256) ⌝ }
-    ensures { λ q. ⌜ q ≡ toNumber (run (category base (now (probs .entry))) (now (s .entry)) r) ⌝ }
+    ensures { λ q. ⌜ (q .answer ≡ toNumber (run (category base (now (probs .entry))) (now (s .entry)) r))
+        × (q .reads ≡ count (category base (now (probs .entry))) (now (s .entry)) r) ⌝ }
 {
-    let Number::Value(v, next) = extra_bits(s, r, probs) else {
-        return Number::Missing;
+    let bits = extra_bits(s, r, probs);
+    let reads = bits.reads;
+    let answer = bits.answer;
+    let Number::Value(v, next) = answer else {
+        return NumberRead {
+            answer: Number::Missing,
+            reads: reads,
+        };
     };
-    Number::Value(base + v, next)
+    NumberRead {
+        answer: Number::Value(base + v, next),
+        reads: reads,
+    }
 }
 
-// The number of a category. It stands apart from the frequent tokens, whose way then makes no room for the categories' tables.
-fn read_category(s: &[u8], r: Reader, token: u8) -> Number
+fn read_number(s: &[u8], r: Reader, token: u8) -> NumberRead
     requires { ⌜ Valid (now s) r ⌝ }
-    requires { ⌜ (6 ≤ token) × (token ≤ 11) ⌝ }
-    ensures { λ q. ⌜ q ≡ magnitudeOf (now (s .entry)) token r ⌝ }
+    requires { ⌜ (2 ≤ token) × (token ≤ 11) ⌝ }
+    ensures { λ q. ⌜ (q .answer ≡ magnitudeOf (now (s .entry)) token r) × (q .reads ≡ count (magnitude token) (now (s .entry)) r) ⌝ }
 {
+    if token < 6 {
+        return NumberRead {
+            answer: Number::Value(token as u32 - 1, r),
+            reads: 0,
+        };
+    }
     match token {
         6 => extended(s, r, &CAT1, 5),
         7 => extended(s, r, &CAT2, 7),
@@ -107,17 +124,6 @@ fn read_category(s: &[u8], r: Reader, token: u8) -> Number
         10 => extended(s, r, &CAT5, 35),
         _ => extended(s, r, &CAT6, 67),
     }
-}
-
-pub(crate) fn read_number(s: &[u8], r: Reader, token: u8) -> Number
-    requires { ⌜ Valid (now s) r ⌝ }
-    requires { ⌜ (2 ≤ token) × (token ≤ 11) ⌝ }
-    ensures { λ q. ⌜ q ≡ magnitudeOf (now (s .entry)) token r ⌝ }
-{
-    if token < 6 {
-        return Number::Value(token as u32 - 1, r);
-    }
-    read_category(s, r, token)
 }
 
 fn wrapped(x: i64) -> i32
@@ -142,18 +148,30 @@ fn product(v: u32, q: u16, negative: bool) -> i32
     wrapped(x)
 }
 
-pub(crate) fn read_signed(s: &[u8], r: Reader, token: u8, q: u16) -> Signed
+fn read_signed(s: &[u8], r: Reader, token: u8, q: u16) -> SignedRead
     requires { ⌜ Valid (now s) r ⌝ }
     requires { ⌜ (2 ≤ token) × (token ≤ 11) ⌝ }
-    ensures { λ a. ⌜ a ≡ signedOf (now (s .entry)) token q r ⌝ }
+    ensures { λ a. ⌜ (a .answer ≡ signedOf (now (s .entry)) token q r) × (a .reads ≡ count (signedValue token q) (now (s .entry)) r) ⌝ }
 {
-    let Number::Value(v, next) = read_number(s, r, token) else {
-        return Signed::Missing;
+    let number = read_number(s, r, token);
+    let reads = number.reads;
+    let answer = number.answer;
+    let Number::Value(v, next) = answer else {
+        return SignedRead {
+            answer: Signed::Missing,
+            reads: reads,
+        };
     };
     let Symbol::Got(negative, after) = next.symbol(s, 128) else {
-        return Signed::Missing;
+        return SignedRead {
+            answer: Signed::Missing,
+            reads: reads,
+        };
     };
-    Signed::Value(product(v, q, negative), after)
+    SignedRead {
+        answer: Signed::Value(product(v, q, negative), after),
+        reads: reads + 1,
+    }
 }
 
 // ---- a block
@@ -168,7 +186,7 @@ pub(crate) fn entry(table: &[u8; 16], n: usize) -> usize
 }
 
 // Where the eleven probabilities of a position stand in the table.
-pub(crate) fn place(table: &[u8; 16], kind: usize, n: usize, ctx: usize) -> usize
+fn place(table: &[u8; 16], kind: usize, n: usize, ctx: usize) -> usize
     requires { ⌜ now table ≡ bands ⌝ }
     requires { ⌜ (kind < 4) × ((n < 16) × (ctx < 3)) ⌝ }
     ensures { λ r. ⌜ (r ≡ probabilityPlace kind n ctx) × (r + 11 ≤ probabilityCount) ⌝ }
@@ -182,18 +200,10 @@ pub(crate) fn quantizer(n: usize, q0: u16, q1: u16) -> u16
     if n == 0 { q0 } else { q1 }
 }
 
-pub(crate) fn context(token: u8) -> usize
+fn context(token: u8) -> usize
     ensures { λ r. ⌜ (r ≡ contextAfter token) × (r < 3) ⌝ }
 {
     if token == 2 { 1 } else { 2 }
-}
-
-fn cost(table: &[u8; 12], token: u8) -> u64
-    requires { ⌜ now table ≡ costs ⌝ }
-    requires { ⌜ token < 12 ⌝ }
-    ensures { λ r. ⌜ (r ≡ getD costs token 0) × (r ≤ 19) ⌝ }
-{
-    table[token as usize] as u64
 }
 
 fn counted(answer: Block, reads: u64) -> BlockRead
@@ -205,9 +215,8 @@ fn counted(answer: Block, reads: u64) -> BlockRead
     }
 }
 
-// A block of arguments in range. Its numbers reach `out` only where it ended, and only there are its symbols counted: to count up to a
-// missing one, the loop would have to keep the reader from before each token. The three tables are made once, before the loop.
-pub(crate) fn read_block(
+// A block of arguments in range. Its numbers reach `out` only where it ended.
+fn read_block(
     s: &[u8],
     r: Reader,
     table: &[u8],
@@ -222,11 +231,8 @@ pub(crate) fn read_block(
     requires { ⌜ (length (now table) ≡ probabilityCount) × ((kind < 4) × ((ctx < 3) × (first ≤ 1))) ⌝ }
     ensures { λ a. ⌜ (record { answer = a .answer; out = now (out .exit) }
         ≡ blockOf (now (s .entry)) r (now (table .entry)) kind ctx first q0 q1 (now (out .entry)))
-        × (a .reads ≡ countGiven (block (now (table .entry)) kind q0 q1 ctx first (now (out .entry))) (now (s .entry)) r) ⌝ }
+        × (a .reads ≡ count (block (now (table .entry)) kind q0 q1 ctx first (now (out .entry))) (now (s .entry)) r) ⌝ }
 {
-    let bands = BANDS;
-    let zigzag = ZIGZAG;
-    let costs = COSTS;
     let mut values = *out;
     let mut next = r;
     let mut n = first;
@@ -234,11 +240,12 @@ pub(crate) fn read_block(
     let mut zero = false;
     let mut reads: u64 = 0;
     while n < 16 {
-        let at = place(&bands, kind, n, near);
-        let Token::Read(token, after) = walk_token(s, next, table, at, zero) else {
-            return counted(Block::Missing, 0);
+        let t = walk_token(s, next, table, place(&BANDS, kind, n, near), zero);
+        let answer = t.answer;
+        reads = reads + t.reads;
+        let Token::Read(token, after) = answer else {
+            return counted(Block::Missing, reads);
         };
-        reads = reads + cost(&costs, token);
         if token == 0 {
             *out = values;
             return counted(Block::Ended(n, after), reads);
@@ -249,10 +256,13 @@ pub(crate) fn read_block(
             next = after;
             n = n + 1;
         } else {
-            let Signed::Value(v, last) = read_signed(s, after, token, quantizer(n, q0, q1)) else {
-                return counted(Block::Missing, 0);
+            let number = read_signed(s, after, token, quantizer(n, q0, q1));
+            let signed = number.answer;
+            reads = reads + number.reads;
+            let Signed::Value(v, last) = signed else {
+                return counted(Block::Missing, reads);
             };
-            let z = entry(&zigzag, n);
+            let z = entry(&ZIGZAG, n);
             values[z] = v;
             near = context(token);
             zero = false;
@@ -261,7 +271,7 @@ pub(crate) fn read_block(
         }
     }
     *out = values;
-    counted(Block::Ended(n, next), reads + zero as u64)
+    counted(Block::Ended(n, next), reads)
 }
 
 // ---- the public calls
@@ -290,26 +300,22 @@ fn numeric(token: u8) -> bool
 pub fn number(s: &[u8], r: Reader, token: u8) -> Number
     ensures { λ q. ⌜ q ≡ numberAnswer (now (s .entry)) token r ⌝ }
 {
-    if !valid(s, r) {
+    if !(valid(s, r) & numeric(token)) {
         return Number::Refused;
     }
-    if !numeric(token) {
-        return Number::Refused;
-    }
-    read_number(s, r, token)
+    let number = read_number(s, r, token);
+    number.answer
 }
 
 // The coefficient of a token 2..11: magnitude, sign and quantizer.
 pub fn dequant(s: &[u8], r: Reader, token: u8, q: u16) -> Signed
     ensures { λ a. ⌜ a ≡ signedAnswer (now (s .entry)) token q r ⌝ }
 {
-    if !valid(s, r) {
+    if !(valid(s, r) & numeric(token)) {
         return Signed::Refused;
     }
-    if !numeric(token) {
-        return Signed::Refused;
-    }
-    read_signed(s, r, token, q)
+    let signed = read_signed(s, r, token, q);
+    signed.answer
 }
 
 pub(crate) fn arguments(table: &[u8], kind: usize, ctx: usize, first: usize) -> bool
@@ -318,8 +324,7 @@ pub(crate) fn arguments(table: &[u8], kind: usize, ctx: usize, first: usize) -> 
     (table.len() == PROBABILITY_COUNT) & ((kind < 4) & ((ctx < 3) & (first <= 1)))
 }
 
-// A block: where it ended, its numbers stored into `out`, which every other answer leaves as it was. Where a byte is missing, it is read
-// again for its count.
+// A block: where it ended, its numbers stored into `out`, which every other answer leaves as it was.
 pub fn decode(
     s: &[u8],
     r: Reader,
@@ -335,24 +340,10 @@ pub fn decode(
         ≡ blockCallOf (now (s .entry)) r (now (table .entry)) kind ctx first q0 q1 (now (out .entry)))
         × (a .reads ≡ blockReads (now (s .entry)) r (now (table .entry)) kind ctx first q0 q1 (now (out .entry))) ⌝ }
 {
-    if !valid(s, r) {
+    if !(valid(s, r) & (arguments(table, kind, ctx, first) & small(out))) {
         return counted(Block::Refused, 0);
     }
-    if !arguments(table, kind, ctx, first) {
-        return counted(Block::Refused, 0);
-    }
-    if !small(out) {
-        return counted(Block::Refused, 0);
-    }
-    let b = read_block(s, r, table, kind, ctx, first, q0, q1, out);
-    let answer = b.answer;
-    let Block::Ended(_, _) = answer else {
-        return counted(
-            Block::Missing,
-            count_from(s, r, table, kind, first, ctx, false),
-        );
-    };
-    b
+    read_block(s, r, table, kind, ctx, first, q0, q1, out)
 }
 
 // The probabilities of a header, once for every block of a picture.

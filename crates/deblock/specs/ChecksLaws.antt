@@ -17,7 +17,7 @@ use Rattle.tile.specs.ChecksLaws.{sides-fact, sides-test}
 use Rattle.lent.specs.Records.{recordsIn, strengthWidth, strengthAt}
 use Rattle.lent.specs.Sizes.{lumaFine, chromaFine, strengthsFine}
 use Rattle.lent.specs.SizesLaws.{long-fact, long-test, luma-area, chroma-area}
-use Rattle.deblock.specs.Deblock.{deblockLengths, DeblockLengths, limitsOf, deblockRefusal, Outcome, when, rasterOf, planesDeblocked, deblockOf, deblockNumberOf}
+use Rattle.deblock.specs.Deblock.{deblockLengths, DeblockLengths, limitsOf, deblockRefusal, DeblockAnswer, when, rasterOf, planesDeblocked, deblockOf, deblockNumberOf}
 use Rattle.macroblock.specs.Macroblock.{Planes}
 use Rattle.deblock.specs.declared.Deblocked.the-variants.{Done, Refused}
 use Rattle.deblock.specs.Located.{Beside, WholePlane}
@@ -146,14 +146,14 @@ module _ (m : Planes) (s : List ℕ) (w h : ℕ) (simple : Bool) where
   unfolding deblockOf
   deblock-refused k f = rw (f, deblockOf)
 
-  pub refused : {n : ℕ} → n ≡ bad → (n ≡ 0 → ⊥) → _≡_ {A = Outcome} (record { answer = Refused n; planes = m }) (deblockOf m s w h simple)
+  pub refused : {n : ℕ} → n ≡ bad → (n ≡ 0 → ⊥) → _≡_ {A = DeblockAnswer} (record { answer = Refused n; planes = m }) (deblockOf m s w h simple)
   refused {n} e z = rw e (go bad refl (λ g. z (e ∙ g)))
     where
-      go : (k : ℕ) → bad ≡ k → (k ≡ 0 → ⊥) → _≡_ {A = Outcome} (record { answer = Refused k; planes = m }) (deblockOf m s w h simple)
+      go : (k : ℕ) → bad ≡ k → (k ≡ 0 → ⊥) → _≡_ {A = DeblockAnswer} (record { answer = Refused k; planes = m }) (deblockOf m s w h simple)
       go zero f g = absurd (g refl)
       go (suc k) f g = sym (deblock-refused k f)
 
-  pub done : {p : Planes} → 0 ≡ bad → p ≡ planesDeblocked simple s (w / 16) (h / 16) m → _≡_ {A = Outcome} (record { answer = Done; planes = p }) (deblockOf m s w h simple)
+  pub done : {p : Planes} → 0 ≡ bad → p ≡ planesDeblocked simple s (w / 16) (h / 16) m → _≡_ {A = DeblockAnswer} (record { answer = Done; planes = p }) (deblockOf m s w h simple)
   unfolding deblockOf
   done e f = rw (f, ← e, deblockOf)
 
@@ -162,11 +162,11 @@ module _ (m : Planes) (s : List ℕ) (w h : ℕ) (simple : Bool) where
   deblock-number = go bad refl
     where
       go : (k : ℕ) → bad ≡ k → k ≡ deblockNumberOf (deblockOf m s w h simple .answer)
-      go zero e = ap (λ (o : Outcome). deblockNumberOf (o .answer)) (done (sym e) refl)
-      go (suc k) e = ap (λ (o : Outcome). deblockNumberOf (o .answer)) (sym (deblock-refused k e))
+      go zero e = ap (λ (o : DeblockAnswer). deblockNumberOf (o .answer)) (done (sym e) refl)
+      go (suc k) e = ap (λ (o : DeblockAnswer). deblockNumberOf (o .answer)) (sym (deblock-refused k e))
 
   pub deblock-unchanged : (bad ≡ 0 → ⊥) → deblockOf m s w h simple .planes ≡ m
-  deblock-unchanged z = ap (λ (o : Outcome). o .planes) (sym (refused refl z))
+  deblock-unchanged z = ap (λ (o : DeblockAnswer). o .planes) (sym (refused refl z))
 
   pub picture-simple : {y : List ℕ} → simple ≡ true → y ≡ rasterOf simple s 16 (w / 16) (w / 16 * (h / 16)) (m .y) → _≡_ {A = Planes} (record { y = y; u = m .u; v = m .v }) (planesDeblocked simple s (w / 16) (h / 16) m)
   unfolding planesDeblocked when

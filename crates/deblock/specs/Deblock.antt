@@ -27,7 +27,7 @@ use Rattle.deblock.specs.declared.Deblocked.the-variants.{Done, Refused}
 abbrev pub Change : Type 0
 Change = List ℕ → List ℕ
 
--- changes 0, 1, .. n - 1, one after the other; and a change that is made where a test holds
+-- changes 0, 1, .. n - 1, one after the other
 unfoldable pub turns : (ℕ → Change) → (n : ℕ) → Change
 turns f zero p = p
 turns f (suc n) p = f n (turns f n p)
@@ -59,11 +59,11 @@ positionOf g at step p = laidBack p at step (keptOf g (acrossOf p at step)) 6
 unfoldable pub sweepOf : Edge → (at along step n : ℕ) → Change
 sweepOf g at along step n = turns (λ i. positionOf g (at + i * along) step) n
 
--- the edge left of column x in the n rows from y on, and the edge above row y in the n columns from x on
+-- the edge left of column x, in the n rows from y on
 unfoldable pub verticalEdges : Edge → (w x y n : ℕ) → Change
 verticalEdges g w x y n = sweepOf g (y * w + x - 4) w 1 n
 
--- n positions along row y, a column apart
+-- the edge above row y, in the n columns from x on
 unfoldable pub horizontalEdges : Edge → (w x y n : ℕ) → Change
 horizontalEdges g w x y n = sweepOf g ((y - 4) * w + x) 1 w n
 
@@ -76,11 +76,11 @@ outerEdge simple t = record { simple = simple; outer = true; limit = t .limit + 
 abbrev pub innerEdge : Bool → Strength → Edge
 innerEdge simple t = record { simple = simple; outer = false; limit = t .limit; inner = t .inner; threshold = t .threshold }
 
--- the inner edges lie four samples apart: at 4, 8, 12 in luma, at 4 in chroma
+-- the inner vertical edges: at 4, 8, 12 in luma, at 4 in chroma
 unfoldable pub verticalsOf : Edge → (w x y n : ℕ) → Change
 verticalsOf g w x y n = turns (λ j. verticalEdges g w (x + 4 * j + 4) y n) (n / 4 - 1)
 
--- the horizontal ones, likewise
+-- the inner horizontal edges, likewise
 unfoldable pub horizontalsOf : Edge → (w x y n : ℕ) → Change
 horizontalsOf g w x y n = turns (λ j. horizontalEdges g w x (y + 4 * j + 4) n) (n / 4 - 1)
 
@@ -115,8 +115,7 @@ planesDeblocked simple strengths wide high m = record {
 }
 
 -- ---- the call
--- 1: the sides: `sidesOf` of crate tile
--- 4: the lengths of what is lent
+-- 4: the lengths of what is lent; 1, the sides, is `sidesOf` of crate tile
 unfoldable pub deblockLengths : (w h y u v strengths : ℕ) → Bool
 deblockLengths w h y u v strengths = lumaFine w h y && chromaFine w h u && chromaFine w h v && strengthsFine w h strengths
 
@@ -137,12 +136,12 @@ deblockRefusal w h y u v strengths =
     cond (sidesOf w h) (cond (deblockLengths w h y u v (length strengths)) (cond (limitsOf strengths) 0 11) 4) 1
 
 -- what the call answers, and the planes after it
-pub record Outcome : Type 0 where
+pub record DeblockAnswer : Type 0 where
   pub answer : Deblocked
   pub planes : Planes
 
 -- THE CALL: a bad argument is refused by number and nothing changes; else all planes are deblocked
-unfoldable pub deblockOf : Planes → (strengths : List ℕ) → (w h : ℕ) (simple : Bool) → Outcome
+unfoldable pub deblockOf : Planes → (strengths : List ℕ) → (w h : ℕ) (simple : Bool) → DeblockAnswer
 deblockOf m strengths w h simple =
     elim (deblockRefusal w h (length (m .y)) (length (m .u)) (length (m .v)) strengths) [
       | zero ↦ record { answer = Done; planes = planesDeblocked simple strengths (w / 16) (h / 16) m }

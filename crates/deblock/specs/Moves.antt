@@ -17,20 +17,20 @@ abbrev pub total : ℕ → (ℕ → ℕ) → ℕ
 total zero d = 0
 total (suc n) d = total n d + d n
 
--- By an edge before place X of a line of samples, the sample at x: it is number x + 4 - X of the eight across. Farther before the edge that
--- is 0, the number of p3, which never moves; behind q3 there is none.
+-- How far the edge before place X of a line can move the sample at x, which is number x + 4 - X of the eight across. Farther before the
+-- edge that number is 0, that of p3, which never moves; behind q3 there is none.
 abbrev pub tap : (simple outer : Bool) (X x : ℕ) → ℕ
 tap simple outer X x = getD (farthest simple outer) (x + 4 - X) 0
 
--- By all edges of macroblock c of the line, n samples wide: its first, and those in it, four apart.
+-- How far the edges of macroblock c of the line, n samples wide, can: its first, and those inside, four apart.
 abbrev pub line : (simple : Bool) (n c x : ℕ) → ℕ
 line simple n c x = tap simple true (c * n) x + total (n / 4 - 1) (λ j. tap simple false (c * n + 4 * j + 4) x)
 
--- By all edges of the line, the sample in place m of its macroblock: those of its own macroblock and of the next.
+-- How far all edges of the line can move the sample at place m of its macroblock: its own and those of the next.
 unfoldable pub reachOf : (simple : Bool) (n m : ℕ) → ℕ
 reachOf simple n m = line simple n 0 m + line simple n 1 m
 
--- The largest of these.
+-- The largest that `reachOf` gives.
 abbrev pub most : (simple : Bool) → ℕ
 most true = 16
 most false = 27

@@ -10,7 +10,7 @@ mod sweeps;
 use checks::refusal;
 use squares::squares;
 ghost use mathlib.Core.Path.{_≡_};
-ghost use Rattle.deblock.specs.Deblock.{Outcome, deblockOf};
+ghost use Rattle.deblock.specs.Deblock.{DeblockAnswer, deblockOf};
 
 // How the call ended: the planes are deblocked; or an argument was refused, 1, 4 or 11.
 pub enum Deblocked {
@@ -29,7 +29,7 @@ pub fn deblock(
     height: usize,
     simple: bool,
 ) -> Deblocked
-    ensures { λ q. ⌜ _≡_ {A = Outcome} (record { answer = q; planes = record { y = now (y .exit); u = now (u .exit); v = now (v .exit) } })
+    ensures { λ q. ⌜ _≡_ {A = DeblockAnswer} (record { answer = q; planes = record { y = now (y .exit); u = now (u .exit); v = now (v .exit) } })
         (deblockOf (record { y = now (y .entry); u = now (u .entry); v = now (v .entry) }) (now (strengths .entry)) width height simple) ⌝ }
 {
     let bad = refusal(width, height, y.len(), u.len(), v.len(), strengths);

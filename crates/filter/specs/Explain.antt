@@ -15,7 +15,7 @@ unfoldable pub toldOf : List ℕ → Rule → Explanation
 toldOf e r =
     record { rule = r; before = e; after = movedOf e (stepsOf r (samplesAcross e)); steps = stepsOf r (samplesAcross e) }
 
--- The call: what the rule that acts does.
+-- The call: the rule that acts.
 unfoldable pub explainOf : List ℕ → (simple edge : Bool) (limit inner threshold : ℕ) → Explanation
 explainOf e simple edge limit inner threshold = toldOf e (ruleOf (samplesAcross e) simple edge limit inner threshold)
 
@@ -27,7 +27,7 @@ smoothPairs e inner =
     smooth inner (e .p3) (e .p2) ∷ smooth inner (e .p2) (e .p1) ∷ smooth inner (e .p1) (e .p0)
     ∷ smooth inner (e .q3) (e .q2) ∷ smooth inner (e .q2) (e .q1) ∷ smooth inner (e .q1) (e .q0) ∷ []
 
--- Whether pair 0..5 is smooth. There is no seventh, and none fails there.
+-- Whether pair 0..5 is smooth; past those it counts as smooth.
 abbrev pub smoothPair : Samples → (inner pair : ℕ) → Bool
 smoothPair e inner pair = getD (smoothPairs e inner) pair true
 

@@ -30,7 +30,7 @@ fn smooth(a: u8, b: u8, inner: u8) -> bool
 }
 
 // Whether the kth pair of neighbours is smooth: three up to the edge, then three behind it, on either side from the outermost on.
-pub(crate) fn near(e: &[u8; 8], k: usize, inner: u8) -> bool
+pub(crate) fn pair_smooth(e: &[u8; 8], k: usize, inner: u8) -> bool
     requires { ⌜ k < 6 ⌝ }
     ensures { λ r. ⌜ r ≡ getD (pairs (samplesAcross (now (e .entry))) inner) k true ⌝ }
 {
@@ -46,7 +46,7 @@ fn rough(e: &[u8; 8], inner: u8) -> u8
     ensures { λ r. ⌜ r ≡ roughAt (samplesAcross (now (e .entry))) inner ⌝ }
 {
     for k in 0..6 {
-        if !near(e, k, inner) {
+        if !pair_smooth(e, k, inner) {
             return k as u8;
         }
     }

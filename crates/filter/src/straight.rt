@@ -1,7 +1,7 @@
 // The kernel in two steps without branches: whether a rule acts, and what it does, told whether. Every way is taken and one is chosen, so
 // that the compiler can take many positions side by side.
 use super::rules::high_variance;
-use super::rules::near;
+use super::rules::pair_smooth;
 use super::rules::within_limit;
 use super::steps::across;
 use super::steps::common_steps;
@@ -23,12 +23,12 @@ ghost use Rattle.filter.specs.Straight.{actsOf, straightOf};
 ghost use Rattle.filter.specs.StraightLaws.{eightSteps};
 
 // Whether the six pairs of neighbours are smooth.
-fn even(e: &[u8; 8], inner: u8) -> bool
+fn all_smooth(e: &[u8; 8], inner: u8) -> bool
     ensures { λ r. ⌜ r ≡ not (ltb (roughAt (samplesAcross (now (e .entry))) inner) 6) ⌝ }
 {
     let mut fine = true;
     for k in 0..6 {
-        fine = near(e, k, inner) & fine;
+        fine = pair_smooth(e, k, inner) & fine;
     }
     fine
 }
@@ -37,7 +37,7 @@ fn even(e: &[u8; 8], inner: u8) -> bool
 pub fn acts(e: &[u8; 8], simple: bool, limit: u8, inner: u8) -> bool
     ensures { λ r. ⌜ r ≡ actsOf (samplesAcross (now (e .entry))) simple limit inner ⌝ }
 {
-    within_limit(e, limit) & (simple | even(e, inner))
+    within_limit(e, limit) & (simple | all_smooth(e, inner))
 }
 
 fn choose(first: bool, a: i16, b: i16) -> i16

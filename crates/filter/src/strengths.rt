@@ -4,6 +4,7 @@ ghost use Prim.Native.Nat.{_+_, _≤_, min, max};
 ghost use Rattle.numbers.specs.Flags.{bitOf};
 ghost use Rattle.filter.specs.Strengths.{innerOf, thresholdOf, strengthOf, strengthFine, strengthAnswer};
 
+// A macroblock's strengths: edge limit, interior limit, threshold of high variance; 1 where inner edges are filtered.
 pub struct Strength {
     pub limit: u8,
     pub inner: u8,
@@ -18,6 +19,7 @@ pub fn strength_fine(t: Strength) -> bool
     (t.limit <= 189) & (t.inner <= 63) & (t.threshold <= 2) & (t.inside <= 1)
 }
 
+// The strengths, or an argument that is refused.
 pub enum Strengths {
     Of(Strength),
     Refused,

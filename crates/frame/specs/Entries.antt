@@ -6,12 +6,12 @@ use lib.Dec.{ltb}
 use lib.IntN.{ℤ, pos, _-ℤ_}
 use lib.ListN.{getD, set, replicate}
 use Rattle.numbers.specs.Lists.{build}
-use Rattle.frame.specs.declared.fields.Signed.{Signed}
+use Rattle.frame.specs.declared.fields.CodedNumber.{CodedNumber}
 use Rattle.frame.specs.declared.fields.Four.{Four}
 use Rattle.frame.specs.declared.fields.Three.{Three}
 use Rattle.frame.specs.declared.fields.Segments.{Segments}
 use Rattle.frame.specs.declared.fields.Filter.{Filter}
-use Rattle.frame.specs.declared.fields.Quantizers.{Quantizers}
+use Rattle.frame.specs.declared.fields.QuantIndices.{QuantIndices}
 use Rattle.frame.specs.declared.fields.Header.{Header}
 use Rattle.frame.specs.Header.{noValue}
 use Rattle.header.specs.Entries as Name
@@ -22,29 +22,29 @@ negative zero size = pos size
 negative (suc n) size = pos 0 -ℤ pos size
 
 -- a signed field as a number
-abbrev pub valueOf : Signed → ℤ
+abbrev pub valueOf : CodedNumber → ℤ
 valueOf x = negative (x .sign) (x .size)
 
 -- a number that is coded without a sign
-abbrev pub plain : ℕ → Signed
+abbrev pub plain : ℕ → CodedNumber
 plain n = record { sign = 0; size = n }
 
 -- numbers stored one after the other, each at its entry
-abbrev pub storedEntries : List (ℕ × Signed) → List Signed → List Signed
+abbrev pub storedEntries : List (ℕ × CodedNumber) → List CodedNumber → List CodedNumber
 storedEntries [] l = l
 storedEntries (e ∷ rest) l = storedEntries rest (set l (e .0) (e .1))
 
 -- ---- the entries before the coefficient probabilities
 -- one for each segment
-abbrev pub fourFrom : ℕ → Four → List (ℕ × Signed)
+abbrev pub fourFrom : ℕ → Four → List (ℕ × CodedNumber)
 fourFrom i f = (i, f .a) ∷ (i + 1, f .b) ∷ (i + 2, f .c) ∷ (i + 3, f .d) ∷ []
 
 -- one for each node of the map's tree
-abbrev pub threeFrom : ℕ → Three → List (ℕ × Signed)
+abbrev pub threeFrom : ℕ → Three → List (ℕ × CodedNumber)
 threeFrom i t = (i, plain (t .a)) ∷ (i + 1, plain (t .b)) ∷ (i + 2, plain (t .c)) ∷ []
 
 -- the segments' entries, from update_segmentation()
-unfoldable pub withSegments : Segments → List Signed → List Signed
+unfoldable pub withSegments : Segments → List CodedNumber → List CodedNumber
 withSegments g l =
     storedEntries (threeFrom Name.mapProbability (g .probs))
     (storedEntries (fourFrom Name.segmentLevel (g .features .levels))
@@ -57,7 +57,7 @@ withSegments g l =
     l)))
 
 -- the loop filter's entries
-unfoldable pub withFilter : Filter → List Signed → List Signed
+unfoldable pub withFilter : Filter → List CodedNumber → List CodedNumber
 withFilter f =
     storedEntries
     ((Name.frameLevel, plain (f .level))
@@ -68,7 +68,7 @@ withFilter f =
     ∷ [])
 
 -- the quantizers' entries, from quant_indices()
-unfoldable pub withQuantizers : Quantizers → List Signed → List Signed
+unfoldable pub withQuantizers : QuantIndices → List CodedNumber → List CodedNumber
 withQuantizers q =
     storedEntries
     ((Name.baseIndex, plain (q .base))
@@ -80,11 +80,11 @@ withQuantizers q =
     ∷ [])
 
 -- all entries before the coefficient probabilities; those with no name are 0
-unfoldable pub numbers : Header → List Signed
+unfoldable pub numbers : Header → List CodedNumber
 numbers h = withQuantizers (h .quantizers) (withFilter (h .filter) (withSegments (h .segments) (replicate Name.coefficientProbability noValue)))
 
 -- ---- all of them: those, the coefficient probabilities, whether macroblocks may be skipped and the probability of that
-unfoldable pub numberAt : List Signed → List ℕ → ℕ → ℕ → ℕ → Signed
+unfoldable pub numberAt : List CodedNumber → List ℕ → ℕ → ℕ → ℕ → CodedNumber
 numberAt first probs skip chance i =
     elim (ltb i Name.coefficientProbability) [
       | true ↦ getD first i noValue

@@ -16,15 +16,15 @@ use mir.Syntax.{w32}
 use Rattle.numbers.specs.Know.{num, plainly, know-sub, round}
 use Rattle.numbers.specs.Hand.{unsigned-below, answered}
 use Rattle.numbers.specs.Lists.{build, length-build, getD-build, getD-build-past, set-keeps, getD-constant}
-use Rattle.frame.specs.declared.fields.Signed.{Signed}
+use Rattle.frame.specs.declared.fields.CodedNumber.{CodedNumber}
 use Rattle.frame.specs.declared.fields.Four.{Four}
 use Rattle.frame.specs.declared.fields.Three.{Three}
 use Rattle.frame.specs.declared.fields.Segments.{Segments}
 use Rattle.frame.specs.declared.fields.Filter.{Filter}
-use Rattle.frame.specs.declared.fields.Quantizers.{Quantizers}
+use Rattle.frame.specs.declared.fields.QuantIndices.{QuantIndices}
 use Rattle.frame.specs.declared.fields.Header.{Header}
 use Rattle.frame.specs.Header.{noValue}
-use Rattle.frame.specs.Fine.{Small, FineFour, FineThree, FineSegments, FineFilter, FineQuantizers, FineTaken}
+use Rattle.frame.specs.Fine.{Small, FineFour, FineThree, FineSegments, FineFilter, FineQuantIndices, FineTaken}
 use Rattle.frame.specs.Entries.{negative, valueOf, plain, storedEntries, fourFrom, threeFrom, withSegments, withFilter, withQuantizers, numbers, numberAt, entries}
 
 -- as the code makes it
@@ -41,29 +41,29 @@ negative-in (suc n) size h =
     let k = know-sub (num (pos 0)) (plainly (unsigned-below {n = size} {m = 255} (omega arith))) in
     record { low = k .low; high = ≤ℤ-trans (k .high) (of-le (omega arith)) }
 
-pub value-in : (x : Signed) → Small x → In (negsuc 254) (pos 255) (valueOf x)
+pub value-in : (x : CodedNumber) → Small x → In (negsuc 254) (pos 255) (valueOf x)
 value-in x h = negative-in (x .sign) (x .size) h
 
 -- ---- each of the numbers before the coefficient probabilities is small, since each that is stored is
 infixr 5 _▹_
-data Smalls : List (ℕ × Signed) → Type 0 where
+data Smalls : List (ℕ × CodedNumber) → Type 0 where
   nil : Smalls []
-  _▹_ : {e : ℕ × Signed} {es : List (ℕ × Signed)} → Small (e .1) → Smalls es → Smalls (e ∷ es)
+  _▹_ : {e : ℕ × CodedNumber} {es : List (ℕ × CodedNumber)} → Small (e .1) → Smalls es → Smalls (e ∷ es)
 
-record AllSmall (l : List Signed) : Type 0 where
+record AllSmall (l : List CodedNumber) : Type 0 where
   at : (i : ℕ) → Small (getD l i noValue)
 
-stored-small : {es : List (ℕ × Signed)} (l : List Signed) → Smalls es → AllSmall l → AllSmall (storedEntries es l)
+stored-small : {es : List (ℕ × CodedNumber)} (l : List CodedNumber) → Smalls es → AllSmall l → AllSmall (storedEntries es l)
 stored-small l nil y = y
 stored-small l (_▹_ {e} p q) y = stored-small (set l (e .0) (e .1)) q (record { at = set-keeps Small l (e .0) (e .1) noValue p (y .at) })
 
-four-small : (i : ℕ) {f : Four} (l : List Signed) → FineFour f → AllSmall l → AllSmall (storedEntries (fourFrom i f) l)
+four-small : (i : ℕ) {f : Four} (l : List CodedNumber) → FineFour f → AllSmall l → AllSmall (storedEntries (fourFrom i f) l)
 four-small i l f y = stored-small l (f .a ▹ f .b ▹ f .c ▹ f .d ▹ nil) y
 
-three-small : (i : ℕ) {t : Three} (l : List Signed) → FineThree t → AllSmall l → AllSmall (storedEntries (threeFrom i t) l)
+three-small : (i : ℕ) {t : Three} (l : List CodedNumber) → FineThree t → AllSmall l → AllSmall (storedEntries (threeFrom i t) l)
 three-small i l t y = stored-small l (t .a ▹ t .b ▹ t .c ▹ nil) y
 
-segments-small : (g : Segments) (l : List Signed) → FineSegments g → AllSmall l → AllSmall (withSegments g l)
+segments-small : (g : Segments) (l : List CodedNumber) → FineSegments g → AllSmall l → AllSmall (withSegments g l)
 unfolding withSegments
 segments-small g l f y =
     three-small 14 _ (f .probs)
@@ -71,11 +71,11 @@ segments-small g l f y =
     (four-small 6 _ (f .features .quantizers)
     (stored-small l (f .on ▹ f .map ▹ f .features .absolute ▹ nil) y)))
 
-filter-small : (g : Filter) (l : List Signed) → FineFilter g → AllSmall l → AllSmall (withFilter g l)
+filter-small : (g : Filter) (l : List CodedNumber) → FineFilter g → AllSmall l → AllSmall (withFilter g l)
 unfolding withFilter
 filter-small g l f y = stored-small l (f .level ▹ f .sharpness ▹ f .on ▹ f .deltas .intra ▹ f .deltas .small ▹ nil) y
 
-quantizers-small : (g : Quantizers) (l : List Signed) → FineQuantizers g → AllSmall l → AllSmall (withQuantizers g l)
+quantizers-small : (g : QuantIndices) (l : List CodedNumber) → FineQuantIndices g → AllSmall l → AllSmall (withQuantizers g l)
 unfolding withQuantizers
 quantizers-small g l f y = stored-small l (f .base ▹ f .ydc ▹ f .y2dc ▹ f .y2ac ▹ f .uvdc ▹ f .uvac ▹ nil) y
 
@@ -101,7 +101,7 @@ number-small h f i =
     (lt-or i 38)
 
 -- what the code stores at i
-pub value-stored : (h : Header) → FineTaken h → (i : ℕ) {first : List Signed} {n : Signed} {r : ℤ} → first ≡ numbers h → n ≡ numberAt first (h .probs) (h .skip) (h .chance) i → r ≡ valueOf n → round w32 r ≡ valueOf (numberAt (numbers h) (h .probs) (h .skip) (h .chance) i)
+pub value-stored : (h : Header) → FineTaken h → (i : ℕ) {first : List CodedNumber} {n : CodedNumber} {r : ℤ} → first ≡ numbers h → n ≡ numberAt first (h .probs) (h .skip) (h .chance) i → r ≡ valueOf n → round w32 r ≡ valueOf (numberAt (numbers h) (h .probs) (h .skip) (h .chance) i)
 value-stored h f i e g k =
     answered w32 (k ∙ ap valueOf (g ∙ ap (λ l. numberAt l (h .probs) (h .skip) (h .chance) i) e)) (value-in (numberAt (numbers h) (h .probs) (h .skip) (h .chance) i) (number-small h f i)) tt .eq
 

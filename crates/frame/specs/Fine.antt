@@ -2,18 +2,18 @@
 -- token partitions.
 use Prim.Native.Nat.{ℕ, _<_}
 use Rattle.reader.specs.BooleanLaws.{Bytes}
-use Rattle.frame.specs.declared.fields.Signed.{Signed}
+use Rattle.frame.specs.declared.fields.CodedNumber.{CodedNumber}
 use Rattle.frame.specs.declared.fields.Four.{Four}
 use Rattle.frame.specs.declared.fields.Three.{Three}
 use Rattle.frame.specs.declared.fields.Features.{Features}
 use Rattle.frame.specs.declared.fields.Segments.{Segments}
 use Rattle.frame.specs.declared.fields.Deltas.{Deltas}
 use Rattle.frame.specs.declared.fields.Filter.{Filter}
-use Rattle.frame.specs.declared.fields.Quantizers.{Quantizers}
+use Rattle.frame.specs.declared.fields.QuantIndices.{QuantIndices}
 use Rattle.frame.specs.declared.fields.Header.{Header}
 
 -- a magnitude that is a byte
-abbrev pub Small : Signed → Type 0
+abbrev pub Small : CodedNumber → Type 0
 Small x = x .size < 256
 
 -- four of them
@@ -55,7 +55,7 @@ pub record FineFilter (f : Filter) : Type 0 where
   pub deltas : FineDeltas (f .deltas)
 
 -- the quantizers' fields
-pub record FineQuantizers (q : Quantizers) : Type 0 where
+pub record FineQuantIndices (q : QuantIndices) : Type 0 where
   pub base : q .base < 256
   pub ydc : Small (q .ydc)
   pub y2dc : Small (q .y2dc)
@@ -68,7 +68,7 @@ pub record FineTaken (h : Header) : Type 0 where
   pub segments : FineSegments (h .segments)
   pub filter : FineFilter (h .filter)
   pub partitions : h .partitions < 4
-  pub quantizers : FineQuantizers (h .quantizers)
+  pub quantizers : FineQuantIndices (h .quantizers)
   pub probs : Bytes (h .probs)
   pub skip : h .skip < 256
   pub chance : h .chance < 256

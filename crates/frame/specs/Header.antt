@@ -7,14 +7,14 @@ use lib.ListN.{getD, set, replicate}
 use Rattle.header.specs.Entries.{probabilityCount}
 use Rattle.reader.specs.Reading.{Reading, done, _>>=_, symbol}
 use Rattle.reader.specs.Extra.{extra}
-use Rattle.frame.specs.declared.fields.Signed.{Signed}
+use Rattle.frame.specs.declared.fields.CodedNumber.{CodedNumber}
 use Rattle.frame.specs.declared.fields.Four.{Four}
 use Rattle.frame.specs.declared.fields.Three.{Three}
 use Rattle.frame.specs.declared.fields.Features.{Features}
 use Rattle.frame.specs.declared.fields.Segments.{Segments}
 use Rattle.frame.specs.declared.fields.Deltas.{Deltas}
 use Rattle.frame.specs.declared.fields.Filter.{Filter}
-use Rattle.frame.specs.declared.fields.Quantizers.{Quantizers}
+use Rattle.frame.specs.declared.fields.QuantIndices.{QuantIndices}
 use Rattle.frame.specs.declared.fields.Header.{Header}
 use Rattle.frame.specs.Tables.{defaultProbs, updateProbs}
 
@@ -28,11 +28,11 @@ when zero a m = done a
 when (suc n) a m = m
 
 -- a number with its sign: a flag whether it is given, its n bits, its sign; zero where it is not given
-abbrev pub noValue : Signed
+abbrev pub noValue : CodedNumber
 noValue = record { sign = 0; size = 0 }
 
 -- the flag, then the magnitude of n bits, then the sign
-unfoldable pub signed : ℕ → Reading Signed
+unfoldable pub signed : ℕ → Reading CodedNumber
 signed n = do
   given ← literal 1  -- .._update, .._flag, .._present
   when given noValue (do
@@ -40,7 +40,7 @@ signed n = do
     sign ← literal 1  -- .._sign
     done (record { sign = sign; size = size }))
 
--- four of them, one for each segment
+-- four, one for each segment
 unfoldable pub fourSigned : ℕ → Reading Four
 fourSigned n = do
   a ← signed n
@@ -132,7 +132,7 @@ filter = do
   done (record { kind = kind; level = level; sharpness = sharpness; on = on; deltas = deltas })
 
 -- ---- quant_indices() (section 19.2, 7119-7146; 9.6, 2046-2088)
-unfoldable pub quantizers : Reading Quantizers
+unfoldable pub quantizers : Reading QuantIndices
 quantizers = do
   base ← literal 7  -- y_ac_qi
   ydc ← signed 4  -- y_dc_delta

@@ -18,7 +18,7 @@ use Rattle.reader.specs.ReadsLaws.{reads-done}
 use Rattle.reader.specs.Reading.{Reading, done, ask, symbol, Within, ends, asks}
 use Rattle.reader.specs.ReadingLaws.{within-bind, within-more, within-weaken, within-symbol}
 use Rattle.reader.specs.ExtraLaws.{extra-within}
-use Rattle.frame.specs.Fine.{Small, FineFour, FineThree, FineFeatures, FineSegments, FineDeltas, FineFilter, FineQuantizers, FineTaken}
+use Rattle.frame.specs.Fine.{Small, FineFour, FineThree, FineFeatures, FineSegments, FineDeltas, FineFilter, FineQuantIndices, FineTaken}
 use Rattle.frame.specs.Tables.{defaultProbs, updateProbs}
 use Rattle.frame.specs.Header.{literal, when, noValue, signed, fourSigned, noFour, noFeatures, features, mapProb, noProbs, mapProbs, noSegments, update, segments, noDeltas, deltas, deltasUpdate, filter, quantizers, chosen, prob, probsFrom, probs, header}
 
@@ -132,7 +132,7 @@ filter-within =
     within-bind {k = 0} (when-within o noDeltas no-deltas deltas-update-within) (λ d e. ends (record { level = p; sharpness = q; on = r; deltas = e }))))))
 
 -- ---- quantizers
-quantizers-within : Within FineQuantizers 37 quantizers
+quantizers-within : Within FineQuantIndices 37 quantizers
 unfolding quantizers
 quantizers-within =
     within-bind {k = 30} (byte-within 7 (lit≤ tt)) (λ b p.

@@ -16,7 +16,7 @@ use Rattle.numbers.specs.Tables.{all-below}
 use Rattle.reader.specs.declared.boolean.Reader.{Reader}
 use Rattle.reader.specs.Boolean.{Given, given, missing, firstReader}
 use Rattle.reader.specs.BooleanLaws.{Bytes, first-valid}
-use Rattle.reader.specs.ReadingLaws.{Ended, run-valid}
+use Rattle.reader.specs.ReadingLaws.{ReadTo, run-valid}
 use Rattle.tile.specs.Partitions.{noSpan, spanAt, contentsOf}
 use Rattle.tile.specs.PartitionsLaws.{part-bytes, span-at}
 use Rattle.tile.specs.Checks.{Side, Counted, Inside}
@@ -110,7 +110,7 @@ unfolding wholeOf givenHeader
 whole-passes b y h r e l g i =
     let s : List ℕ = contentsOf b (firstOf b) in
     let z : Bytes s = part-bytes b (firstOf b) y in
-    let d : Ended FineTaken s (firstReader s) h r = run-valid header-within z (first-valid s z) g in
+    let d : ReadTo FineTaken s (firstReader s) h r = run-valid header-within z (first-valid s z) g in
     let n : ℕ = partitionCount (h .partitions) in
     let c : Counted n = counted (h .partitions) (d .value .partitions) in
     record {

@@ -25,11 +25,11 @@ module _ (b : List ℕ) (table count : ℕ) where
   partitionStart zero = table + 3 * (count - 1)
   partitionStart (suc i) = partitionStart i + partitionSize i
 
-  -- how long partition i is that starts at `at`: the last goes up to the end
+  -- the length of partition i if it starts at `at`: the last one goes to the end
   unfoldable pub lengthOf : ℕ → ℕ → ℕ
   lengthOf i at = elim (ltb (i + 1) count) [ true ↦ threeAt b (table + 3 * i) | false ↦ length b - at ]
 
-  -- partition i, were its start at `at`; past the count there is none
+  -- partition i if it starts at `at`; past the count there is none
   unfoldable pub partitionSpan : ℕ → ℕ → Span
   partitionSpan i at = elim (ltb i count) [ true ↦ record { start = at; len = lengthOf i at } | false ↦ noSpan ]
 
@@ -37,7 +37,7 @@ module _ (b : List ℕ) (table count : ℕ) where
   unfoldable pub tokenSpans : List Span
   tokenSpans = build 8 (λ i. partitionSpan i (partitionStart i))
 
-  -- what the second 13 refuses: the sizes past the end, or a token partition
+  -- what the second 13 refuses: sizes, or a token partition, past the end
   unfoldable pub tokensInside : Bool
   tokensInside =
       leb (table + 3 * (count - 1)) (length b)

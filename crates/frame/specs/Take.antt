@@ -77,7 +77,7 @@ abbrev pub codedOf : List ℕ → Given Header → Taken
 codedOf b (given h r) = partitionsPlaced b h r
 codedOf b missing = nothingTaken 14
 
--- what the coded header is, read from the first partition
+-- the coded header, read from the first partition
 unfoldable pub givenHeader : List ℕ → Given Header
 givenHeader b = run header (contentsOf b (firstOf b)) (firstReader (contentsOf b (firstOf b)))
 

@@ -1,10 +1,10 @@
 // The 1096 entries that the picture call takes, made from the fields, each stored by its name.
+use crate::fields::CodedNumber;
 use crate::fields::Filter;
 use crate::fields::Four;
 use crate::fields::Header;
-use crate::fields::Quantizers;
+use crate::fields::QuantIndices;
 use crate::fields::Segments;
-use crate::fields::Signed;
 use crate::fields::Three;
 use header::entries;
 use header::entries::PROBABILITY_COUNT;
@@ -15,7 +15,7 @@ ghost use Rattle.frame.specs.Entries.{valueOf, storedEntries, fourFrom, 
 ghost use Rattle.frame.specs.Entries.{numbers, numberAt, entries};
 
 // A coded number as a number.
-fn value(x: Signed) -> i32
+fn value(x: CodedNumber) -> i32
     requires { ⌜ x .size < 256 ⌝ }
     ensures { λ r. ⌜ r ≡ valueOf x ⌝ }
 {
@@ -27,7 +27,7 @@ fn value(x: Signed) -> i32
 }
 
 // Four numbers, and three, from entry i on.
-fn four_from(l: [Signed; 38], i: usize, f: Four) -> [Signed; 38]
+fn four_from(l: [CodedNumber; 38], i: usize, f: Four) -> [CodedNumber; 38]
     requires { ⌜ i < 35 ⌝ }
     ensures { λ r. ⌜ r ≡ storedEntries (fourFrom i f) l ⌝ }
 {
@@ -43,31 +43,31 @@ fn four_from(l: [Signed; 38], i: usize, f: Four) -> [Signed; 38]
     out
 }
 
-fn three_from(l: [Signed; 38], i: usize, t: Three) -> [Signed; 38]
+fn three_from(l: [CodedNumber; 38], i: usize, t: Three) -> [CodedNumber; 38]
     requires { ⌜ i < 36 ⌝ }
     ensures { λ r. ⌜ r ≡ storedEntries (threeFrom i t) l ⌝ }
 {
     let mut out = l;
-    out[i] = Signed { sign: 0, size: t.a };
-    out[i + 1] = Signed { sign: 0, size: t.b };
-    out[i + 2] = Signed { sign: 0, size: t.c };
+    out[i] = CodedNumber { sign: 0, size: t.a };
+    out[i + 1] = CodedNumber { sign: 0, size: t.b };
+    out[i + 2] = CodedNumber { sign: 0, size: t.c };
     out
 }
 
-fn with_segments(g: Segments, l: [Signed; 38]) -> [Signed; 38]
+fn with_segments(g: Segments, l: [CodedNumber; 38]) -> [CodedNumber; 38]
     ensures { λ r. ⌜ r ≡ withSegments g l ⌝ }
 {
     let features = g.features;
     let mut out = l;
-    out[entries::SEGMENTS_ON] = Signed {
+    out[entries::SEGMENTS_ON] = CodedNumber {
         sign: 0,
         size: g.on,
     };
-    out[entries::MAP_ON] = Signed {
+    out[entries::MAP_ON] = CodedNumber {
         sign: 0,
         size: g.map,
     };
-    out[entries::SEGMENTS_ABSOLUTE] = Signed {
+    out[entries::SEGMENTS_ABSOLUTE] = CodedNumber {
         sign: 0,
         size: features.absolute,
     };
@@ -76,22 +76,22 @@ fn with_segments(g: Segments, l: [Signed; 38]) -> [Signed; 38]
     three_from(leveled, entries::MAP_PROBABILITY, g.probs)
 }
 
-fn with_filter(f: Filter, l: [Signed; 38]) -> [Signed; 38]
+fn with_filter(f: Filter, l: [CodedNumber; 38]) -> [CodedNumber; 38]
     ensures { λ r. ⌜ r ≡ withFilter f l ⌝ }
 {
     let deltas = f.deltas;
     let intra = deltas.intra;
     let small = deltas.small;
     let mut out = l;
-    out[entries::FRAME_LEVEL] = Signed {
+    out[entries::FRAME_LEVEL] = CodedNumber {
         sign: 0,
         size: f.level,
     };
-    out[entries::SHARPNESS] = Signed {
+    out[entries::SHARPNESS] = CodedNumber {
         sign: 0,
         size: f.sharpness,
     };
-    out[entries::DELTAS_ON] = Signed {
+    out[entries::DELTAS_ON] = CodedNumber {
         sign: 0,
         size: f.on,
     };
@@ -100,7 +100,7 @@ fn with_filter(f: Filter, l: [Signed; 38]) -> [Signed; 38]
     out
 }
 
-fn with_quantizers(q: Quantizers, l: [Signed; 38]) -> [Signed; 38]
+fn with_quantizers(q: QuantIndices, l: [CodedNumber; 38]) -> [CodedNumber; 38]
     ensures { λ r. ⌜ r ≡ withQuantizers q l ⌝ }
 {
     let ydc = q.ydc;
@@ -109,7 +109,7 @@ fn with_quantizers(q: Quantizers, l: [Signed; 38]) -> [Signed; 38]
     let uvdc = q.uvdc;
     let uvac = q.uvac;
     let mut out = l;
-    out[entries::BASE_INDEX] = Signed {
+    out[entries::BASE_INDEX] = CodedNumber {
         sign: 0,
         size: q.base,
     };
@@ -122,10 +122,10 @@ fn with_quantizers(q: Quantizers, l: [Signed; 38]) -> [Signed; 38]
 }
 
 // The entries before the coefficient probabilities.
-fn numbers(h: Header) -> [Signed; 38]
+fn numbers(h: Header) -> [CodedNumber; 38]
     ensures { λ r. ⌜ r ≡ numbers h ⌝ }
 {
-    let none = [Signed { sign: 0, size: 0 }; 38];
+    let none = [CodedNumber { sign: 0, size: 0 }; 38];
     with_quantizers(
         h.quantizers,
         with_filter(h.filter, with_segments(h.segments, none)),
@@ -134,12 +134,12 @@ fn numbers(h: Header) -> [Signed; 38]
 
 // What stands at entry i: the numbers, then the coefficient probabilities, then the skip flag and its probability.
 fn number_at(
-    first: [Signed; 38],
+    first: [CodedNumber; 38],
     probs: &[u32; PROBABILITY_COUNT],
     skip: u32,
     chance: u32,
     i: usize,
-) -> Signed
+) -> CodedNumber
     requires { ⌜ i < 1096 ⌝ }
     ensures { λ r. ⌜ r ≡ numberAt first (now (probs .entry)) skip chance i ⌝ }
 {
@@ -147,18 +147,18 @@ fn number_at(
         return first[i];
     }
     if i < entries::SKIPS_ON {
-        return Signed {
+        return CodedNumber {
             sign: 0,
             size: probs[i - entries::COEFFICIENT_PROBABILITY],
         };
     }
     if i < entries::SKIP_PROBABILITY {
-        return Signed {
+        return CodedNumber {
             sign: 0,
             size: skip,
         };
     }
-    Signed {
+    CodedNumber {
         sign: 0,
         size: chance,
     }

@@ -1,9 +1,9 @@
 // filter_type, loop_filter_level, sharpness_level and mb_lf_adjustments() (RFC 6386, sections 9.4 and 19.2).
+use crate::fields::CodedNumber;
 use crate::fields::Deltas;
 use crate::fields::Filter;
 use crate::fields::GotDeltas;
 use crate::fields::GotFilter;
-use crate::fields::Signed;
 use crate::literal::four;
 use crate::literal::literal;
 use reader::boolean::Reader;
@@ -14,7 +14,7 @@ ghost use Rattle.reader.specs.Reads.{Reads};
 fn no_deltas() -> Deltas
     ensures { λ q. ⌜ q ≡ noDeltas ⌝ }
 {
-    let none = Signed { sign: 0, size: 0 };
+    let none = CodedNumber { sign: 0, size: 0 };
     Deltas {
         intra: none,
         small: none,

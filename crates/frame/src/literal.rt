@@ -1,9 +1,9 @@
 // Literals (RFC 6386, section 8): L(n), and a number with its sign where a flag says that it is given.
+use crate::fields::CodedNumber;
 use crate::fields::Four;
 use crate::fields::GotFour;
 use crate::fields::GotNumber;
 use crate::fields::GotSigned;
-use crate::fields::Signed;
 use reader::boolean::Reader;
 use reader::extra::Number;
 use reader::extra::extra_bits;
@@ -31,7 +31,9 @@ pub(crate) fn literal(s: &[u8], r: Reader, n: usize) -> GotNumber
     ensures { λ q. ⌜ Reads (literal n) (now (s .entry)) r (q .value) (q .next) ⌝ }
 {
     let halves = [128u8; 8];
-    let Number::Value(value, next) = extra_bits(s, r, &halves[..n]) else {
+    let bits = extra_bits(s, r, &halves[..n]);
+    let answer = bits.answer;
+    let Number::Value(value, next) = answer else {
         return GotNumber {
             value: 0,
             next: nowhere(),
@@ -52,7 +54,7 @@ pub(crate) fn signed(s: &[u8], r: Reader, n: usize) -> GotSigned
     let r1 = given.next;
     if given.value == 0 {
         return GotSigned {
-            value: Signed { sign: 0, size: 0 },
+            value: CodedNumber { sign: 0, size: 0 },
             next: r1,
         };
     }
@@ -61,7 +63,7 @@ pub(crate) fn signed(s: &[u8], r: Reader, n: usize) -> GotSigned
     let sign = literal(s, r2, 1);
     let r3 = sign.next;
     GotSigned {
-        value: Signed {
+        value: CodedNumber {
             sign: sign.value,
             size: size.value,
         },

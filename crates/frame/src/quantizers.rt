@@ -1,6 +1,6 @@
 // quant_indices() (RFC 6386, sections 9.6 and 19.2).
 use crate::fields::GotQuantizers;
-use crate::fields::Quantizers;
+use crate::fields::QuantIndices;
 use crate::literal::literal;
 use crate::literal::signed;
 use reader::boolean::Reader;
@@ -23,7 +23,7 @@ pub(crate) fn quantizers(s: &[u8], r: Reader) -> GotQuantizers
     let e = qe.value;
     let next = qe.next;
     GotQuantizers {
-        value: Quantizers {
+        value: QuantIndices {
             base: base.value,
             ydc: a,
             y2dc: b,

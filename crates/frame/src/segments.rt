@@ -1,4 +1,5 @@
 // update_segmentation() (RFC 6386, sections 9.3 and 19.2).
+use crate::fields::CodedNumber;
 use crate::fields::Features;
 use crate::fields::Four;
 use crate::fields::GotFeatures;
@@ -6,7 +7,6 @@ use crate::fields::GotNumber;
 use crate::fields::GotSegments;
 use crate::fields::GotThree;
 use crate::fields::Segments;
-use crate::fields::Signed;
 use crate::fields::Three;
 use crate::literal::four;
 use crate::literal::literal;
@@ -69,7 +69,7 @@ fn map_probs(s: &[u8], r: Reader) -> GotThree
 fn no_features() -> Features
     ensures { λ q. ⌜ q ≡ noFeatures ⌝ }
 {
-    let none = Signed { sign: 0, size: 0 };
+    let none = CodedNumber { sign: 0, size: 0 };
     let four = Four {
         a: none,
         b: none,

@@ -23,7 +23,8 @@ ghost use Rattle.frame.specs.Header.{header};
 ghost use Rattle.frame.specs.Fine.{FineTaken};
 ghost use Rattle.frame.specs.Take.{refusedAnswer, nothingTaken, partitionsPlaced, codedOf, takenOf};
 
-pub struct Size {
+// A picture's true width and height, in pixels.
+pub struct ShownSize {
     pub width: usize,
     pub height: usize,
 }
@@ -33,7 +34,7 @@ pub struct Size {
 pub struct Answer {
     pub number: u32,
     pub tile: Tile,
-    pub shown: Size,
+    pub shown: ShownSize,
     pub simple: bool,
 }
 
@@ -56,7 +57,7 @@ pub fn refused(number: u32) -> Answer
             width: 0,
             height: 0,
         },
-        shown: Size {
+        shown: ShownSize {
             width: 0,
             height: 0,
         },
@@ -102,7 +103,7 @@ fn placed(b: &[u8], h: Header, reader: Reader) -> Taken
                 width: rounded(across),
                 height: rounded(down),
             },
-            shown: Size {
+            shown: ShownSize {
                 width: across,
                 height: down,
             },

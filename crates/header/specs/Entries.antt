@@ -11,7 +11,7 @@ segmentsOn = 2
 abbrev pub mapOn : ℕ
 mapOn = 3
 
--- 5: what a segment has of its own is absolute, and not added to the frame's
+-- 5: a segment's own values are absolute, not added to the frame's
 abbrev pub segmentsAbsolute : ℕ
 segmentsAbsolute = 5
 
@@ -78,7 +78,7 @@ uvacDelta = 36
 abbrev pub coefficientProbability : ℕ
 coefficientProbability = 38
 
--- so many of them, 4 kinds * 8 bands * 3 contexts * 11 nodes
+-- the number of those: 4 kinds * 8 bands * 3 contexts * 11 nodes
 abbrev pub probabilityCount : ℕ
 probabilityCount = 1056
 
@@ -90,6 +90,6 @@ skipsOn = 1094
 abbrev pub skipProbability : ℕ
 skipProbability = 1095
 
--- and there are no more
+-- the number of entries
 abbrev pub entryCount : ℕ
 entryCount = 1096

@@ -53,11 +53,11 @@ noFrame = record {
   announced = noAnnounced;
 }
 
--- what a macroblock takes of it, by its segment
+-- the factors of a macroblock, by its segment
 abbrev pub factorsAt : Frame → ℕ → Factors
 factorsAt f segment = getD (f .factors) segment noFactors
 
--- the level of a macroblock by its segment, and whether its modes are small
+-- the level of a macroblock, by its segment and whether its modes are small
 abbrev pub levelAt : Frame → Bool → ℕ → ℕ
 levelAt f true segment = getD (f .small) segment 0
 levelAt f false segment = getD (f .large) segment 0

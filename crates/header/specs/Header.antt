@@ -18,12 +18,12 @@ presentOf (pos zero) = false
 presentOf (pos (suc n)) = true
 presentOf (negsuc n) = true
 
--- the probability that an entry stands for, the entry modulo 256: -1 is 255, -256 is 0
+-- an entry as a probability, modulo 256: -1 is 255, -256 is 0
 abbrev pub probabilityOf : ℤ → ℕ
 probabilityOf (pos n) = n % 256
 probabilityOf (negsuc n) = 255 - n % 256
 
--- the same of the header's entry i
+-- whether what entry i announces is there
 abbrev pub presentAt : List ℤ → ℕ → Bool
 presentAt h i = presentOf (entry h i)
 
@@ -35,12 +35,12 @@ probabilityAt h i = probabilityOf (entry h i)
 abbrev pub outside : ℤ → Bool
 outside x = ltZ x (negsuc 254) || ltZ (pos 255) x
 
--- none of the first i is
+-- none of the first i entries is outside
 unfoldable pub fineTo : List ℤ → ℕ → Bool
 fineTo h zero = true
 fineTo h (suc i) = fineTo h i && not (outside (entry h i))
 
--- none is
+-- no entry is outside
 unfoldable pub entriesOf : List ℤ → Bool
 entriesOf h = fineTo h (length h)
 

@@ -12,7 +12,7 @@ use Rattle.header.specs.declared.levels.Level.{Level}
 use Rattle.header.specs.declared.levels.Level.the-variants as L
 use Rattle.header.specs.Own.{segmentedOf}
 
--- where deltas are on: that of intra frames, and that of small modes
+-- the deltas that count: that of intra frames, and where modes are small theirs too
 abbrev pub levelDeltas : List ℤ → Bool → ℤ
 levelDeltas h true = entry h intraDelta +ℤ entry h smallDelta
 levelDeltas h false = entry h intraDelta

@@ -26,7 +26,7 @@ dcSteps =
     ∷ 91 ∷ 93 ∷ 95 ∷ 96 ∷ 98 ∷ 100 ∷ 101 ∷ 102 ∷ 104 ∷ 106 ∷ 108 ∷ 110 ∷ 112 ∷ 114 ∷ 116 ∷ 118
     ∷ 122 ∷ 124 ∷ 126 ∷ 128 ∷ 130 ∷ 132 ∷ 134 ∷ 136 ∷ 138 ∷ 140 ∷ 143 ∷ 145 ∷ 148 ∷ 151 ∷ 154 ∷ 157 ∷ []
 
--- the same of every other coefficient
+-- the steps of all other coefficients
 unfoldable pub acSteps : List ℕ
 acSteps =
     4 ∷ 5 ∷ 6 ∷ 7 ∷ 8 ∷ 9 ∷ 10 ∷ 11 ∷ 12 ∷ 13 ∷ 14 ∷ 15 ∷ 16 ∷ 17 ∷ 18 ∷ 19
@@ -38,11 +38,11 @@ acSteps =
     ∷ 155 ∷ 158 ∷ 161 ∷ 164 ∷ 167 ∷ 170 ∷ 173 ∷ 177 ∷ 181 ∷ 185 ∷ 189 ∷ 193 ∷ 197 ∷ 201 ∷ 205 ∷ 209
     ∷ 213 ∷ 217 ∷ 221 ∷ 225 ∷ 229 ∷ 234 ∷ 239 ∷ 245 ∷ 249 ∷ 254 ∷ 259 ∷ 264 ∷ 269 ∷ 274 ∷ 279 ∷ 284 ∷ []
 
--- the step of a first coefficient at an index
+-- the step of a block's first coefficient, by index
 abbrev pub dcAt : ℕ → ℕ
 dcAt i = getD dcSteps i 0
 
--- that of the others
+-- the step of the others
 abbrev pub acAt : ℕ → ℕ
 acAt i = getD acSteps i 0
 
@@ -55,7 +55,7 @@ indexOf h segment = upTo 127 (segmentedOf h baseIndex (segmentIndex + segment))
 abbrev pub indexWith : ℕ → ℤ → ℕ
 indexWith index delta = upTo 127 (pos index +ℤ delta)
 
--- 155 over 100 of a step, at least 8 (source 20.4, 8057-8061)
+-- a step times 155 / 100, at least 8 (source 20.4, 8057-8061)
 abbrev pub secondAc : ℕ → ℕ
 secondAc step = max (step * 155 / 100) 8
 

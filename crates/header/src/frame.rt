@@ -40,6 +40,7 @@ pub struct Frame {
     pub announced: Announced,
 }
 
+// Whether the header was taken, and the frame: zeros where it was refused.
 pub struct Framed {
     pub answer: Checked,
     pub frame: Frame,

@@ -17,6 +17,7 @@ ghost use Rattle.numbers.specs.Clamp.{upTo};
 ghost use Rattle.header.specs.Entries.{entryCount};
 ghost use Rattle.header.specs.Levels.{deltaOf, levelOf, levelAnswer};
 
+// The filter level, or an argument that is refused.
 pub enum Level {
     Of(u8),
     Refused,

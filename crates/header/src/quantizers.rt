@@ -28,6 +28,7 @@ pub struct Factors {
     pub uvac: u16,
 }
 
+// The six factors, or an argument that is refused.
 pub enum Quantizers {
     Ready(Factors),
     Refused,

@@ -1,9 +1,5 @@
 pub mod Calls
 pub mod CallsLaws
-pub mod ExplainCalls
-pub mod ExplainCallsLaws
-pub mod FrameCalls
-pub mod FrameCallsLaws
 pub mod ProfileCalls
 pub mod ProfileCallsLaws
 pub mod RecodeCalls
@@ -14,7 +10,3 @@ pub mod ShowCalls
 pub mod ShowCallsLaws
 pub mod SurveyCalls
 pub mod SurveyCallsLaws
-pub mod TileNumbers
-pub mod TileNumbersLaws
-pub mod WebpCalls
-pub mod WebpCallsLaws

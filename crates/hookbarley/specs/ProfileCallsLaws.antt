@@ -10,7 +10,7 @@ use Rattle.lent.specs.Memory.{Memory}
 use Rattle.picture.specs.Checks.{callOf}
 use Rattle.profile.specs.declared.Profiled.{Profiled}
 use Rattle.profile.specs.Profile.{profiled, profileOf, profileRuleOf, profileBlockOf, profileNumberOf}
-use Rattle.hookbarley.specs.TileNumbers.{tileOfNumbers}
+use Rattle.boundary.specs.TileNumbers.{tileOfNumbers}
 use Rattle.hookbarley.specs.Calls.{handedCall}
 use Rattle.hookbarley.specs.ProfileCalls.{profileNumbers, toProfileCalled, profileCalledOf}
 

@@ -8,7 +8,7 @@ use lib.ListN.{length, getD, replicate}
 use Rattle.lent.specs.Memory.{Memory}
 use Rattle.recode.specs.declared.Recoded.{Recoded}
 use Rattle.recode.specs.Recode.{RecodeEnded, recodeOf}
-use Rattle.hookbarley.specs.TileNumbers.{numbersOfTile, shownOfNumbers}
+use Rattle.boundary.specs.TileNumbers.{numbersOfTile, shownOfNumbers}
 use Rattle.hookbarley.specs.Calls.{handedCall}
 
 -- the tile that was written, with the true sizes and the filter kind of the tile that was read; after a refusal 28 zeros

@@ -10,8 +10,8 @@ use Rattle.lent.specs.Memory.{Memory}
 use Rattle.picture.specs.Checks.{callOf}
 use Rattle.recode.specs.declared.Recoded.{Recoded}
 use Rattle.recode.specs.Recode.{recodeEnded, recodeOf}
-use Rattle.hookbarley.specs.TileNumbers.{numbersOfTile, FieldsFit, tileOfNumbers, shownOfNumbers}
-use Rattle.hookbarley.specs.TileNumbersLaws.{tile-back}
+use Rattle.boundary.specs.TileNumbers.{numbersOfTile, putOf, FieldsFit, tileOfNumbers, shownOfNumbers}
+use Rattle.boundary.specs.TileNumbersLaws.{put-there, tile-back}
 use Rattle.hookbarley.specs.Calls.{handedCall}
 use Rattle.hookbarley.specs.RecodeCalls.{resultOf, recodeNumbers, toRecodeCalled, recodeCalledOf}
 
@@ -53,6 +53,6 @@ module _ (bytes : List ℕ) (header : List ℤ) (tile : List ℕ) (m : Memory) (
   -- as the code finds it, of the tile that it made of the numbers
   pub recode-called-found : length tile ≡ 28 → length result ≡ 28 → {t : Tile} → t ≡ tileOfNumbers tile
       → {r : Recoded} {q : Memory} {o : List ℕ} → recodeEnded r q o ≡ recodeOf (callOf bytes t header) m out
-      → {n l : List ℕ} → n ≡ resultOf tile r → l ≡ n → recodeNumbers (r .number) q o l ≡ recodeCalledOf bytes header tile m out result
+      → {n l : List ℕ} → n ≡ resultOf tile r → l ≡ putOf result n → recodeNumbers (r .number) q o l ≡ recodeCalledOf bytes header tile m out result
   recode-called-found e f t {r} {q} {o} h g k =
-      ap (recodeNumbers (r .number) q o) (k ∙ g) ∙ ap (toRecodeCalled tile) (h ∙ (λ i. recodeOf (callOf bytes (t i) header) m out)) ∙ sym (recode-called e f)
+      ap (recodeNumbers (r .number) q o) (k ∙ put-there result _ f ∙ g) ∙ ap (toRecodeCalled tile) (h ∙ (λ i. recodeOf (callOf bytes (t i) header) m out)) ∙ sym (recode-called e f)

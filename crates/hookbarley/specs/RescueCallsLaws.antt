@@ -10,7 +10,7 @@ use Rattle.lent.specs.Memory.{Memory}
 use Rattle.picture.specs.Checks.{callOf}
 use Rattle.rescue.specs.declared.Rescued.{Rescued}
 use Rattle.rescue.specs.Rescue.{rescueEnded, rescueOf, rescueNumberOf, savedCountOf}
-use Rattle.hookbarley.specs.TileNumbers.{tileOfNumbers}
+use Rattle.boundary.specs.TileNumbers.{tileOfNumbers}
 use Rattle.hookbarley.specs.Calls.{handedCall}
 use Rattle.hookbarley.specs.RescueCalls.{rescueNumbers, toRescueCalled, rescueCalledOf}
 

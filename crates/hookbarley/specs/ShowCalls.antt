@@ -1,6 +1,6 @@
 -- The call from a key frame's bytes to the screen as C sees it: a number, the macroblocks finished, the symbols read, the entries, the 28 numbers of
 -- a tile, the lent memory.
-use Prim.Native.Nat.{ℕ, zero, suc}
+use Prim.Native.Nat.{ℕ}
 use mathlib.Core.Bool.{true, false}
 use mathlib.Core.List.{List}
 use lib.Dec.{eqb}
@@ -8,9 +8,8 @@ use lib.IntN.{ℤ}
 use lib.ListN.{length}
 use Rattle.macroblock.specs.declared.arguments.SymbolCounts.{SymbolCounts}
 use Rattle.lent.specs.Memory.{Memory}
-use Rattle.frame.specs.declared.take.Answer.{Answer}
 use Rattle.key_frame.specs.KeyFrame.{KeyFramed, keyFrameOf}
-use Rattle.hookbarley.specs.FrameCalls.{numbersOf}
+use Rattle.boundary.specs.FrameCalls.{tileAfter}
 
 -- what `hookbarley_key_frame` leaves
 pub record ShowCalled : Type 0 where
@@ -25,10 +24,6 @@ pub record ShowCalled : Type 0 where
 abbrev pub shownNumbers : (number finished first tokens : ℕ) → List ℤ → List ℕ → Memory → ShowCalled
 shownNumbers number finished first tokens header tile mem =
     record { number = number; finished = finished; reads = record { first = first; tokens = tokens }; header = header; tile = tile; mem = mem }
-
--- a tile after the call: what was taken, or after a refusal what it was
-unfoldable pub tileAfter : (old : List ℕ) → Answer → List ℕ
-tileAfter old a = elim (a .number) [ zero ↦ numbersOf a | suc n ↦ old ]
 
 -- what is shown of a frame, as C sees it
 abbrev pub toShowCalled : List ℕ → KeyFramed → ShowCalled

@@ -1,29 +1,15 @@
 -- What the call from a key frame's bytes to the screen answers, as its code finds it.
-use Prim.Native.Nat.{ℕ, zero, suc}
-use mathlib.Core.Path.{_≡_, refl, sym, _∙_, ap}
+use Prim.Native.Nat.{ℕ}
+use mathlib.Core.Path.{_≡_, sym, _∙_, ap}
 use mathlib.Core.List.{List}
 use lib.IntN.{ℤ}
 use lib.ListN.{length}
 use borrow.Author.Tests.{eq-eqb, ne-eqb}
 use Rattle.lent.specs.Memory.{Memory}
-use Rattle.frame.specs.declared.take.Answer.{Answer}
 use Rattle.key_frame.specs.declared.Shown.{Shown}
 use Rattle.key_frame.specs.KeyFrame.{KeyFramed, keyFramed, keyFrameOf}
-use Rattle.hookbarley.specs.FrameCalls.{numbersOf}
-use Rattle.hookbarley.specs.ShowCalls.{ShowCalled, shownNumbers, tileAfter, toShowCalled, showCalledOf}
-
--- the tile after the call
-pub tile-taken : (old : List ℕ) (a : Answer) → a .number ≡ 0 → {l : List ℕ} → l ≡ numbersOf a → l ≡ tileAfter old a
-unfolding tileAfter
-tile-taken old a e f = f ∙ rw (e, tileAfter) refl
-
-pub tile-kept : (old : List ℕ) (a : Answer) → (a .number ≡ 0 → ⊥) → old ≡ tileAfter old a
-unfolding tileAfter
-tile-kept old a n = go (a .number) refl n
-  where
-    go : (k : ℕ) → a .number ≡ k → (k ≡ 0 → ⊥) → old ≡ tileAfter old a
-    go zero e n = absurd (n refl)
-    go (suc k) e n = rw (e, tileAfter) refl
+use Rattle.boundary.specs.FrameCalls.{tileAfter}
+use Rattle.hookbarley.specs.ShowCalls.{ShowCalled, shownNumbers, toShowCalled, showCalledOf}
 
 module _ (b : List ℕ) (header : List ℤ) (tile : List ℕ) (m : Memory) where
   pub show-refused : (length tile ≡ 28 → ⊥) → shownNumbers 9 0 0 0 header tile m ≡ showCalledOf b header tile m

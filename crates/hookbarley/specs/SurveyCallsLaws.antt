@@ -10,7 +10,7 @@ use Rattle.lent.specs.Memory.{Memory}
 use Rattle.picture.specs.Checks.{callOf}
 use Rattle.survey.specs.declared.Surveyed.{Surveyed}
 use Rattle.survey.specs.Survey.{surveyEnded, surveyOf}
-use Rattle.hookbarley.specs.TileNumbers.{tileOfNumbers}
+use Rattle.boundary.specs.TileNumbers.{tileOfNumbers}
 use Rattle.hookbarley.specs.Calls.{calledNumbers, handedCall}
 use Rattle.hookbarley.specs.SurveyCalls.{surveyNumbers, toSurveyCalled, surveyCalledOf}
 

@@ -1,19 +1,8 @@
 // The deblocking call.
-use deblock::Deblocked;
-use deblock::deblock;
+use boundary::deblocking::deblocked;
 ghost use mathlib.Core.Path.{_≡_};
-ghost use Rattle.deblock.specs.Deblock.{deblockNumberOf};
 ghost use Rattle.macroblock.specs.Macroblock.{planesOf};
-ghost use Rattle.hookbarley.specs.Calls.{DeblockCalled, deblockCalledOf};
-
-fn number_of(d: Deblocked) -> u32
-    ensures { λ r. ⌜ r ≡ deblockNumberOf d ⌝ }
-{
-    match d {
-        Deblocked::Done => 0,
-        Deblocked::Refused(n) => n,
-    }
-}
+ghost use Rattle.boundary.specs.FilterCalls.{DeblockCalled, deblockCalledOf};
 
 // Deblocks the planes in place by the strengths that the picture call left. `simple` is true where it is not 0.
 #[no_mangle]
@@ -31,5 +20,5 @@ pub extern "C" fn hookbarley_deblock(
         (deblockCalledOf (planesOf (now (y .entry)) (now (u .entry)) (now (v .entry)))
         (now (strengths .entry)) width height simple) ⌝ }
 {
-    number_of(deblock(y, u, v, strengths, width, height, simple != 0))
+    deblocked(y, u, v, strengths, width, height, simple)
 }

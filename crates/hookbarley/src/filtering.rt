@@ -1,9 +1,7 @@
 // The edge kernel's call.
-use crate::eight::eight_samples;
-use crate::eight::put_samples;
-use filter::filter;
+use boundary::filtering::filtered;
 ghost use mathlib.Core.Path.{_≡_};
-ghost use Rattle.hookbarley.specs.Calls.{Filtered, filteredOf};
+ghost use Rattle.boundary.specs.FilterCalls.{Filtered, filteredOf};
 
 // The edge kernel on eight samples across an edge, p3 to p0 and q0 to q3, in place; 9 where there are not eight. `simple` and
 // `edge` (a macroblock edge) are true where they are not 0.
@@ -19,11 +17,5 @@ pub extern "C" fn hookbarley_filter(
     ensures { λ r. ⌜ _≡_ {A = Filtered} (record { number = r; samples = now (samples .exit) })
         (filteredOf (now (samples .entry)) simple edge limit inner threshold) ⌝ }
 {
-    if samples.len() != 8 {
-        return 9;
-    }
-    let before = eight_samples(samples);
-    let after = filter(&before, simple != 0, edge != 0, limit, inner, threshold);
-    put_samples(samples, after);
-    0
+    filtered(samples, simple, edge, limit, inner, threshold)
 }

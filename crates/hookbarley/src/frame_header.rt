@@ -1,29 +1,7 @@
 // The call on a key frame's own header.
-use crate::tile_numbers::TILE_NUMBERS;
-use crate::tile_numbers::numbers;
-use crate::tile_numbers::put_numbers;
-use frame::into::take_into;
-use frame::take::Answer;
+use boundary::frame_header::frame_taken;
 ghost use mathlib.Core.Path.{_≡_};
-ghost use lib.ListN.{length};
-ghost use Rattle.numbers.specs.Flags.{bitOf};
-ghost use Rattle.hookbarley.specs.FrameCalls.{numbersOf, FrameCalled, frameCalledOf};
-
-fn flag(on: bool) -> usize
-    ensures { λ r. ⌜ r ≡ bitOf on ⌝ }
-{
-    if on { 1 } else { 0 }
-}
-
-// Stores what was taken of a frame as 28 numbers.
-pub(crate) fn put_taken(tile: &mut [usize], a: Answer)
-    requires { ⌜ length (now tile) ≡ 28 ⌝ }
-    ensures { λ _. ⌜ now (tile .exit) ≡ numbersOf a ⌝ }
-{
-    let taken = a.tile;
-    let shown = a.shown;
-    put_numbers(tile, numbers(taken, shown, flag(a.simple)));
-}
+ghost use Rattle.boundary.specs.FrameCalls.{FrameCalled, frameCalledOf};
 
 // Takes a key frame's own header: the entries into `header`, what else the picture call takes into `tile`, 28 numbers (else 9). After a
 // refusal those are zero, and the entries as they were.
@@ -32,10 +10,5 @@ pub extern "C" fn hookbarley_frame(bytes: &[u8], header: &mut [i32], tile: &mut 
     ensures { λ r. ⌜ _≡_ {A = FrameCalled} (record { number = r; header = now (header .exit); tile = now (tile .exit) })
         (frameCalledOf (now (bytes .entry)) (now (header .entry)) (now (tile .entry))) ⌝ }
 {
-    if tile.len() != TILE_NUMBERS {
-        return 9;
-    }
-    let a = take_into(bytes, header);
-    put_taken(&mut tile[..], a);
-    a.number
+    frame_taken(bytes, header, tile)
 }

@@ -1,8 +1,7 @@
 // What a program in C or Rust links, one file a call, on numbers and slices: a slice passes as a pointer and a length, a tile as 28 numbers
-// (tile_numbers). include/hookbarley.h says the same in C.
+// (boundary). include/hookbarley.h says the same in C.
 pub mod deblocking;
 pub mod decoding;
-pub mod eight;
 pub mod explaining;
 pub mod filtering;
 pub mod frame_header;
@@ -11,6 +10,5 @@ pub mod recoding;
 pub mod rescuing;
 pub mod showing;
 pub mod surveying;
-pub mod tile_numbers;
 pub mod webp_find;
 pub mod webp_wrap;

@@ -1,6 +1,6 @@
 // The cockpit profile.
-use crate::tile_numbers::TILE_NUMBERS;
-use crate::tile_numbers::tile_of;
+use boundary::tile_numbers::TILE_NUMBERS;
+use boundary::tile_numbers::tile_of;
 use profile::profile;
 ghost use mathlib.Core.Path.{_≡_};
 ghost use Rattle.lent.specs.Memory.{memoryOf};

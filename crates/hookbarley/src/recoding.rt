@@ -1,9 +1,9 @@
 // The recode call.
-use crate::tile_numbers::TILE_NUMBERS;
-use crate::tile_numbers::numbers;
-use crate::tile_numbers::put_numbers;
-use crate::tile_numbers::tile_of;
-use frame::take::Size;
+use boundary::tile_numbers::TILE_NUMBERS;
+use boundary::tile_numbers::numbers;
+use boundary::tile_numbers::put_numbers;
+use boundary::tile_numbers::tile_of;
+use frame::take::ShownSize;
 use recode::Recoded;
 use recode::recode;
 ghost use mathlib.Core.Path.{_≡_};
@@ -19,7 +19,7 @@ fn result_of(tile: &[usize], r: Recoded) -> [usize; 28]
     if r.number != 0 {
         return [0; 28];
     }
-    let shown = Size {
+    let shown = ShownSize {
         width: tile[2],
         height: tile[3],
     };

@@ -1,6 +1,6 @@
 // The rescue call.
-use crate::tile_numbers::TILE_NUMBERS;
-use crate::tile_numbers::tile_of;
+use boundary::tile_numbers::TILE_NUMBERS;
+use boundary::tile_numbers::tile_of;
 use rescue::rescue;
 ghost use mathlib.Core.Path.{_≡_};
 ghost use Rattle.lent.specs.Memory.{memoryOf};

@@ -1,22 +1,10 @@
 // The call from a key frame's bytes to the picture on the screen.
-use crate::frame_header::put_taken;
-use crate::tile_numbers::TILE_NUMBERS;
-use frame::take::Answer;
+use boundary::frame_header::put_shown;
+use boundary::tile_numbers::TILE_NUMBERS;
 use key_frame::key_frame;
 ghost use mathlib.Core.Path.{_≡_};
-ghost use lib.ListN.{length};
 ghost use Rattle.lent.specs.Memory.{memoryOf};
-ghost use Rattle.hookbarley.specs.ShowCalls.{shownNumbers, tileAfter, showCalledOf};
-
-// After a refusal the numbers stay.
-fn put_shown(tile: &mut [usize], a: Answer)
-    requires { ⌜ length (now tile) ≡ 28 ⌝ }
-    ensures { λ _. ⌜ now (tile .exit) ≡ tileAfter (now (tile .entry)) a ⌝ }
-{
-    if a.number == 0 {
-        put_taken(tile, a);
-    }
-}
+ghost use Rattle.hookbarley.specs.ShowCalls.{shownNumbers, showCalledOf};
 
 // Takes the frame's header, decodes its picture and runs its loop filter. The entries go into `header`, what else was taken into `tile`, 28
 // numbers (else 9). After a refusal nothing lent has changed.

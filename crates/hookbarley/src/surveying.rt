@@ -1,6 +1,6 @@
 // The survey calls.
-use crate::tile_numbers::TILE_NUMBERS;
-use crate::tile_numbers::tile_of;
+use boundary::tile_numbers::TILE_NUMBERS;
+use boundary::tile_numbers::tile_of;
 use survey::sums::add;
 use survey::survey;
 ghost use mathlib.Core.Path.{_≡_};

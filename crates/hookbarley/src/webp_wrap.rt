@@ -1,27 +1,7 @@
-// A simple lossy WebP file (RFC 9649) written around a key frame, for C.
-use webp::write::Wrapped;
-use webp::write::wrap;
+// A simple lossy WebP file (RFC 9649) written around a key frame.
+use boundary::webp_wrap::webp_wrapped;
 ghost use mathlib.Core.Path.{_≡_};
-ghost use Rattle.webp.specs.Webp.{wrappedNumberOf, wrappedLengthOf};
-ghost use Rattle.hookbarley.specs.WebpCalls.{WebpWrapped, webpWrappedOf};
-
-fn number_of(w: Wrapped) -> u32
-    ensures { λ r. ⌜ r ≡ wrappedNumberOf w ⌝ }
-{
-    match w {
-        Wrapped::Written(_) => 0,
-        Wrapped::Refused(n) => n,
-    }
-}
-
-fn length_of(w: Wrapped) -> usize
-    ensures { λ r. ⌜ r ≡ wrappedLengthOf w ⌝ }
-{
-    match w {
-        Wrapped::Written(n) => n,
-        Wrapped::Refused(_) => 0,
-    }
-}
+ghost use Rattle.boundary.specs.WebpCalls.{WebpWrapped, webpWrappedOf};
 
 // The file's length goes through `written`; it is 0 after a refusal, and then `out` is as it was.
 #[no_mangle]
@@ -29,7 +9,5 @@ pub extern "C" fn hookbarley_webp_wrap(frame: &[u8], out: &mut [u8], written: &m
     ensures { λ r. ⌜ _≡_ {A = WebpWrapped} (record { number = r; written = now (written .exit); out = now (out .exit) })
         (webpWrappedOf (now (frame .entry)) (now (out .entry))) ⌝ }
 {
-    let w = wrap(frame, out);
-    *written = length_of(w);
-    number_of(w)
+    webp_wrapped(frame, out, written)
 }

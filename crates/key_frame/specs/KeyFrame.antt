@@ -19,7 +19,7 @@ use Rattle.frame.specs.declared.take.Taken.{Taken}
 use Rattle.frame.specs.Take.{refusedAnswer, takenOf, intoOf}
 use Rattle.key_frame.specs.declared.Shown.{Shown}
 
--- what the picture call is given of a frame: its bytes, and the tile and the entries that its header gives
+-- what the picture call is given of a frame: its bytes, tile and entries
 abbrev pub frameCall : List ℕ → Call
 frameCall b = callOf b (takenOf b .answer .tile) (takenOf b .header)
 
@@ -36,7 +36,7 @@ framePlanes header a strengths d =
 abbrev pub withPlanes : Memory → Planes → Memory
 withPlanes m d = memoryOf (d .y) (d .u) (d .v) (m .columns) (m .modes) (m .strengths)
 
--- memory as the loop filter of a frame leaves it: the planes alone change
+-- memory after a frame's loop filter: only planes change
 abbrev pub frameFiltered : List ℤ → Answer → Memory → Memory
 frameFiltered header a m = withPlanes m (framePlanes header a (m .strengths) (planesIn m))
 

@@ -14,7 +14,7 @@ use Rattle.macroblock.specs.Macroblock.{Planes}
 use Rattle.picture.specs.Checks.{callOf, refusalOf}
 use Rattle.picture.specs.Picture.{Ended, pictureOf, planesIn, numberOf, valuesOf}
 use Rattle.picture.specs.Counts.{costOf}
-use Rattle.deblock.specs.Deblock.{Outcome, deblockOf}
+use Rattle.deblock.specs.Deblock.{DeblockAnswer, deblockOf}
 use Rattle.frame.specs.declared.take.Answer.{Answer}
 use Rattle.frame.specs.declared.take.Taken.{Taken}
 use Rattle.frame.specs.Take.{refusedAnswer, takenOf, storedOf, intoOf}

@@ -18,7 +18,7 @@ use Rattle.modes.specs.Answers.{kindsOf}
 use Rattle.lent.specs.declared.macroblocks.StrengthRecord.{StrengthRecord}
 use Rattle.numbers.specs.declared.Checked.the-variants as K
 use Rattle.filter.specs.Strengths.{strengthFine}
-use Rattle.lent.specs.Records.{recordsIn, Taken, modeWidth, modeRecord, isOn, kindsIn, modesIn, kindsAt, modesAt, modeSet, kindsFine, modeFound, strengthWidth, strengthRecord, strengthIn, strengthAt, strengthSet, strengthFound}
+use Rattle.lent.specs.Records.{recordsIn, FoundRecord, modeWidth, modeRecord, isOn, kindsIn, modesIn, kindsAt, modesAt, modeSet, kindsFine, modeFound, strengthWidth, strengthRecord, strengthIn, strengthAt, strengthSet, strengthFound}
 use Rattle.lent.specs.RecordsLaws.{copied-middle, bytes-are, record-back, record-other, record-set-length, read-good}
 
 -- ---- modes
@@ -89,4 +89,4 @@ strength-fine t m e f = both-true e (both-left (ltb (m .segment) 4) (ltb (m .chr
 
 -- the strengths as a caller finds them, whatever stands behind them in the record
 pub strength-is : (mem : List ℕ) (i : ℕ) {r : StrengthRecord} → r ≡ strengthFound mem i → i < recordsIn strengthWidth mem → r .strength ≡ strengthAt mem i
-strength-is mem i e h = ap (λ (r : StrengthRecord). r .strength) e ∙ ap (λ (r : Taken). strengthIn (r .bytes)) (read-good strengthWidth mem i h)
+strength-is mem i e h = ap (λ (r : StrengthRecord). r .strength) e ∙ ap (λ (r : FoundRecord). strengthIn (r .bytes)) (read-good strengthWidth mem i h)

@@ -13,7 +13,7 @@ pub record Memory : Type 0 where
   pub modes : List ℕ
   pub strengths : List ℕ
 
--- the six put together
+-- all six together
 abbrev pub memoryOf : (y u v columns modes strengths : List ℕ) → Memory
 memoryOf y u v columns modes strengths = record { y = y; u = u; v = v; columns = columns; modes = modes; strengths = strengths }
 

@@ -21,7 +21,7 @@ use Rattle.lent.specs.declared.macroblocks.ModeRecord.{ModeRecord}
 use Rattle.lent.specs.declared.macroblocks.StrengthRecord.{StrengthRecord}
 
 -- ---- records of `width` bytes, side by side
--- record i, and the memory with record i written
+-- record i
 unfoldable pub recordAt : (width : ℕ) → List ℕ → ℕ → List ℕ
 recordAt width mem i = build width (λ j. getD mem (i * width + j) 0)
 
@@ -29,7 +29,7 @@ recordAt width mem i = build width (λ j. getD mem (i * width + j) 0)
 unfoldable pub recordSet : (width : ℕ) → List ℕ → ℕ → List ℕ → List ℕ
 recordSet width mem i bytes = copied mem (i * width) bytes 0 width
 
--- as many as lie wholly inside
+-- how many records lie wholly inside
 abbrev pub recordsIn : (width : ℕ) → List ℕ → ℕ
 recordsIn width mem = length mem / width
 
@@ -52,12 +52,12 @@ recordWritten width mem i fine bytes =
     ]
 
 -- reading: refused, and zeros, where there is no such record
-pub record Taken : Type 0 where
+pub record FoundRecord : Type 0 where
   pub answer : Checked
   pub bytes : List ℕ
 
 -- a record read, where there is one
-unfoldable pub recordFound : (width : ℕ) → List ℕ → ℕ → Taken
+unfoldable pub recordFound : (width : ℕ) → List ℕ → ℕ → FoundRecord
 recordFound width mem i =
     elim (ltb i (recordsIn width mem)) [
       | true ↦ record { answer = K.Done; bytes = recordAt width mem i }
@@ -65,7 +65,7 @@ recordFound width mem i =
     ]
 
 -- ---- numbers packed into one
--- numbers below `size` in one number, the first in its lowest digit
+-- numbers below `size` as the digits of one, the first lowest
 unfoldable pub packedOf : (size : ℕ) → List ℕ → ℕ
 packedOf size [] = 0
 packedOf size (x ∷ l) = x + packedOf size l * size
@@ -89,7 +89,7 @@ pub data Form : Type 0 where
   packed : Form
   old : Form
 
--- bytes a column: four, before it thirteen
+-- bytes of a column: four, in the old form thirteen
 abbrev pub formWidth : Form → ℕ
 formWidth packed = 4
 formWidth old = 13
@@ -141,7 +141,7 @@ modeRecord k modes = k .segment ∷ bitOf (k .skip) ∷ bitOf (k .small) ∷ (mo
 abbrev pub isOn : ℕ → Bool
 isOn n = not (eqb n 0)
 
--- all but the luma modes that twenty bytes hold
+-- what twenty bytes hold besides luma modes
 abbrev pub kindsIn : List ℕ → Kinds
 kindsIn b = record { segment = getD b 0 0; skip = isOn (getD b 1 0); small = isOn (getD b 2 0); chroma = getD b 19 0 }
 
@@ -169,7 +169,7 @@ kindsFine k = ltb (k .segment) 4 && ltb (k .chroma) 4
 abbrev pub modeWritten : List ℕ → ℕ → Kinds → List ℕ → Written
 modeWritten mem i k modes = recordWritten modeWidth mem i (kindsFine k && eachBelow 10 modes) (modeRecord k modes)
 
--- `read_mode_record`
+-- `read_mode_record`: the modes of macroblock i; refused, and zeros, where there is none
 abbrev pub modeFound : List ℕ → ℕ → ModeRecord
 modeFound mem i = record { answer = recordFound modeWidth mem i .answer; kinds = kindsIn (recordFound modeWidth mem i .bytes); modes = modesIn (recordFound modeWidth mem i .bytes) }
 
@@ -177,11 +177,11 @@ modeFound mem i = record { answer = recordFound modeWidth mem i .answer; kinds =
 abbrev pub strengthWidth : ℕ
 strengthWidth = 6
 
--- the six bytes of a macroblock's strengths and kinds
+-- the six bytes of strengths and kinds
 abbrev pub strengthRecord : Strength → Kinds → List ℕ
 strengthRecord t k = t .limit ∷ t .inner ∷ t .threshold ∷ t .inside ∷ k .segment ∷ bitOf (k .small) ∷ []
 
--- the strengths that six bytes hold: the first four
+-- the strengths that six bytes hold
 abbrev pub strengthIn : List ℕ → Strength
 strengthIn b = record { limit = getD b 0 0; inner = getD b 1 0; threshold = getD b 2 0; inside = getD b 3 0 }
 
@@ -189,11 +189,11 @@ strengthIn b = record { limit = getD b 0 0; inner = getD b 1 0; threshold = getD
 abbrev pub segmentIn : List ℕ → ℕ
 segmentIn b = getD b 4 0
 
--- whether modes are small, by them
+-- whether modes are small, as they say
 abbrev pub smallIn : List ℕ → Bool
 smallIn b = isOn (getD b 5 0)
 
--- those of macroblock i
+-- the strengths of macroblock i
 abbrev pub strengthAt : List ℕ → ℕ → Strength
 strengthAt mem i = strengthIn (recordAt strengthWidth mem i)
 
@@ -205,7 +205,7 @@ strengthSet mem i t k = recordSet strengthWidth mem i (strengthRecord t k)
 abbrev pub strengthWritten : List ℕ → ℕ → Strength → Kinds → Written
 strengthWritten mem i t k = recordWritten strengthWidth mem i (strengthFine t && ltb (k .segment) 4) (strengthRecord t k)
 
--- `read_strength`
+-- `read_strength`: the strengths of macroblock i; refused, and zeros, where there is none
 abbrev pub strengthFound : List ℕ → ℕ → StrengthRecord
 strengthFound mem i =
     let b = recordFound strengthWidth mem i .bytes in

@@ -15,7 +15,7 @@ longOf w h n must = sidesOf w h && eqb n must
 abbrev pub lumaFine : (w h n : ℕ) → Bool
 lumaFine w h n = longOf w h n (w * h)
 
--- U, and V
+-- U or V: a quarter of that
 abbrev pub chromaFine : (w h n : ℕ) → Bool
 chromaFine w h n = longOf w h n (w / 2 * (h / 2))
 
@@ -31,7 +31,7 @@ modesFine w h n = longOf w h n (modeWidth * blocksOf w h)
 abbrev pub strengthsFine : (w h n : ℕ) → Bool
 strengthsFine w h n = longOf w h n (strengthWidth * blocksOf w h)
 
--- all six, columns in this form
+-- all six lengths, columns in this form
 unfoldable pub sizesFine : Form → (w h : ℕ) → Sizes → Bool
 sizesFine form w h z =
     lumaFine w h (z .y)
@@ -41,7 +41,7 @@ sizesFine form w h z =
     && modesFine w h (z .modes)
     && strengthsFine w h (z .strengths)
 
--- all six, as a fact
+-- all six lengths, as a fact
 pub record Sized (form : Form) (w h : ℕ) (z : Sizes) : Type 0 where
   pub y : z .y ≡ w * h
   pub u : z .u ≡ w / 2 * (h / 2)

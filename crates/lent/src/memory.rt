@@ -16,7 +16,7 @@ fn fill_part(mem: &mut [u8], at: usize, n: usize, value: u8)
 }
 
 // How many of the rest make a part.
-fn part(rest: usize) -> usize
+fn piece(rest: usize) -> usize
     ensures { λ r. ⌜ (r ≤ rest) × (0 < rest → 0 < r) ⌝ }
 {
     if rest < 1024 { rest } else { 1024 }
@@ -28,7 +28,7 @@ pub fn fill(mem: &mut [u8], value: u8)
 {
     let mut at = 0;
     while at < mem.len() {
-        let n = part(mem.len() - at);
+        let n = piece(mem.len() - at);
         fill_part(&mut mem[..], at, n, value);
         at += n;
     }

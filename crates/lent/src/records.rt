@@ -4,7 +4,7 @@ ghost use mathlib.Core.Path.{_≡_};
 ghost use Prim.Native.Nat.{_≤_, _<_, _+_, _*_, _/_};
 ghost use lib.ListN.{length, replicate};
 ghost use Rattle.numbers.specs.Runs.{copied};
-ghost use Rattle.lent.specs.Records.{Written, Taken, recordWritten, recordFound};
+ghost use Rattle.lent.specs.Records.{Written, FoundRecord, recordWritten, recordFound};
 
 // `bytes` into mem, from the place `at` on.
 pub(crate) fn store(mem: &mut [u8], at: usize, bytes: &[u8])
@@ -47,7 +47,7 @@ pub(crate) fn write(mem: &mut [u8], i: usize, fine: bool, bytes: &[u8]) -> Check
 // Reads record i, which is as wide as `bytes`: zeros, and so they stay where it is refused.
 pub(crate) fn read(mem: &[u8], i: usize, bytes: &mut [u8]) -> Checked
     requires { ⌜ (0 < length (now bytes)) × (now bytes ≡ replicate (length (now bytes)) 0) ⌝ }
-    ensures { λ q. ⌜ _≡_ {A = Taken} (record { answer = q; bytes = now (bytes .exit) })
+    ensures { λ q. ⌜ _≡_ {A = FoundRecord} (record { answer = q; bytes = now (bytes .exit) })
         (recordFound (length (now (bytes .entry))) (now (mem .entry)) i) ⌝ }
 {
     let width = bytes.len();

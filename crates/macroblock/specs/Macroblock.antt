@@ -27,7 +27,7 @@ use Rattle.macroblock.specs.declared.whole.Outcome.{Outcome}
 use Rattle.macroblock.specs.declared.whole.Finish.{Finish}
 use Rattle.macroblock.specs.declared.whole.Finish.the-variants as F
 
--- ---- what lies before it and what it leaves
+-- ---- the three planes, before a macroblock and after it
 pub record Planes : Type 0 where
   pub y : List ℕ
   pub u : List ℕ
@@ -47,7 +47,7 @@ pub record Finished : Type 0 where
   pub readers : Readers
   pub planes : Planes
 
--- one that is not: its modes (6) or its tokens (7) ran out
+-- a macroblock is finished, or its modes (6) or its tokens (7) ran out
 pub data Step : Type 0 where
   finished : Finished → Step
   no-modes : Step
@@ -69,11 +69,11 @@ paintedPlanes place m c p =
 abbrev pub strengthMade : Frame → Macroblock → (empty : Bool) → Strength
 strengthMade f m empty = strengthOf (levelAt f (m .small) (m .segment)) (f .sharp) (m .small || not empty)
 
--- the contexts that it leaves: to the macroblock below, and to the one at its right
+-- the contexts that it leaves: to the macroblock below
 abbrev pub below : Macroblock → (flags : List ℕ) → Context
 below m flags = record { modes = bottomOf (m .modes); flags = flags }
 
--- its last column of modes, and its flags
+-- to the one on its right: its last column of modes, and its flags
 abbrev pub beside : Macroblock → (flags : List ℕ) → Context
 beside m flags = record { modes = rightOf (m .modes); flags = flags }
 
@@ -88,12 +88,12 @@ endOf f place p m next d after = record {
   planes = paintedPlanes place m (d .coefficients) p;
 }
 
--- the end where the tokens were there
+-- finished, where the tokens were there
 abbrev pub afterTokens : (Model → Reader → Finished) → Given Model → Step
 afterTokens end (given d after) = finished (end d after)
 afterTokens end missing = no-tokens
 
--- the rest where the modes were there
+-- the rest, where the modes were there
 abbrev pub afterModes : (Macroblock → Reader → Step) → Given Macroblock → Step
 afterModes rest (given m next) = rest m next
 afterModes rest missing = no-modes

@@ -12,7 +12,7 @@ use Rattle.reader.specs.declared.boolean.Reader.{Reader}
 use Rattle.reader.specs.Boolean.{Given, given, missing, validOf}
 use Rattle.reader.specs.BooleanLaws.{Bytes, Valid, valid-test, valid-fact}
 use Rattle.reader.specs.Reading.{run}
-use Rattle.reader.specs.ReadingLaws.{Ended, run-valid}
+use Rattle.reader.specs.ReadingLaws.{ReadTo, run-valid}
 use Rattle.header.specs.declared.frame.Frame.{Frame}
 use Rattle.header.specs.Frame.{levelAt}
 use Rattle.header.specs.FrameLaws.{Sound}
@@ -171,11 +171,11 @@ module _ (first : List ℕ) (readers : Readers) (f : Frame) (around : Around) (p
     abbrev from : From x
     from = rebuilt-from e
 
-    read : Ended InRange first (readers .first) (x .modes) (x .readers .first)
+    read : ReadTo InRange first (readers .first) (x .modes) (x .readers .first)
     read = run-valid (modes-within (f .announced) (a .sound .announced) (around .top .modes) (around .left .modes)) y (a .reader) (from .modes)
 
     -- no token is read: the reader of any token partition that it was valid in stays
-    kept : (tokens : List ℕ) → Valid tokens (readers .token) → Ended ModelInRange tokens (readers .token) noResidual (readers .token)
+    kept : (tokens : List ℕ) → Valid tokens (readers .token) → ReadTo ModelInRange tokens (readers .token) noResidual (readers .token)
     kept tokens v = record { value = no-residual; valid = v; later = omega arith }
 
     -- THE LAW of what it leaves

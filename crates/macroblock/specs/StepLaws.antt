@@ -11,7 +11,7 @@ use Rattle.reader.specs.declared.boolean.Reader.{Reader}
 use Rattle.reader.specs.Boolean.{Given, given, missing}
 use Rattle.reader.specs.BooleanLaws.{Bytes, Valid}
 use Rattle.reader.specs.Reading.{run}
-use Rattle.reader.specs.ReadingLaws.{Ended, run-valid}
+use Rattle.reader.specs.ReadingLaws.{ReadTo, run-valid}
 use Rattle.modes.specs.declared.contexts.Context.{Context}
 use Rattle.modes.specs.Answers.{macroblockOf}
 use Rattle.modes.specs.Modes.{Macroblock, modesOf, bottomOf, rightOf}
@@ -106,7 +106,7 @@ finished-is {x} e = ap (given-or x) e
 
 -- ---- the same of the macroblock that its parts make
 module _ (f : Frame) (place : Place) (p : Planes) (m : Macroblock) (d : Model) {s tokens : List ℕ} {readers : Readers} {q u : Reader} where
-  pub end-ends : Sound f → Ended InRange s (readers .first) m q → Ended ModelInRange tokens (readers .token) d u → Ends s tokens readers (endOf f place p m q d u)
+  pub end-ends : Sound f → ReadTo InRange s (readers .first) m q → ReadTo ModelInRange tokens (readers .token) d u → Ends s tokens readers (endOf f place p m q d u)
   unfolding endOf
   end-ends k i e =
       let o = i .value .luma .each in
@@ -125,7 +125,7 @@ module _ (f : Frame) (place : Place) (p : Planes) (m : Macroblock) (d : Model) {
         limit = limit-most (levelAt f (m .small) (m .segment)) (f .sharp) (m .small || not (d .empty)) (k .levels (m .small) (m .segment));
       }
 
-  pub end-outside : Laid place p → Ended InRange s (readers .first) m q → Ended ModelInRange tokens (readers .token) d u → Elsewhere place p (endOf f place p m q d u .planes)
+  pub end-outside : Laid place p → ReadTo InRange s (readers .first) m q → ReadTo ModelInRange tokens (readers .token) d u → Elsewhere place p (endOf f place p m q d u .planes)
   unfolding endOf
   end-outside g i e = planes-kept g (painting (i .value) (e .value))
 
@@ -215,10 +215,10 @@ module _ (s tokens : List ℕ) (readers : Readers) (f : Frame) (table : List ℕ
     abbrev both : Both x
     both = step-both e
 
-    read : Ended InRange s (readers .first) (x .modes) (x .readers .first)
+    read : ReadTo InRange s (readers .first) (x .modes) (x .readers .first)
     read = run-valid (modes-within (f .announced) (a .sound .announced) (around .top .modes) (around .left .modes)) y (a .reader) (both .modes)
 
-    coded : Ended ModelInRange tokens (readers .token) (both .model) (x .readers .token)
+    coded : ReadTo ModelInRange tokens (readers .token) (both .model) (x .readers .token)
     coded = run-valid (residual-within table (factorsAt f (x .modes .segment)) b (x .modes .small) (x .modes .skip) (a .top) (a .left)) z (a .token) (both .coefficients)
 
     -- its flags and coefficients are in range

@@ -2,20 +2,20 @@
 use modes::contexts::Context;
 use reader::boolean::Reader;
 
-// Where it stands: its column and row among the macroblocks, and the width of the picture in samples.
+// Where it stands: its column and row of macroblocks, and the picture's width in samples.
 pub struct Place {
     pub column: usize,
     pub row: usize,
     pub width: usize,
 }
 
-// Where its modes and its tokens are read from: in the first partition, and in the token partition of its row.
+// Where its modes are read, in the first partition, and its tokens, in the token partition of its row.
 pub struct Readers {
     pub first: Reader,
     pub token: Reader,
 }
 
-// What the macroblock above it and the one left of it have left.
+// What the macroblocks above it and to its left have left.
 pub struct Around {
     pub top: Context,
     pub left: Context,

@@ -19,7 +19,7 @@ use modes::contexts::bottom;
 use modes::contexts::right;
 use modes::whole::read_modes;
 use reader::boolean::Reader;
-use residual::Ended;
+use residual::answers::Ended;
 ghost use mathlib.Core.Path.{_≡_};
 ghost use mathlib.Core.Bool.{not, _||_};
 ghost use Prim.Native.Nat.{_<_, _≤_};

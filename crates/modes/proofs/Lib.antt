@@ -1,5 +1,4 @@
-pub mod Turns
-pub mod Chain
-pub mod Counted
 pub mod Others
+pub mod Careful
+pub mod Counted
 pub mod Steps

@@ -15,13 +15,11 @@ use Rattle.reader.proofs.trees.Walked as walked
 use Rattle.modes.specs.declared.answers.Mode.{Mode}
 use Rattle.modes.specs.declared.answers.Headed.{Headed}
 use Rattle.modes.specs.declared.answers.Next.{Next}
-use Rattle.modes.specs.declared.answers.Stage.{Stage}
 use Rattle.modes.specs.AnswersLaws as laws
-use Rattle.modes.specs.AnswersLaws.{fromMode, fromHeaded, nextGiven, stageGiven}
+use Rattle.modes.specs.AnswersLaws.{fromMode, fromHeaded, nextGiven}
 use Rattle.modes.proofs.answers.Mode as mode
 use Rattle.modes.proofs.answers.Headed as headed
 use Rattle.modes.proofs.answers.Next as next
-use Rattle.modes.proofs.answers.Stage as stage
 
 pub not-got : (x : Symbol) → (tagOf symbol.the-type x ≡ 1) ⊎ (tagOf symbol.the-type x ≡ 2) → fromSymbol x ≡ missing
 not-got = reader.not-got (tagOf symbol.the-type) (λ b r. refl)
@@ -37,6 +35,3 @@ not-headed = laws.not-headed (tagOf headed.the-type) (λ p r. refl)
 
 pub not-next : (x : Next) (l : List ℕ) → (tagOf next.the-type x ≡ 1) ⊎ (tagOf next.the-type x ≡ 2) → nextGiven x l ≡ missing
 not-next = laws.not-next (tagOf next.the-type) (λ r. refl)
-
-pub not-stage : (x : Stage) (l : List ℕ) → (tagOf stage.the-type x ≡ 1) ⊎ (tagOf stage.the-type x ≡ 2) → stageGiven x l ≡ missing
-not-stage = laws.not-stage (tagOf stage.the-type) (λ k r. refl)

@@ -1,4 +1,4 @@
--- The reading over a wide reader, on plain values: a contract (`Reads`) from the contracts of what follows, one step at a time.
+-- The reading over a wide reader, on plain values: a contract (`WideReads`) from the contracts of what follows, one step at a time.
 use Prim.Native.Nat.{ℕ, zero, suc, _+_, _*_, _≤_, _<_, _^_}
 use mathlib.Core.Path.{_≡_, refl, sym, _∙_, ap}
 use mathlib.Core.Bool.{Bool, true, false, not}
@@ -22,11 +22,10 @@ use Rattle.wide.specs.declared.wide.Bit.{Bit}
 use Rattle.wide.specs.declared.wide.Wide.{Wide}
 use Rattle.modes.specs.declared.answers.Kinds.{Kinds}
 use Rattle.modes.specs.declared.answers.Prefix.{Prefix}
-use Rattle.modes.specs.declared.answers.Stage.the-variants as S
 use Rattle.modes.specs.declared.quick.Coded.{Coded}
-use Rattle.modes.specs.Modes.{segTree, tree, segment, skip, prefix, largeMode, blockMode, modeAbove, modeLeft, smallFrom, zeros, smallModes, luma, Macroblock, modesOf}
-use Rattle.modes.specs.ModesLaws.{Modes, set-modes, zeros-modes}
-use Rattle.modes.specs.Answers.{macroblockOf, toStaged}
+use Rattle.modes.specs.Modes.{Modes, segTree, tree, segment, skip, prefix, largeMode, blockMode, modeAbove, modeLeft, smallFrom, zeros, smallModes, luma, Macroblock, modesOf}
+use Rattle.modes.specs.ModesLaws.{set-modes, zeros-modes}
+use Rattle.modes.specs.Answers.{macroblockOf}
 use Rattle.modes.specs.Quick.{lastOf}
 
 -- ---- the last symbol of a walk: one of two leaves
@@ -157,6 +156,5 @@ reads-modes s a above left {p} {l} g h k r m i b =
     going-done (going-call 0 4 (largeMode true) (λ c. done (record { segment = p .segment; skip = p .skip; small = p .small; modes = l; chroma = c })) y k (omega arith) (omega arith)) refl
 
 -- ---- back to a reader: read inside the partition
-pub wide-stage : (s : List ℕ) (a : Announced) (r : Reader) (above left : List ℕ) → Bytes s → Valid s r → length s < 2 ^ 63 → {x q : Wide} {k : Kinds} {l : List ℕ} {b : Bool} {n : Reader} → x ≡ widenOf r → WideReads s 0 144 (modesOf a above left) x (macroblockOf k l) q → b ≡ eightInside s q → b ≡ true → n ≡ narrowOf s q → record { answer = S.Read k n; modes = l } ≡ toStaged zeros (run (modesOf a above left) s r)
-wide-stage s a r above left y v f {k} {l} e h i j n =
-    sym (ap (toStaged zeros) (wide-run s r (modesOf a above left) 144 y v (omega (arith, v .inside)) (rw e at h) (sym i ∙ j) ∙ ap (given (macroblockOf k l)) (sym n)))
+pub wide-modes : (s : List ℕ) (a : Announced) (r : Reader) (above left : List ℕ) → Bytes s → Valid s r → length s < 2 ^ 63 → {x q : Wide} {k : Kinds} {l : List ℕ} {b : Bool} → x ≡ widenOf r → WideReads s 0 144 (modesOf a above left) x (macroblockOf k l) q → b ≡ eightInside s q → b ≡ true → run (modesOf a above left) s r ≡ given (macroblockOf k l) (narrowOf s q)
+wide-modes s a r above left y v f e h i j = wide-run s r (modesOf a above left) 144 y v (omega (arith, v .inside)) (rw e at h) (sym i ∙ j)

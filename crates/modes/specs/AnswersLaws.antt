@@ -15,10 +15,10 @@ use Rattle.header.specs.FrameLaws.{Probabilities}
 use Rattle.header.specs.declared.frame.Announced.{Announced}
 use Rattle.reader.specs.declared.boolean.Reader.{Reader}
 use Rattle.reader.specs.declared.boolean.Symbol.{Symbol}
-use Rattle.reader.specs.Boolean.{Given, given, missing, validOf, toSymbol, symbolOf, symbolAnswer}
-use Rattle.reader.specs.BooleanLaws.{Bytes, Valid, valid-test, symbol-good}
-use Rattle.reader.specs.Reading.{symbol, run}
-use Rattle.reader.specs.ReadingLaws.{fromSymbol, answered, Ended, run-valid}
+use Rattle.reader.specs.Boolean.{Given, given, missing, validOf, toSymbol}
+use Rattle.reader.specs.BooleanLaws.{Bytes, Valid, valid-test}
+use Rattle.reader.specs.Reading.{run}
+use Rattle.reader.specs.ReadingLaws.{fromSymbol, ReadTo, run-valid}
 use Rattle.modes.specs.declared.answers.Prefix.{Prefix}
 use Rattle.modes.specs.declared.answers.Kinds.{Kinds}
 use Rattle.modes.specs.declared.answers.Mode.{Mode}
@@ -79,17 +79,9 @@ pub staged : (old : List ℕ) (g : Given Macroblock) {x : Staged} → x ≡ toSt
 staged old (given m r) e = ap fromStaged (sym e)
 staged old missing e = ap fromStaged (sym e)
 
-pub signed : (g : Given Bool) {x : Symbol} → x ≡ toSymbol g → g ≡ fromSymbol x
-signed (given b r) e = ap fromSymbol (sym e)
-signed missing e = ap fromSymbol (sym e)
-
--- `symbol` of a reader in range, as a run
-pub symbol-is : (s : List ℕ) (r : Reader) (p : ℕ) → Valid s r → symbolAnswer s r p ≡ toSymbol (run (symbol p) s r)
-symbol-is s r p v = symbol-good s r p v ∙ go (symbolOf s r p) (answered s r p refl)
-  where
-    go : (x : Given Bool) → run (symbol p) s r ≡ fromSymbol (toSymbol x) → toSymbol x ≡ toSymbol (run (symbol p) s r)
-    go (given b q) e = ap toSymbol (sym e)
-    go missing e = ap toSymbol (sym e)
+pub flagged : (g : Given Bool) {x : Symbol} → x ≡ toSymbol g → g ≡ fromSymbol x
+flagged (given b r) e = ap fromSymbol (sym e)
+flagged missing e = ap fromSymbol (sym e)
 
 -- ---- `prefix`
 module _ (s : List ℕ) (r : Reader) (h : List ℤ) where
@@ -107,10 +99,6 @@ module _ (s : List ℕ) (r : Reader) (h : List ℤ) where
   pub prefix-reader : validOf s r ≡ false → H.Refused ≡ prefixAnswer s r h
   prefix-reader e = refused (both-false (eqb (length h) entryCount) e)
 
-  -- THE LAW for callers of `prefix`
-  pub prefixed : Valid s r → length h ≡ entryCount → {x : Headed} → x ≡ prefixAnswer s r h → run (prefix (announcedOf h)) s r ≡ fromHeaded x
-  prefixed v e f = headed (run (prefix (announcedOf h)) s r) (f ∙ prefix-good v e)
-
 -- ---- `main_mode`
 module _ (s : List ℕ) (r : Reader) (chroma : Bool) where
   pub main-good : Valid s r → mainAnswer s r chroma ≡ toMode (run (largeMode chroma) s r)
@@ -120,10 +108,6 @@ module _ (s : List ℕ) (r : Reader) (chroma : Bool) where
   pub main-reader : validOf s r ≡ false → M.Refused ≡ mainAnswer s r chroma
   unfolding mainAnswer
   main-reader e = rw (e, mainAnswer)
-
-  -- THE LAW for callers of `main_mode`
-  pub mained : Valid s r → {x : Mode} → x ≡ mainAnswer s r chroma → run (largeMode chroma) s r ≡ fromMode x
-  mained v f = moded (run (largeMode chroma) s r) (f ∙ main-good v)
 
 -- ---- `block_mode`
 module _ (s : List ℕ) (r : Reader) (above left : ℕ) where
@@ -144,10 +128,6 @@ module _ (s : List ℕ) (r : Reader) (above left : ℕ) where
   pub block-left : 10 ≤ left → M.Refused ≡ blockAnswer s r above left
   block-left h = refused-block (both-false (validOf s r) (both-false (ltb above 10) (le-ltb left 10 h)))
 
-  -- THE LAW for callers of `block_mode`
-  pub blocked : Valid s r → above < 10 → left < 10 → {x : Mode} → x ≡ blockAnswer s r above left → run (blockMode above left) s r ≡ fromMode x
-  blocked v a l f = moded (run (blockMode above left) s r) (f ∙ block-good v a l)
-
 -- ---- `small_modes`
 module _ (s : List ℕ) (r : Reader) (above left old : List ℕ) where
   pub small-good : Valid s r → contextsOf above left ≡ true → smallAnswer s r above left old ≡ toSixteen old (run (smallModes above left) s r)
@@ -163,10 +143,6 @@ module _ (s : List ℕ) (r : Reader) (above left old : List ℕ) where
 
   pub small-contexts : contextsOf above left ≡ false → record { answer = N.Refused; modes = old } ≡ smallAnswer s r above left old
   small-contexts e = refused-small (both-false (validOf s r) e)
-
-  -- THE LAW for callers of `small_modes`
-  pub smalled : Valid s r → contextsOf above left ≡ true → {x : Sixteen} → x ≡ smallAnswer s r above left old → run (smallModes above left) s r ≡ fromSixteen x
-  smalled v e f = sixteened old (run (smallModes above left) s r) (f ∙ small-good v e)
 
 -- ---- `read_modes`
 module _ (s : List ℕ) (a : Announced) (r : Reader) (above left old : List ℕ) where
@@ -189,7 +165,7 @@ module _ (s : List ℕ) (a : Announced) (r : Reader) (above left old : List ℕ)
   read v e f = staged old (run (modesOf a above left) s r) (f ∙ modes-good v e)
 
   -- and where it has read them: every value is in range, and so is the reader, no earlier in s
-  pub read-ended : Probabilities a → Valid s r → contextsOf above left ≡ true → Bytes s → {x : Staged} → x ≡ modesAnswer s a r above left old → {k : Kinds} {q : Reader} → x .answer ≡ S.Read k q → Ended InRange s r (macroblockOf k (x .modes)) q
+  pub read-ended : Probabilities a → Valid s r → contextsOf above left ≡ true → Bytes s → {x : Staged} → x ≡ modesAnswer s a r above left old → {k : Kinds} {q : Reader} → x .answer ≡ S.Read k q → ReadTo InRange s r (macroblockOf k (x .modes)) q
   read-ended b v e y {x} f g = run-valid (modes-within a b above left) y v (read v e f ∙ ap (λ (z : Stage). stageGiven z (x .modes)) g)
 
 -- ---- from the inner functions' answers, which hold zeros where a byte is missing, to the calls', which keep what was lent
@@ -199,16 +175,6 @@ module _ (g : Given (List ℕ)) (zeros old : List ℕ) {x : Sixteen} (e : x ≡ 
 
   pub sixteen-missing : nextGiven (x .answer) (x .modes) ≡ missing → record { answer = N.Missing; modes = old } ≡ toSixteen old g
   sixteen-missing f = sym (ap (toSixteen old) (sixteened zeros g e ∙ f))
-
-module _ (g : Given Macroblock) (zeros old : List ℕ) {x : Staged} (e : x ≡ toStaged zeros g) where
-  pub staged-gave : {k : Kinds} {q : Reader} → x .answer ≡ S.Read k q → g ≡ given (macroblockOf k (x .modes)) q
-  staged-gave f = staged zeros g e ∙ ap (λ (a : Stage). stageGiven a (x .modes)) f
-
-  pub staged-read : {k : Kinds} {q : Reader} → x .answer ≡ S.Read k q → record { answer = S.Read k q; modes = x .modes } ≡ toStaged old g
-  staged-read f = sym (ap (toStaged old) (staged-gave f))
-
-  pub staged-missing : stageGiven (x .answer) (x .modes) ≡ missing → record { answer = S.Missing; modes = old } ≡ toStaged old g
-  staged-missing f = sym (ap (toStaged old) (staged zeros g e ∙ f))
 
 -- ---- for `let .. else`: every answer but the one taken apart says that a byte is missing. `tag` numbers an enum's cases from 0.
 pub not-mode : (tag : Mode → ℕ) → ((v : ℕ) (r : Reader) → tag (M.Read v r) ≡ 0) → (x : Mode) → (tag x ≡ 1) ⊎ (tag x ≡ 2) → fromMode x ≡ missing

@@ -1,12 +1,14 @@
 -- How many symbols the modes of a macroblock read (M-103).
-use Prim.Native.Nat.{ℕ, zero, suc, _+_}
+use Prim.Native.Nat.{ℕ, zero, suc, _+_, _≤_}
+use mathlib.Core.Path.{_≡_}
 use mathlib.Core.Bool.{Bool, true, false, _&&_}
 use mathlib.Core.List.{List, [], _∷_}
 use lib.ListN.{getD}
 use Rattle.numbers.specs.Flags.{bitOf}
 use Rattle.header.specs.declared.frame.Announced.{Announced}
 use Rattle.reader.specs.declared.boolean.Reader.{Reader}
-use Rattle.reader.specs.Boolean.{validOf}
+use Rattle.reader.specs.Boolean.{Given, validOf}
+use Rattle.reader.specs.Reading.{Reading, run}
 use Rattle.reader.specs.Trace.{count}
 use Rattle.modes.specs.Modes.{Macroblock, modesOf}
 use Rattle.modes.specs.Answers.{contextsOf}
@@ -14,6 +16,10 @@ use Rattle.modes.specs.Answers.{contextsOf}
 -- `read_modes`: all of them, or those before the missing one; none where the arguments are refused
 unfoldable pub modesReads : List ℕ → Announced → Reader → List ℕ → List ℕ → ℕ
 modesReads s a r above left = elim (validOf s r && contextsOf above left) [ true ↦ count (modesOf a above left) s r | false ↦ 0 ]
+
+-- what a part of it tells: its grammar's outcome, as an answer, and how many symbols it read, at most k
+abbrev pub Told : {A B : Type 0} → (Given A → B) → ℕ → Reading A → List ℕ → Reader → B → ℕ → Type 0
+Told to k m s r answer reads = (answer ≡ to (run m s r)) × ((reads ≡ count m s r) × (reads ≤ k))
 
 -- ---- the same of modes that were read, by what they are
 -- two symbols for a segment, one for the skip flag, where the frame has them; one tells small modes from a large one

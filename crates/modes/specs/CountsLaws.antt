@@ -1,27 +1,26 @@
--- The laws of the modes' counts: that modes which were read say how many symbols they took, and how the counts of the parts add up.
+-- The laws of the modes' counts: modes that were read say how many symbols they took.
 use Prim.Native.Nat.{ℕ, zero, suc, _+_, _≤_, _<_}
 use mathlib.Core.Path.{_≡_, refl, sym, _∙_, ap}
 use mathlib.Core.List.{List, [], _∷_}
-use mathlib.Core.Bool.{Bool, true, false, not, _&&_}
+use mathlib.Core.Bool.{Bool, true, false, _&&_}
 use native.Mathlib.Omega.{arith}
 use native.Mathlib.Nat.{add-zero}
 use native.Mathlib.Numerals.{add-one}
 use lib.Dec.{leb, lit≤}
 use borrow.Author.Tests.{leb-true}
 use Rattle.numbers.specs.Tables.{all-of-any}
-use lib.ListN.{length, getD, set, length-set, replicate}
+use lib.ListN.{length, getD, set, length-set}
 use lib.Seq.{getD-set-same, getD-set-other}
 use Rattle.numbers.specs.Flags.{bitOf}
 use Rattle.numbers.specs.Tests.{both-true, both-false}
 use Rattle.header.specs.declared.frame.Announced.{Announced}
 use Rattle.reader.specs.declared.boolean.Reader.{Reader}
-use Rattle.reader.specs.Boolean.{given, missing, validOf}
+use Rattle.reader.specs.Boolean.{given, validOf}
 use Rattle.reader.specs.BooleanLaws.{Valid, valid-test}
-use Rattle.reader.specs.Reading.{Reading, symbol, run, Within}
+use Rattle.reader.specs.Reading.{symbol, run}
 use Rattle.reader.specs.Trace.{count}
-use Rattle.reader.specs.TraceLaws.{count-done, count-then, count-stops, count-within}
 use Rattle.reader.specs.Counts.{Costs, ends}
-use Rattle.reader.specs.CountsLaws.{costs-reads, costs-bind, costs-after, costs-symbol, costs-walk, count-last}
+use Rattle.reader.specs.CountsLaws.{costs-reads, costs-bind, costs-after, costs-symbol, costs-walk}
 use Rattle.modes.specs.declared.answers.Prefix.{Prefix}
 use Rattle.modes.specs.Table.{probabilities}
 use Rattle.modes.specs.Modes.{segTree, yTree, uvTree, bTree, tree, optional, segment, skip, prefix, largeMode, blockMode, modeAbove, modeLeft, smallFrom, zeros, smallModes, luma, Macroblock, modesOf}
@@ -96,87 +95,6 @@ modes-costs a above left =
 -- modes that were read say how many symbols they took
 pub modes-read : (a : Announced) (above left s : List ℕ) (r : Reader) {m : Macroblock} {q : Reader} → run (modesOf a above left) s r ≡ given m q → count (modesOf a above left) s r ≡ modesRead a m
 modes-read a above left s r e = costs-reads (modes-costs a above left) s r e
-
--- a count and its bound
-pub bounded : {A : Type 0} {P : A → Type 0} {k n : ℕ} {m : Reading A} (s : List ℕ) (r : Reader) → Within P k m → n ≡ count m s r → (n ≡ count m s r) × (n ≤ k)
-bounded s r w e = (e, rw e (count-within s r w))
-
--- ---- where a byte is missing: the counts of the parts, one after the other
-pub sum-two : (x y : ℕ) {n m z : ℕ} → n ≡ x → m ≡ y → x + y ≡ z → n + m ≡ z
-sum-two x y e f g = omega arith
-
-pub sum-three : (x y z : ℕ) {n m k all : ℕ} → n ≡ x → m ≡ y → k ≡ z → x + y + z ≡ all → n + m + k ≡ all
-sum-three x y z e f g h = omega arith
-
-all-three : (x y z : ℕ) {whole rest last : ℕ} → whole ≡ x + rest → rest ≡ y + last → last ≡ z → x + y + z ≡ whole
-all-three x y z e f g = omega arith
-
-module _ (s : List ℕ) (r : Reader) (a : Announced) where
-  pub segment-none : a .map ≡ false → count (segment a) s r ≡ 0
-  unfolding segment
-  segment-none e = rw e (count-done 0 s r)
-
-  pub segment-some : a .map ≡ true → count (tree (a .«map_probabilities») segTree) s r ≡ count (segment a) s r
-  unfolding segment
-  segment-some e = rw e
-
-  pub skip-none : a .skips ≡ false → count (skip a) s r ≡ 0
-  unfolding skip
-  skip-none e = rw e (count-done false s r)
-
-  pub skip-some : a .skips ≡ true → count (symbol (a .«skip_probability»)) s r ≡ count (skip a) s r
-  unfolding skip
-  skip-some e = rw e
-
-  pub prefix-1 : run (segment a) s r ≡ missing → count (segment a) s r ≡ count (prefix a) s r
-  unfolding prefix
-  prefix-1 e = sym (count-stops _ s (segment a) r e)
-
-  module _ {v : ℕ} {t : Reader} (e : run (segment a) s r ≡ given v t) where
-    pub prefix-2 : run (skip a) s t ≡ missing → count (segment a) s r + count (skip a) s t ≡ count (prefix a) s r
-    unfolding prefix
-    prefix-2 f = sym (count-then _ s (segment a) r e ∙ ap (λ (n : ℕ). count (segment a) s r + n) (count-stops _ s (skip a) t f))
-
-    pub prefix-3 : {b : Bool} {u : Reader} → run (skip a) s t ≡ given b u → count (segment a) s r + count (skip a) s t + count (symbol 145) s u ≡ count (prefix a) s r
-    unfolding prefix
-    prefix-3 {b} {u} f =
-        all-three (count (segment a) s r) (count (skip a) s t) (count (symbol 145) s u) (count-then _ s (segment a) r e) (count-then _ s (skip a) t f) (count-last (λ large. record { segment = v; skip = b; small = not large }) s (symbol 145) u)
-
-module _ (s : List ℕ) (r : Reader) (small : Bool) (above left : List ℕ) where
-  pub luma-small : small ≡ true → count (smallModes above left) s r ≡ count (luma small above left) s r
-  luma-small e = rw e
-
-  pub luma-large : small ≡ false → count (largeMode false) s r ≡ count (luma small above left) s r
-  luma-large e = rw e (sym (count-last (replicate 16) s (largeMode false) r))
-
-module _ (s : List ℕ) (r : Reader) (a : Announced) (above left : List ℕ) where
-  pub modes-1 : run (prefix a) s r ≡ missing → count (prefix a) s r ≡ count (modesOf a above left) s r
-  unfolding modesOf
-  modes-1 e = sym (count-stops _ s (prefix a) r e)
-
-  module _ {p : Prefix} {t : Reader} (e : run (prefix a) s r ≡ given p t) where
-    pub modes-2 : run (luma (p .small) above left) s t ≡ missing → count (prefix a) s r + count (luma (p .small) above left) s t ≡ count (modesOf a above left) s r
-    unfolding modesOf
-    modes-2 f = sym (count-then _ s (prefix a) r e ∙ ap (λ (n : ℕ). count (prefix a) s r + n) (count-stops _ s (luma (p .small) above left) t f))
-
-    pub modes-3 : {l : List ℕ} {u : Reader} → run (luma (p .small) above left) s t ≡ given l u → count (prefix a) s r + count (luma (p .small) above left) s t + count (largeMode true) s u ≡ count (modesOf a above left) s r
-    unfolding modesOf
-    modes-3 {l} {u} f =
-        all-three (count (prefix a) s r) (count (luma (p .small) above left) s t) (count (largeMode true) s u) (count-then _ s (prefix a) r e) (count-then _ s (luma (p .small) above left) t f) (count-last (λ chroma. record { segment = p .segment; skip = p .skip; small = p .small; modes = l; chroma = chroma }) s (largeMode true) u)
-
--- the sixteen small modes, one after the other
-module _ (n i : ℕ) (above left modes s : List ℕ) (r : Reader) where
-  pub small-next : {m : ℕ} {q : Reader} → run (blockMode (modeAbove above modes i) (modeLeft left modes i)) s r ≡ given m q → count (blockMode (modeAbove above modes i) (modeLeft left modes i)) s r + count (smallFrom n (i + 1) above left (set modes i m)) s q ≡ count (smallFrom (suc n) i above left modes) s r
-  unfolding smallFrom
-  small-next e = sym (count-then _ s (blockMode (modeAbove above modes i) (modeLeft left modes i)) r e)
-
-  pub small-missing : run (blockMode (modeAbove above modes i) (modeLeft left modes i)) s r ≡ missing → count (blockMode (modeAbove above modes i) (modeLeft left modes i)) s r ≡ count (smallFrom (suc n) i above left modes) s r
-  unfolding smallFrom
-  small-missing e = sym (count-stops _ s (blockMode (modeAbove above modes i) (modeLeft left modes i)) r e)
-
-pub small-none : (i : ℕ) (above left modes s : List ℕ) (r : Reader) → count (smallFrom 0 i above left modes) s r ≡ 0
-unfolding smallFrom
-small-none i above left modes s r = count-done modes s r
 
 -- no mode stands deeper than seven, no chroma mode deeper than three
 pub depth-bounded : (v : ℕ) {l : List ℕ} {n : ℕ} → l ≡ smallDepths → n ≡ getD l v 0 → (n ≡ getD smallDepths v 0) × (n ≤ 7)

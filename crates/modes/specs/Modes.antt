@@ -1,6 +1,6 @@
 -- The modes of a macroblock as grammars, in the order of RFC 6386, section 19.3, 7239-7272. Large modes are 0 DC, 1 TM, 2 V, 3 H; small modes
 -- 0 DC, 1 TM, 2 VE, 3 HE, 4 RD, 5 VR, 6 LD, 7 VL, 8 HD, 9 HU. So a large mode is also the small mode that its neighbours see.
-use Prim.Native.Nat.{ℕ, zero, suc, _+_, _-_, _/_, _%_}
+use Prim.Native.Nat.{ℕ, zero, suc, _+_, _-_, _/_, _%_, _<_}
 use mathlib.Core.List.{List, [], _∷_}
 use mathlib.Core.Bool.{Bool, true, false, not}
 use lib.ListN.{getD, set, replicate}
@@ -74,6 +74,10 @@ modeAbove above modes i = elim (ltb i 4) [ true ↦ getD above i 0 | false ↦ g
 -- left of block i: the macroblock's neighbour at the left edge, else the mode before it
 unfoldable pub modeLeft : List ℕ → List ℕ → ℕ → ℕ
 modeLeft left modes i = elim (eqb (i % 4) 0) [ true ↦ getD left (i / 4) 0 | false ↦ getD modes (i - 1) 0 ]
+
+-- every one a mode; past the end `getD` gives 0, so no index has to be within the list
+abbrev pub Modes : List ℕ → Type 0
+Modes l = (j : ℕ) → getD l j 0 < 10
 
 -- n more small modes, from block i on
 unfoldable pub smallFrom : ℕ → ℕ → List ℕ → List ℕ → List ℕ → Reading (List ℕ)

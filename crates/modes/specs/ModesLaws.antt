@@ -1,35 +1,28 @@
 -- The laws of the modes' grammars: what code and callers cite.
 use Prim.Native.Nat.{ℕ, zero, suc, _+_, _-_, _*_, _/_, _%_, _≤_, _<_}
-use mathlib.Core.Path.{_≡_, refl, sym, _∙_, ap}
+use mathlib.Core.Path.{_≡_, refl, _∙_}
 use mathlib.Core.Logic.{⊎-elim}
 use mathlib.Core.List.{List, [], _∷_}
-use mathlib.Core.Bool.{Bool, true, false, not}
+use mathlib.Core.Bool.{Bool, true, false}
 use native.Mathlib.Omega.{arith}
 use lib.ListN.{length, getD, set, length-set, replicate}
-use lib.Seq.{ext-getD, getD-set-same, getD-set-other}
 use lib.IntN.{ℤ}
 use lib.Dec.{ltb, lit<, lit≤}
 use borrow.Author.Tests.{ltb-true, lt-ltb, le-ltb, eq-eqb, ne-eqb}
 use Rattle.numbers.specs.Tests.{lt-or, eq-or, never, both-left, both-right, both-true}
 use Rattle.numbers.specs.Lists.{set-keeps}
 use Rattle.numbers.specs.Tables.{allAt, all-of, all-of-any}
-use Rattle.reader.specs.declared.boolean.Reader.{Reader}
-use Rattle.reader.specs.Boolean.{given, missing}
 use Rattle.reader.specs.BooleanLaws.{Bytes}
-use Rattle.reader.specs.Reading.{Reading, done, _>>=_, symbol, run, Within, ends, depth}
-use Rattle.reader.specs.ReadingLaws.{run-done, run-then, run-stops, within-bind, within-more, within-symbol, within-depth}
+use Rattle.reader.specs.Reading.{Reading, Within, ends}
+use Rattle.reader.specs.ReadingLaws.{within-bind, within-more, within-symbol}
 use Rattle.header.specs.declared.frame.Announced.{Announced}
 use Rattle.header.specs.FrameLaws.{Probabilities}
 use Rattle.reader.specs.TreesLaws.{leavesReached, walk-below}
 use Rattle.modes.specs.declared.answers.Prefix.{Prefix}
 use Rattle.modes.specs.Table.{probabilities}
 use Rattle.modes.specs.TableLaws.{probabilities-bytes}
-use Rattle.modes.specs.Modes.{segTree, yTree, uvTree, bTree, tree, optional, segment, skip, prefix, largeMode, blockMode, modeAbove, modeLeft, smallFrom, zeros, smallModes, luma, Macroblock, modesOf, bottomOf, rightOf}
+use Rattle.modes.specs.Modes.{Modes, segTree, yTree, uvTree, bTree, tree, optional, segment, skip, prefix, largeMode, blockMode, modeAbove, modeLeft, smallFrom, zeros, smallModes, luma, Macroblock, modesOf, bottomOf, rightOf}
 use Rattle.modes.specs.Answers.{eachBelow, contextsOf}
-
--- every one a mode; past the end `getD` gives 0, so no index has to be within the list
-abbrev pub Modes : List ℕ → Type 0
-Modes l = (j : ℕ) → getD l j 0 < 10
 
 pub each-fact : (m : ℕ) (l : List ℕ) → 0 < m → eachBelow m l ≡ true → (j : ℕ) → getD l j 0 < m
 each-fact m l h e j = ltb-true (getD l j 0) m (all-of-any (λ x. ltb x m) l 0 (lt-ltb 0 m h) e j)
@@ -96,39 +89,6 @@ module _ (a : Announced) (y : Probabilities a) where
       within-bind {k = 1} skip-within (λ b t.
       within-bind {k = 0} (within-symbol (lit< tt)) (λ d t. ends l)))
 
-module _ (s : List ℕ) (r : Reader) (a : Announced) where
-  pub segment-none : a .map ≡ false → run (segment a) s r ≡ given 0 r
-  unfolding segment
-  segment-none e = rw e (run-done 0 s r)
-
-  pub segment-some : a .map ≡ true → run (tree (a .«map_probabilities») segTree) s r ≡ run (segment a) s r
-  unfolding segment
-  segment-some e = rw e
-
-  pub skip-none : a .skips ≡ false → run (skip a) s r ≡ given false r
-  unfolding skip
-  skip-none e = rw e (run-done false s r)
-
-  pub skip-some : a .skips ≡ true → run (symbol (a .«skip_probability»)) s r ≡ run (skip a) s r
-  unfolding skip
-  skip-some e = rw e
-
-  pub prefix-1 : run (segment a) s r ≡ missing → run (prefix a) s r ≡ missing
-  unfolding prefix
-  prefix-1 e = run-stops _ s (segment a) r e
-
-  pub prefix-2 : {v : ℕ} {t : Reader} → run (segment a) s r ≡ given v t → run (skip a) s t ≡ missing → run (prefix a) s r ≡ missing
-  unfolding prefix
-  prefix-2 {t} e f = run-then _ s (segment a) r e ∙ run-stops _ s (skip a) t f
-
-  pub prefix-3 : {v : ℕ} {b : Bool} {t u : Reader} → run (segment a) s r ≡ given v t → run (skip a) s t ≡ given b u → run (symbol 145) s u ≡ missing → run (prefix a) s r ≡ missing
-  unfolding prefix
-  prefix-3 {t} {u} e f g = run-then _ s (segment a) r e ∙ run-then _ s (skip a) t f ∙ run-stops _ s (symbol 145) u g
-
-  pub prefix-4 : {v : ℕ} {b d : Bool} {t u q : Reader} → run (segment a) s r ≡ given v t → run (skip a) s t ≡ given b u → run (symbol 145) s u ≡ given d q → run (prefix a) s r ≡ given (record { segment = v; skip = b; small = not d }) q
-  unfolding prefix
-  prefix-4 {t} {u} {q} e f g = run-then _ s (segment a) r e ∙ run-then _ s (skip a) t f ∙ run-then _ s (symbol 145) u g ∙ run-done _ s q
-
 -- ---- large and small modes
 pub large-within : (chroma : Bool) → Within (λ v. v < 4) 3 (largeMode chroma)
 large-within true = walk-below 3 32 4 (142 ∷ 114 ∷ 183 ∷ []) uvTree 0 (lit≤ tt) (list-bytes (142 ∷ 114 ∷ 183 ∷ []) refl) refl
@@ -167,42 +127,6 @@ set-modes l i v h m = set-keeps (λ x. x < 10) l i v 0 h m
 pub zeros-modes : Modes zeros
 zeros-modes = each-fact 10 zeros (lit< tt) refl
 
-module _ (n i : ℕ) (above left modes s : List ℕ) (r : Reader) where
-  pub small-next : {m : ℕ} {q : Reader} → run (blockMode (modeAbove above modes i) (modeLeft left modes i)) s r ≡ given m q → run (smallFrom (suc n) i above left modes) s r ≡ run (smallFrom n (i + 1) above left (set modes i m)) s q
-  unfolding smallFrom
-  small-next e = run-then _ s (blockMode (modeAbove above modes i) (modeLeft left modes i)) r e
-
-  pub small-missing : run (blockMode (modeAbove above modes i) (modeLeft left modes i)) s r ≡ missing → run (smallFrom (suc n) i above left modes) s r ≡ missing
-  unfolding smallFrom
-  small-missing e = run-stops _ s (blockMode (modeAbove above modes i) (modeLeft left modes i)) r e
-
-pub small-none : (i : ℕ) (above left modes s : List ℕ) (r : Reader) → run (smallFrom 0 i above left modes) s r ≡ given modes r
-unfolding smallFrom
-small-none i above left modes s r = run-done modes s r
-
--- what the list holds from block i on does not matter: each place is set before it is read
-small-same : (n i : ℕ) (above left l l′ : List ℕ) → i + n ≡ 16 → length l ≡ 16 → length l′ ≡ 16 → ((j : ℕ) → j < i → getD l j 0 ≡ getD l′ j 0) → smallFrom n i above left l ≡ smallFrom n i above left l′
-unfolding smallFrom
-small-same zero i above left l l′ e p q h = ap done (ext-getD 0 l l′ (p ∙ sym q) (λ j k. h j (omega arith)))
-small-same (suc n) i above left l l′ e p q h =
-    λ k. blockMode (up k) (by k) >>= (λ m. small-same n (i + 1) above left (set l i m) (set l′ i m) (omega arith) (length-set l i m ∙ p) (length-set l′ i m ∙ q) (set-same m) k)
-  where
-    up : modeAbove above l i ≡ modeAbove above l′ i
-    up = ⊎-elim (λ g. sym (above-first above l i g) ∙ above-first above l′ i g) (λ g. sym (above-later above l i g) ∙ h (i - 4) (omega arith) ∙ above-later above l′ i g) (lt-or i 4)
-
-    by : modeLeft left l i ≡ modeLeft left l′ i
-    by = ⊎-elim (λ g. sym (left-first left l i g) ∙ left-first left l′ i g) (λ g. sym (left-later left l i g) ∙ h (i - 1) (omega arith) ∙ left-later left l′ i g) (eq-or (i % 4) 0)
-
-    set-same : (m j : ℕ) → j < i + 1 → getD (set l i m) j 0 ≡ getD (set l′ i m) j 0
-    set-same m j g = ⊎-elim
-        (λ (z : j ≡ i). rw z (getD-set-same l i m 0 (omega arith) ∙ sym (getD-set-same l′ i m 0 (omega arith))))
-        (λ z. getD-set-other l i j m 0 z ∙ h j (omega arith) ∙ sym (getD-set-other l′ i j m 0 z))
-        (eq-or j i)
-
-pub small-any : (above left l : List ℕ) → length l ≡ 16 → smallFrom 16 0 above left l ≡ smallModes above left
-unfolding smallModes
-small-any above left l e = small-same 16 0 above left l zeros refl e refl (λ j h. absurd (omega arith))
-
 -- sixteen modes; where they are not small, one large mode for all
 pub record Luma (small : Bool) (l : List ℕ) : Type 0 where
   pub sixteen : length l ≡ 16
@@ -225,16 +149,6 @@ luma-within false above left =
     within-more {n = 3} (omega arith)
     (within-bind {k = 0} (large-within false) (λ m h. ends (record { sixteen = refl; each = each-fact 10 (replicate 16 m) (lit< tt) (rw (lt-ltb m 10 (omega arith))); large = λ f. (refl, h) })))
 
-module _ (s : List ℕ) (r : Reader) (small : Bool) (above left : List ℕ) where
-  pub luma-small : small ≡ true → run (smallModes above left) s r ≡ run (luma small above left) s r
-  luma-small e = rw e
-
-  pub luma-missing : small ≡ false → run (largeMode false) s r ≡ missing → run (luma small above left) s r ≡ missing
-  luma-missing e f = rw e (run-stops _ s (largeMode false) r f)
-
-  pub luma-large : small ≡ false → {m : ℕ} {q : Reader} → run (largeMode false) s r ≡ given m q → run (luma small above left) s r ≡ given (replicate 16 m) q
-  luma-large e {m} {q} f = rw e (run-then _ s (largeMode false) r f ∙ run-done (replicate 16 m) s q)
-
 -- ---- a macroblock: every value in range, and at most 119 symbols
 pub record InRange (m : Macroblock) : Type 0 where
   pub segment : m .segment < 4
@@ -247,27 +161,6 @@ modes-within a y above left =
     within-bind {k = 115} (prefix-within a y) (λ p i.
     within-bind {k = 3} (luma-within (p .small) above left) (λ l b.
     within-bind {k = 0} (large-within true) (λ c d. ends (record { segment = i; luma = b; chroma = d }))))
-
-pub modes-depth : (a : Announced) → Probabilities a → (above left : List ℕ) → depth (modesOf a above left) ≤ 119
-modes-depth a y above left = within-depth (modes-within a y above left)
-
-module _ (s : List ℕ) (r : Reader) (a : Announced) (above left : List ℕ) where
-  pub modes-1 : run (prefix a) s r ≡ missing → run (modesOf a above left) s r ≡ missing
-  unfolding modesOf
-  modes-1 e = run-stops _ s (prefix a) r e
-
-  module _ {p : Prefix} {t : Reader} (e : run (prefix a) s r ≡ given p t) where
-    pub modes-2 : run (luma (p .small) above left) s t ≡ missing → run (modesOf a above left) s r ≡ missing
-    unfolding modesOf
-    modes-2 f = run-then _ s (prefix a) r e ∙ run-stops _ s (luma (p .small) above left) t f
-
-    pub modes-3 : {l : List ℕ} {u : Reader} → run (luma (p .small) above left) s t ≡ given l u → run (largeMode true) s u ≡ missing → run (modesOf a above left) s r ≡ missing
-    unfolding modesOf
-    modes-3 {u} f g = run-then _ s (prefix a) r e ∙ run-then _ s (luma (p .small) above left) t f ∙ run-stops _ s (largeMode true) u g
-
-    pub modes-4 : {l : List ℕ} {c : ℕ} {u q : Reader} → run (luma (p .small) above left) s t ≡ given l u → run (largeMode true) s u ≡ given c q → run (modesOf a above left) s r ≡ given (record { segment = p .segment; skip = p .skip; small = p .small; modes = l; chroma = c }) q
-    unfolding modesOf
-    modes-4 {u} {q} f g = run-then _ s (prefix a) r e ∙ run-then _ s (luma (p .small) above left) t f ∙ run-then _ s (largeMode true) u g ∙ run-done _ s q
 
 -- ---- what a macroblock leaves to its neighbours are modes again
 four-modes : (a b c d : ℕ) → a < 10 → b < 10 → c < 10 → d < 10 → Modes (a ∷ b ∷ c ∷ d ∷ [])

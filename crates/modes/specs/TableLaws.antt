@@ -12,7 +12,7 @@ use borrow.Author.Tests.{ltb-true, leb-true}
 use Rattle.numbers.specs.Tests.{lt-or, both-left, both-right}
 use Rattle.numbers.specs.Tables.{allOf, all-of, all-of-any, permuted, permuted-at}
 use Rattle.reader.specs.BooleanLaws.{Bytes}
-use Rattle.modes.specs.Table.{rfcNumbers, rfcOf, rfcPlace, rfcTable, probabilities}
+use Rattle.modes.specs.Table.{rfcNumbers, rfcOf, rfcPlace, rfcTable, probabilities, Renumbered}
 
 rfc-length : length rfcTable ≡ 900
 unfolding rfcTable
@@ -34,11 +34,6 @@ entry-in : (i : ℕ) → i < 900 → (1 ≤ getD rfcTable i 0) × (getD rfcTable
 entry-in i h =
     let e = all-of (λ x. leb 1 x && ltb x 256) rfcTable 0 rfc-entries i (rw rfc-length h) in
     (leb-true 1 (getD rfcTable i 0) (both-left _ _ e), ltb-true (getD rfcTable i 0) 256 (both-right (leb 1 (getD rfcTable i 0)) _ e))
-
--- the test of a whole table: each of its 900 numbers is the RFC's, with both modes renumbered
-pub record Renumbered (t : List ℕ) : Type 0 where
-  pub same : permuted t rfcTable rfcPlace ≡ true
-  pub long : length t ≡ 900
 
 module _ (above left : ℕ) where
   pub probabilities-length : length (probabilities above left) ≡ 9

@@ -1,5 +1,7 @@
-// What the calls that read modes answer. Missing: a byte was. Refused: an argument is out of range.
+// What the calls that read modes answer. Missing: a byte was. Refused: an argument is out of range. What ends in Read says beside it how
+// many symbols were read; where one is missing, those before it.
 use reader::boolean::Reader;
+use reader::boolean::Symbol;
 
 // What stands before a macroblock's modes; small where its luma modes are sixteen small ones.
 pub struct Prefix {
@@ -51,8 +53,28 @@ pub struct Staged {
     pub modes: [u8; 16],
 }
 
-// An answer, and how many symbols were read.
 pub struct ModesRead {
     pub answer: Stage,
+    pub reads: u64,
+}
+
+pub(crate) struct SymbolRead {
+    pub answer: Symbol,
+    pub reads: u64,
+}
+
+pub(crate) struct ModeRead {
+    pub answer: Mode,
+    pub reads: u64,
+}
+
+pub(crate) struct PrefixRead {
+    pub answer: Headed,
+    pub reads: u64,
+}
+
+pub(crate) struct LumaRead {
+    pub answer: Next,
+    pub modes: [u8; 16],
     pub reads: u64,
 }

@@ -17,10 +17,9 @@ ghost use lib.ListN.{length};
 ghost use Rattle.reader.specs.BooleanLaws.{Bytes};
 ghost use Rattle.reader.specs.Trees.{walk};
 ghost use Rattle.wide.specs.WideRuns.{WideReads};
-ghost use Rattle.modes.specs.Modes.{bTree, tree, segment, skip, prefix, largeMode, blockMode, smallModes, luma, modesOf};
+ghost use Rattle.modes.specs.Modes.{Modes, bTree, tree, segment, skip, prefix, largeMode, blockMode, smallModes, luma, modesOf};
 ghost use Rattle.modes.specs.Answers.{macroblockOf};
-ghost use Rattle.modes.specs.ModesLaws.{Modes};
-ghost use Rattle.modes.specs.TableLaws.{Renumbered};
+ghost use Rattle.modes.specs.Table.{Renumbered};
 ghost use Rattle.modes.specs.Quick.{lastOf, forkOf};
 
 // A mode or a segment, and the reader after it.
@@ -146,7 +145,8 @@ fn chroma(s: &[u8], w: Wide) -> Coded
     last(y, 183, 3, 1)
 }
 
-// The tree of small modes by tests, as src/small.rt walks it. From node 4, with fifteen bits loaded: HE, RD, VR.
+// The tree of small modes by tests, not by its entries, since there are sixteen walks a macroblock. From node 4, with fifteen bits
+// loaded: HE, RD, VR.
 fn across(w: Wide, probs: &[u8]) -> Coded
     requires { ⌜ length (now probs) ≡ 9 ⌝ }
     ensures { λ q. ⌜ ((s : List ℕ) → Bytes s → WideReads s 15 0 (walk 28 (now (probs .entry)) bTree 4) w (q .mode) (q .next))

@@ -1,14 +1,13 @@
--- Laws of clamping: the result lies in the range, a number of the range stays, the ends, and the order.
-use mathlib.Core.Path.{_≡_, refl, sym, ap, subst, _∙_}
+-- Laws of clamping: the result lies in the range, a number of the range stays, and the ends.
+use mathlib.Core.Path.{_≡_, refl, ap, _∙_}
 use mathlib.Core.Bool.{true, false, cond}
-use Prim.Native.Nat.{ℕ, zero, suc, _≤_}
+use Prim.Native.Nat.{ℕ, _≤_}
 use native.Mathlib.Omega.{arith}
-use native.Mathlib.Nat.{zero-add}
-use lib.IntN.{ℤ, pos, negsuc, natAbs, _-ℤ_}
+use lib.IntN.{ℤ, pos, negsuc, natAbs}
 use lib.Signed.{_≤ℤ_, ltZ, ≤ℤ-refl, yes-nonNeg, pos-natAbs}
 use Rattle.numbers.specs.Tests.{cond-at}
 use Rattle.numbers.specs.In.{In}
-use Rattle.numbers.specs.Parts.{up, to-le, of-le, of-eq, lt-parts, nlt-le, ≤ℤ-trans}
+use Rattle.numbers.specs.Parts.{up, to-le, of-le, of-eq, lt-parts, nlt-le}
 use Rattle.numbers.specs.Hand.{unsigned-below}
 use Rattle.numbers.specs.Clamp.{clampZ, upTo, signedTo}
 
@@ -47,13 +46,6 @@ clamp-high {lo} {hi} {v} l h =
     clamp-cases lo hi v (λ (z : ℤ). z ≡ hi) (λ e. of-eq (omega (arith, to-le l, to-le h, lt-parts v lo e))) (λ e f. refl)
     (λ e f. of-eq (omega (arith, to-le h, to-le (nlt-le hi v f))))
 
--- the order stays
-pub clamp-mono : {lo hi a b : ℤ} → lo ≤ℤ hi → a ≤ℤ b → clampZ lo hi a ≤ℤ clampZ lo hi b
-clamp-mono {lo} {hi} {a} {b} l h =
-    clamp-cases lo hi a (λ (z : ℤ). z ≤ℤ clampZ lo hi b) (λ e. clamp-in l b .low)
-    (λ e f. subst (λ (z : ℤ). hi ≤ℤ z) (sym (clamp-high l (of-le (omega (arith, to-le h, lt-parts hi a f))))) (≤ℤ-refl hi))
-    (λ e f. clamp-cases lo hi b (λ (z : ℤ). a ≤ℤ z) (λ g. of-le (omega (arith, to-le h, to-le (nlt-le a lo e), lt-parts b lo g))) (λ g k. nlt-le hi a f) (λ g k. h))
-
 -- ---- as a natural number: it is the clamped one, lies in 0..top, and stays where it lay there
 natural : (top : ℕ) → pos 0 ≤ℤ pos top
 natural top = of-le (omega arith)
@@ -76,16 +68,5 @@ pub upTo-same : {n top : ℕ} → n ≤ top → upTo top (pos n) ≡ n
 upTo-same {n} {top} h = ap up (upTo-is top (pos n) ∙ clamp-same (unsigned-below h))
 
 -- ---- as a signed number
--- the low end, as the code computes it
-pub low-end : (top : ℕ) → negsuc 0 -ℤ pos top ≡ negsuc top
-low-end zero = refl
-low-end (suc t) = ap negsuc (ap suc (zero-add t))
-
 pub signed-in : (top : ℕ) (v : ℤ) → In (negsuc top) (pos top) (signedTo top v)
 signed-in top v = clamp-in (of-le (omega arith)) v
-
--- the same for a byte's top, between numerals
-pub signed-byte-in : (top : ℕ) (v : ℤ) → top ≤ 255 → In (negsuc 255) (pos 255) (signedTo top v)
-signed-byte-in top v h =
-    let i = signed-in top v in
-    record { low = ≤ℤ-trans (of-le (omega arith)) (i .low); high = ≤ℤ-trans (i .high) (of-le (omega arith)) }

@@ -67,10 +67,6 @@ unsigned-asks {w} {t} {z} {l} {h} k b =
     subst (λ (x : ℤ). T (nonNeg x) × Fits w (natAbs x)) (sym (k .eq))
     (yes-nonNeg n, record { fits = nat-fits (natAbs z) (2 ^ bits w) h u (and-r (leZ (pos 0) l) (ltZ h (pos (2 ^ bits w))) b) })
 
-pub unsigned-is : {t z l h : ℤ} → Know t z l h → T (leZ (pos 0) l) → pos (natAbs t) ≡ z
-unsigned-is {t} {z} {l} {h} k b =
-    subst (λ (x : ℤ). pos (natAbs x) ≡ z) (sym (k .eq)) (pos-natAbs z (yes-nonNeg (≤ℤ-trans (leZ-yes b) (k .low))))
-
 -- numbers of the same bits are equal: what `==` on signed numbers says
 pub same-bits : (w : Width) {a b : ℤ} → SFits w a → SFits w b → ofZ w a ≡ ofZ w b → a ≡ b
 same-bits w {a} {b} f g e = sym (toZ-ofZ w a f) ∙ ap (toZ w) e ∙ toZ-ofZ w b g

@@ -2,10 +2,10 @@
 use mathlib.Core.Path.{_≡_, sym, ap₂, subst, _∙_}
 use mathlib.Core.Bool.{Bool, true, false, _&&_}
 use native.Mathlib.Omega.{arith}
-use lib.IntN.{ℤ, pos, _+ℤ_, _-ℤ_}
+use lib.IntN.{ℤ, pos, _-ℤ_}
 use lib.Signed.{leZ, ltZ}
 use Rattle.numbers.specs.Tests.{both-left, both-right}
-use Rattle.numbers.specs.Parts.{to-le, of-le, ≤ℤ-trans, lt-parts, nlt-le, true-le, nle-parts, add-parts, sub-parts-ℤ}
+use Rattle.numbers.specs.Parts.{to-le, of-le, ≤ℤ-trans, lt-parts, nlt-le, true-le, sub-parts-ℤ}
 use Rattle.numbers.specs.Know.{Know, num}
 
 -- ---- what it says of the numbers
@@ -22,9 +22,6 @@ module _ {t z l h t′ z′ l′ h′ : ℤ} (k : Know t z l h) (k′ : Know t�
   pub lt-left : ltZ t t′ ≡ true → Know t z l (h′ -ℤ pos 1)
   lt-left e = record { eq = k .eq; low = k .low; high = of-le (omega (arith, lt-parts z z′ (lt-is k k′ e), to-le (k′ .high), sub-parts-ℤ h′ (pos 1))) }
 
-  pub lt-right : ltZ t t′ ≡ true → Know t′ z′ (l +ℤ pos 1) h′
-  lt-right e = record { eq = k′ .eq; low = of-le (omega (arith, lt-parts z z′ (lt-is k k′ e), to-le (k .low), add-parts l (pos 1))); high = k′ .high }
-
   -- t < t′ failed
   pub ge-left : ltZ t t′ ≡ false → Know t z l′ h
   ge-left e = record { eq = k .eq; low = ≤ℤ-trans (k′ .low) (nlt-le z z′ (lt-is k k′ e)); high = k .high }
@@ -38,12 +35,6 @@ module _ {t z l h t′ z′ l′ h′ : ℤ} (k : Know t z l h) (k′ : Know t�
 
   pub le-right : leZ t t′ ≡ true → Know t′ z′ l h′
   le-right e = record { eq = k′ .eq; low = ≤ℤ-trans (k .low) (true-le z z′ (le-is k k′ e)); high = k′ .high }
-
-  pub gt-left : leZ t t′ ≡ false → Know t z (l′ +ℤ pos 1) h
-  gt-left e = record { eq = k .eq; low = of-le (omega (arith, nle-parts z z′ (le-is k k′ e), to-le (k′ .low), add-parts l′ (pos 1))); high = k .high }
-
-  pub gt-right : leZ t t′ ≡ false → Know t′ z′ l′ (h -ℤ pos 1)
-  gt-right e = record { eq = k′ .eq; low = k′ .low; high = of-le (omega (arith, nle-parts z z′ (le-is k k′ e), to-le (k .high), sub-parts-ℤ h (pos 1))) }
 
 -- ---- a test that a number lies in a range, both ends in
 module _ {t z l h : ℤ} (lo hi : ℤ) (k : Know t z l h) where

@@ -7,7 +7,7 @@ use native.Mathlib.Decide.{ℕ-discrete}
 use native.Mathlib.Numerals.{add-one}
 use native.Mathlib.Omega.{arith}
 use lib.ListN.{length, getD, set, length-set}
-use lib.Seq.{getD-set-same, getD-set-other}
+use lib.Seq.{set-getD, getD-set-same, getD-set-other}
 use Rattle.numbers.specs.Lists.{set-keeps}
 
 -- p with f 0, f 1, .. f (n - 1) at the place `at` and after
@@ -66,6 +66,12 @@ module _ {ℓ} {A : Type ℓ} where
   placed-keeps P p at f zero d h k = h
   placed-keeps P p at f (suc n) d h k = set-keeps P (placed p at f n) (at + n) (f n) d (k n) (placed-keeps P p at f n d h k)
 
+  -- what stands there already
+  pub placed-self : (p : List A) (d : A) (at n : ℕ) → placed p at (λ k. getD p (at + k) d) n ≡ p
+  unfolding placed
+  placed-self p d at zero = refl
+  placed-self p d at (suc n) = rw (placed-self p d at n) (set-getD p (at + n) d)
+
   -- two rules that agree below n place the same
   pub placed-same : (p : List A) (at : ℕ) (f g : ℕ → A) (n : ℕ) → ((i : ℕ) → i < n → f i ≡ g i) → placed p at f n ≡ placed p at g n
   unfolding placed
@@ -74,6 +80,10 @@ module _ {ℓ} {A : Type ℓ} where
       ap₂ (λ (l : List A) (x : A). set l (at + n) x) (placed-same p at f g n (λ i k. h i (omega arith))) (h n (omega arith))
 
 -- ---- the same of a copy
+pub copied-placed : (p : List ℕ) (at : ℕ) (b : List ℕ) (from n : ℕ) → copied p at b from n ≡ placed p at (λ j. getD b (from + j) 0) n
+unfolding copied
+copied-placed p at b from n = refl
+
 pub copied-none : (p : List ℕ) (at : ℕ) (b : List ℕ) (from : ℕ) → copied p at b from 0 ≡ p
 unfolding copied
 copied-none p at b from = placed-none p at (λ j. getD b (from + j) 0)

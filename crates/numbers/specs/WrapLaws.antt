@@ -4,7 +4,7 @@ use Prim.Native.Nat.{ℕ}
 use native.Mathlib.Omega.{arith}
 use native.Mathlib.Nat.{mod-add-div}
 use lib.Dec.{lit<}
-use lib.IntN.{ℤ, pos, negsuc, _+ℤ_, _-ℤ_, _*ℤ_, +ℤ-idr, +ℤ-negℤ-cancel, -ℤ-+ℤ-cancel}
+use lib.IntN.{ℤ, pos, negsuc, _+ℤ_, _-ℤ_, _*ℤ_, +ℤ-idr, +ℤ-negℤ-cancel}
 use lib.Signed.{_≤ℤ_, ltZ, shrZ, quotZ, remZ}
 use Rattle.numbers.specs.declared.Wrapped.the-variants.{Value, Refused}
 use Rattle.numbers.specs.Tests.{cond-at}
@@ -13,12 +13,7 @@ use Rattle.numbers.specs.Parts.{up, dn, to-le, of-le, of-eq, lt-parts, n
 use Rattle.numbers.specs.Order.{rem-low, rem-high}
 use Rattle.numbers.specs.Floor.{floor-in, floor-is}
 pub use Rattle.numbers.specs.Wrap.{signed16}
-use Rattle.numbers.specs.Wrap.{wrapTurns, wrapZ, wrap16Of}
-
--- what is taken off is a multiple of 65536
-pub wrap-differs : (v : ℤ) → wrapZ v +ℤ pos 65536 *ℤ wrapTurns v ≡ v
-unfolding wrapZ
-wrap-differs v = -ℤ-+ℤ-cancel v (pos 65536 *ℤ wrapTurns v)
+use Rattle.numbers.specs.Wrap.{wrapZ, wrap16Of}
 
 -- the rest lies in 16 bits
 pub wrap-in : (v : ℤ) → In (negsuc 32767) (pos 32767) (wrapZ v)

@@ -1,7 +1,7 @@
 // Small functions on numbers that several crates need, and the laws that their proofs cite. All laws stand in specs/, one topic a file;
 // another crate's specs and proofs cite them as `Rattle.numbers.specs.FILE.{NAMES}`.
 ghost use mathlib.Core.Path.{_≡_};
-ghost use Rattle.numbers.specs.Clamp.{clampZ, upTo, clipZ, signedTo, signedByteZ};
+ghost use Rattle.numbers.specs.Clamp.{clampZ, upTo};
 ghost use Rattle.numbers.specs.Wrap.{wrap16Of};
 
 // Whether a call did its work, or refused an argument out of range (9) and left everything as it was.
@@ -50,25 +50,4 @@ pub fn clamp_to(v: i32, top: u8) -> u8
     ensures { λ r. ⌜ r ≡ upTo top v ⌝ }
 {
     clamp(v, 0, top as i32) as u8
-}
-
-// v as a sample, 0..=255.
-pub fn clip(v: i32) -> u8
-    ensures { λ r. ⌜ r ≡ clipZ v ⌝ }
-{
-    clamp_to(v, 255)
-}
-
-// v in -(top + 1)..=top.
-pub fn signed_to(v: i32, top: u8) -> i32
-    ensures { λ r. ⌜ r ≡ signedTo top v ⌝ }
-{
-    clamp(v, -1 - top as i32, top as i32)
-}
-
-// v as a signed byte, -128..=127.
-pub fn signed_byte(v: i32) -> i32
-    ensures { λ r. ⌜ r ≡ signedByteZ v ⌝ }
-{
-    signed_to(v, 127)
 }

@@ -16,7 +16,7 @@ use Rattle.lent.specs.declared.sizes.Sizes.{Sizes}
 use Rattle.lent.specs.Records.{Form, packed}
 use Rattle.lent.specs.Sizes.{sizesFine, Sized}
 
--- what the picture call is given besides the lent memory, and the form that its column memory has
+-- what the picture call is given besides memory, and the form of its columns
 pub record Call : Type 0 where
   pub bytes : List ℕ
   pub tile : Tile
@@ -36,6 +36,7 @@ unfoldable pub lengthsOf : Call → Sizes → Bool
 lengthsOf c z = sizesFine (c .form) (c .tile .width) (c .tile .height) z && eqb (length (c .header)) entryCount
 
 -- ---- 3 and 4 as facts
+-- 3: every entry lies in -255..255
 abbrev pub Bounded : List ℤ → Type 0
 Bounded = Each (negsuc 254) (pos 255)
 

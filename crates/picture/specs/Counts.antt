@@ -15,7 +15,7 @@ use Rattle.picture.specs.Picture.{Picture, State, columnOf, partitionOf,
 abbrev pub plus : SymbolCounts → SymbolCounts → SymbolCounts
 plus a b = record { first = a .first + b .first; tokens = a .tokens + b .tokens }
 
--- macroblock k
+-- the symbols that macroblock k reads
 unfoldable pub readsAt : Picture → ℕ → State → SymbolCounts
 readsAt P k S =
     let q = partitionOf P k in

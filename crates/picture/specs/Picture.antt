@@ -97,7 +97,7 @@ planesIn m = planesOf (m .y) (m .u) (m .v)
 abbrev pub placeOf : Picture → ℕ → Place
 placeOf P k = record { column = columnOf P k; row = rowOf P k; width = P .wide * 16 }
 
--- the two readers that it finds: the first partition's, and its token partition's
+-- its two readers: the first partition's and its token partition's
 abbrev pub readersAt : State → (q : ℕ) → Readers
 readersAt S q = record { first = S .reader; token = getD (S .readers) q noReader }
 
@@ -167,7 +167,7 @@ pictureOf c m =
       | suc n ↦ record { answer = D.Refused (suc n); mem = m }
     ]
 
--- ---- the answer as a number and the macroblocks finished
+-- ---- the answer as a number
 abbrev pub numberOf : Decoded → ℕ
 numberOf (D.Whole k) = 0
 numberOf (D.Refused n) = n

@@ -1,5 +1,6 @@
 -- Planes: prediction, painting.
 pub mod Predict
+pub mod Pieces
 pub mod PredictLaws
 pub mod Paint
 -- where squares and sub-blocks lie

@@ -13,7 +13,7 @@ use Rattle.numbers.specs.Runs.{placed, copied}
 use Rattle.numbers.specs.Tables.{allBelow}
 use Rattle.transform.specs.Transform.{samplesOf, fits16}
 use Rattle.transform.specs.Lanes.{byBlocks, knownLength}
-use Rattle.planes.specs.declared.predict.Edge.{Edge}
+use Rattle.planes.specs.declared.edges.Border.{Border}
 use Rattle.numbers.specs.declared.Checked.{Checked}
 use Rattle.numbers.specs.declared.Checked.the-variants.{Done, Refused}
 use Rattle.planes.specs.Predict.{smallBlock, dcOf, largeOf}
@@ -49,7 +49,7 @@ abbrev pub firstLeft : List ℕ → (w x y n : ℕ) → List ℕ
 firstLeft p w x y n = firstPlaces n (λ k. nearOf p w x (y + 1 + k))
 
 -- all around the square: above, left, the corner, and which of them lie inside the plane
-unfoldable pub edgeOf : List ℕ → (w x y n : ℕ) → Edge
+unfoldable pub edgeOf : List ℕ → (w x y n : ℕ) → Border
 edgeOf p w x y n = record {
   above = firstAbove p w x y n;
   left = firstLeft p w x y n;
@@ -120,7 +120,7 @@ blocksPainted rule p w x y m c (suc i) =
 
 -- in a large mode all are predicted from the edge of the square, and in small modes each from the samples around it; the edge, and
 -- what lies above and right of the macroblock, are read before any is painted
-abbrev pub largeRule : (m mode dc : ℕ) → Edge → List ℕ → ℕ → List ℕ
+abbrev pub largeRule : (m mode dc : ℕ) → Border → List ℕ → ℕ → List ℕ
 largeRule m mode dc e q i = largeOf mode dc e (cellRow m i) (cellColumn m i)
 
 -- a small mode's prediction from the samples around the sub-block

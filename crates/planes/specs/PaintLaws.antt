@@ -10,7 +10,7 @@ use native.Mathlib.Nat.{zero-add, mul-one, add-assoc, mul-le-mul, mul-le-mul-rig
 use native.Mathlib.Numerals.{add-one}
 use native.Mathlib.Omega.{arith}
 use borrow.Author.Tests.{eqb-true, ltb-true, leb-true, lt-ltb, le-leb, eq-eqb, ne-eqb}
-use lib.Dec.{eqb, ltb, leb, lit<}
+use lib.Dec.{eqb, ltb, leb}
 use lib.IntN.{ℤ, pos, negsuc, _+ℤ_}
 use lib.ListN.{length, getD, set, replicate, take, drop, length-take, length-drop}
 use lib.Seq.{getD-take, getD-drop}
@@ -18,16 +18,17 @@ pub use Rattle.numbers.specs.Lists.{Bytes}
 use Rattle.numbers.specs.ClampLaws.{upTo-le}
 use Rattle.numbers.specs.In.{Each}
 use Rattle.numbers.specs.Know.{inside}
-use Rattle.numbers.specs.Lists.{build, getD-build, getD-build-past, _∷≡_}
+use Rattle.numbers.specs.Lists.{getD-build, getD-build-past, _∷≡_}
 use Rattle.numbers.specs.Parts.{le-true}
-use Rattle.numbers.specs.Runs.{placed, placed-none, placed-next, length-placed, placed-in, placed-off, placed-keeps, placed-same, copied, Off, off-less}
+use Rattle.numbers.specs.Runs.{placed, placed-none, placed-next, length-placed, placed-in, placed-off, placed-keeps, placed-same, copied-placed, Off, off-less}
 use Rattle.numbers.specs.Tables.{allBelow, all-below}
 use Rattle.numbers.specs.Tests.{lt-or, eq-or, both-left, both-right, both-true, cond-at}
 use Rattle.transform.specs.Lanes.{byBlocks}
 use Rattle.numbers.specs.declared.Checked.the-variants.{Done, Refused}
-use Rattle.planes.specs.declared.predict.Edge.{Edge}
+use Rattle.planes.specs.declared.edges.Border.{Border}
 use Rattle.planes.specs.Predict.{Size, smallBlock, dcOf}
 use Rattle.planes.specs.Paint.{sampleAt, nearOf, fourAbove, firstPlaces, firstAbove, firstLeft, edgeOf, aboveRight, blockAboveRight, aroundOf, rowsPainted, painted, blockCoefficients, blockResidual, summedOf, blockPainted, cellColumn, cellRow, blocksPainted, largeRule, smallAt, smallRule, predictionRule, squarePainted, squareBlocks, paintModesFine, squareFine, coefficientsFine, paintFine, PaintedPlane, paintOf}
+use Rattle.planes.specs.Pieces.{rowsPlaced}
 use Rattle.planes.specs.Places.{Square, Outside, run-inside, sub-square, apart, outside-sub, BlockSides, cell, not-last, Stands, higher, before, stands-first, stands-last, Within, stood, other, by-size, size-some, quarter, size-sides, tiles}
 
 -- arguments with which the square at column x, row y can be painted
@@ -74,11 +75,6 @@ module _ (f : ℕ → ℕ) where
   first-next n = subst (λ (k : ℕ). set (placed (replicate 16 0) 0 f n) k (f n) ≡ placed (replicate 16 0) 0 f (n + 1)) (zero-add n) (placed-next (replicate 16 0) 0 f n)
 
 -- ---- rows
--- m rows of n samples at column x, row y: f j k is sample k of row j
-unfoldable pub rowsPlaced : List ℕ → (w x y n : ℕ) (f : ℕ → ℕ → ℕ) (m : ℕ) → List ℕ
-rowsPlaced p w x y n f zero = p
-rowsPlaced p w x y n f (suc j) = placed (rowsPlaced p w x y n f j) ((y + j) * w + x) (f j) n
-
 module _ (p : List ℕ) (w x y n : ℕ) (f : ℕ → ℕ → ℕ) where
   pub rows-none : rowsPlaced p w x y n f 0 ≡ p
   unfolding rowsPlaced
@@ -146,9 +142,11 @@ module _ (c : List ℤ) (i : ℕ) (h : 16 * i + 16 ≤ length c) where
 -- ---- a sub-block painted is four rows of four
 module _ (p : List ℕ) (w x y : ℕ) (b : List ℕ) where
   painted-to : (m : ℕ) → rowsPainted p w x y b m ≡ rowsPlaced p w x y 4 (λ j k. getD b (4 * j + k) 0) m
-  unfolding rowsPainted rowsPlaced copied
+  unfolding rowsPainted rowsPlaced
   painted-to zero = refl
-  painted-to (suc m) = ap (λ (q : List ℕ). placed q ((y + m) * w + x) (λ k. getD b (4 * m + k) 0) 4) (painted-to m)
+  painted-to (suc m) =
+      copied-placed (rowsPainted p w x y b m) ((y + m) * w + x) b (4 * m) 4
+      ∙ ap (λ (q : List ℕ). placed q ((y + m) * w + x) (λ k. getD b (4 * m + k) 0) 4) (painted-to m)
 
   pub painted-rows : painted p w x y b ≡ rowsPlaced p w x y 4 (λ j k. getD b (4 * j + k) 0) 4
   painted-rows = painted-to 4
@@ -360,7 +358,7 @@ module _ (p : List ℕ) (w x y n : ℕ) (small : Bool) (mode : ℕ) (modes : Lis
   unfolding squarePainted predictionRule
   square-small e z f = rw (e, z, f)
 
-  pub square-large : {dc : ℕ} {e : Edge} → small ≡ false → e ≡ edgeOf p w x y n → dc ≡ dcOf n e
+  pub square-large : {dc : ℕ} {e : Border} → small ≡ false → e ≡ edgeOf p w x y n → dc ≡ dcOf n e
       → blocksPainted (largeRule (n / 4) mode dc e) p w x y (n / 4) cs (n / 4 * (n / 4)) ≡ squarePainted p w x y n small mode modes cs
   unfolding squarePainted predictionRule
   square-large s f d = rw (s, d, f)

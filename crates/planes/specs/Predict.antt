@@ -8,7 +8,7 @@ use lib.ListN.{getD, replicate}
 use lib.IntN.{ℤ, pos, _+ℤ_, _-ℤ_}
 use Rattle.numbers.specs.Clamp.{clipZ}
 use Rattle.numbers.specs.Lists.{build}
-use Rattle.planes.specs.declared.predict.Edge.{Edge}
+use Rattle.planes.specs.declared.edges.Border.{Border}
 
 -- a macroblock's square: 16 in luma, 8 in chroma
 abbrev pub Size : ℕ → Type 0
@@ -126,16 +126,16 @@ meanOf false true n a l = (l + n / 2) / n
 meanOf false false n a l = 128
 
 -- DC of a square with this edge
-unfoldable pub dcOf : ℕ → Edge → ℕ
+unfoldable pub dcOf : ℕ → Border → ℕ
 dcOf n e = meanOf (e .«above_inside») (e .«left_inside») n (sumOfFirst (e .above) n) (sumOfFirst (e .left) n)
 
 -- large modes 0 DC, 1 TM, 2 V, 3 H: the sample at row r, column c of the square
-abbrev pub largeAt : ℕ → ℕ → Edge → ℕ → ℕ → ℕ
+abbrev pub largeAt : ℕ → ℕ → Border → ℕ → ℕ → ℕ
 largeAt mode dc e r c =
     let a = getD (e .above) c 0 in
     let l = getD (e .left) r 0 in
     getD (dc ∷ clipZ (pos l +ℤ pos a -ℤ pos (e .corner)) ∷ a ∷ l ∷ []) mode 0
 
 -- its sub-block at row r, column c
-unfoldable pub largeOf : ℕ → ℕ → Edge → ℕ → ℕ → List ℕ
+unfoldable pub largeOf : ℕ → ℕ → Border → ℕ → ℕ → List ℕ
 largeOf mode dc e r c = build 16 (λ k. largeAt mode dc e (r + k / 4) (c + k % 4))

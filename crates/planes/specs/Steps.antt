@@ -1,6 +1,6 @@
 -- The two steps of the code: what is predicted is put into the plane, and the residual is added to what stands there. Sub-block after
 -- sub-block, and square after square, that is what the definitions paint.
-use Prim.Native.Nat.{ℕ, zero, suc, _+_, _-_, _*_, _/_, _%_, _≤_, _<_}
+use Prim.Native.Nat.{ℕ, zero, _+_, _-_, _*_, _/_, _%_, _≤_, _<_}
 use mathlib.Core.Bool.{Bool, true, false, cond, _&&_}
 use mathlib.Core.List.{List, [], _∷_}
 use mathlib.Core.Logic.{inl, inr, ⊎-elim}
@@ -12,7 +12,7 @@ use borrow.Author.Tests.{leb-true, leb-false, eq-eqb, ne-eqb}
 use lib.Bits.{bitOr, or-add-and, and-le-l, and-le-r, or-lt}
 use lib.Dec.{leb, lit<}
 use lib.ListN.{length, getD, set, length-set, take, drop, length-take, length-drop, replicate, length-replicate, getD-replicate}
-use lib.Seq.{set-getD, ext-getD, getD-set-same, getD-set-other, getD-take, getD-drop, length-take-le}
+use lib.Seq.{ext-getD, getD-set-same, getD-set-other, getD-take, getD-drop, length-take-le}
 use lib.Signed.{_≤ℤ_, ltZ, leZ-yes, ≤ℤ-refl, shrZ}
 use mir.Facts.{toZ-inj, fits-ofZ}
 use mir.Syntax.{w16}
@@ -22,20 +22,22 @@ use Rattle.numbers.specs.Clamp.{clampZ, clipZ, signedTo}
 use Rattle.numbers.specs.ClampLaws.{clamp-tests, clamp-cases, clamp-low, clamp-high, upTo-is, upTo-same}
 use Rattle.numbers.specs.Hand.{same-bits}
 use Rattle.numbers.specs.In.{In, Each}
-use Rattle.numbers.specs.Lists.{build, built, build-same, getD-build, getD-constant, _∷≡_}
+use Rattle.numbers.specs.Lists.{build, built, build-listed, build-same, getD-build, getD-constant, _∷≡_}
 use Rattle.numbers.specs.Parts.{up, nlt-le, of-le, add-parts, lt-parts}
-use Rattle.numbers.specs.Runs.{placed, placed-none, placed-next, placed-same, length-placed, copied}
+use Rattle.numbers.specs.Runs.{placed, placed-none, placed-next, placed-self, placed-same, length-placed}
 use Rattle.numbers.specs.Tests.{lt-or, eq-or, never, not-so, both-left, both-right, both-true, cond-at}
+use Rattle.transform.specs.Pieces.{laneRow}
 use Rattle.transform.specs.Transform.{samplesOf}
 use Rattle.transform.specs.Lanes.{byBlocks, knownLength, laneResidual, residualsOf}
-use Rattle.transform.specs.LanesLaws.{laneRow, length-by-blocks, blocks-at, block-is, known-blocks, whole-blocks, residuals-at, residuals-in}
+use Rattle.transform.specs.LanesLaws.{length-by-blocks, blocks-at, block-is, known-blocks, whole-blocks, residuals-at, residuals-in}
 use Rattle.transform.specs.TransformBounds.{numeral-in}
 use Rattle.transform.specs.TransformLaws.{below-four, below-all, below-next, in-range, shortcut}
-use Rattle.planes.specs.declared.predict.Edge.{Edge}
+use Rattle.planes.specs.declared.edges.Border.{Border}
 use Rattle.planes.specs.Predict.{Size, dcOf, largeAt, largeOf}
-use Rattle.planes.specs.PredictLaws.{tmOne, small-long}
-use Rattle.planes.specs.Paint.{sampleAt, edgeOf, rowsPainted, painted, blockResidual, summedOf, blockPainted, cellColumn, cellRow, blocksPainted, largeRule, smallAt, squarePainted, squareBlocks, coefficientsFine}
-use Rattle.planes.specs.PaintLaws.{Bytes, length-block, block-at, rowsPlaced, rows-none, rows-next, length-rows, rows-off, rows-in, rows-same, painted-rows, length-painted, painted-off, painted-in, length-blocks, blocks-yet, blocks-off, blocks-in, square-large}
+use Rattle.planes.specs.PredictLaws.{small-long}
+use Rattle.planes.specs.Pieces.{rowsPlaced, tmOne}
+use Rattle.planes.specs.Paint.{sampleAt, edgeOf, painted, blockResidual, summedOf, blockPainted, cellColumn, cellRow, blocksPainted, largeRule, smallAt, squarePainted, squareBlocks, coefficientsFine}
+use Rattle.planes.specs.PaintLaws.{Bytes, length-block, block-at, rows-none, rows-next, length-rows, rows-off, rows-in, rows-same, painted-rows, length-painted, painted-off, painted-in, length-blocks, blocks-yet, blocks-off, blocks-in, square-large}
 use Rattle.planes.specs.Places.{Square, run-inside, BlockSides, sides-few, cell, within-or, covered, by-size, quarter, size-sides, size-blocks}
 
 -- ---- a number taken into 0..255, from below and then from above
@@ -189,8 +191,10 @@ module _ (w x y at : ℕ) (e : at ≡ y * w + x) where
   row-0 = rw add-zero e
 
   pub block-copied : (p b : List ℕ) → blockCopied p w at b ≡ painted p w x y b
-  unfolding blockCopied rowsPainted copied
-  block-copied p b = rw (row-at 3, row-at 2, row-1, row-0)
+  unfolding blockCopied rowsPlaced
+  block-copied p b =
+      let e : blockCopied p w at b ≡ rowsPlaced p w x y 4 (λ j k. getD b (4 * j + k) 0) 4 = rw (row-at 3, row-at 2, row-1, row-0) in
+      e ∙ sym (painted-rows p w x y b)
 
 -- a row of a square: there is room for it, and it is the next
 module _ (p : List ℕ) (w x y n : ℕ) (f : ℕ → ℕ → ℕ) (j : ℕ) {q : List ℕ} {at : ℕ} (e : q ≡ rowsPlaced p w x y n f j) (a : at ≡ (y + j) * w + x) where
@@ -201,7 +205,7 @@ module _ (p : List ℕ) (w x y n : ℕ) (f : ℕ → ℕ → ℕ) (j : ℕ) {q :
   row-turn {g} d h = d ∙ placed-same q at g (f j) n h ∙ rw (e, a) (rows-next p w x y n f j)
 
 -- ---- a square in a large mode, from what is put for each
-module _ (p : List ℕ) (w x y n mode : ℕ) {e : Edge} {q : List ℕ} (d : e ≡ edgeOf p w x y n) where
+module _ (p : List ℕ) (w x y n mode : ℕ) {e : Border} {q : List ℕ} (d : e ≡ edgeOf p w x y n) where
   pub predicted-mean : {dc : ℕ} → n ≤ 16 → mode ≡ 0 → dc ≡ dcOf n e → q ≡ rowsPlaced p w x y n (λ j k. getD (replicate 16 dc) k 0) n
       → q ≡ rowsPlaced p w x y n (largeAt mode (dcOf n (edgeOf p w x y n)) (edgeOf p w x y n)) n
   predicted-mean {dc} h m c g = g ∙ rows-same p w x y n _ (λ j k. dc) n (λ j k a b. getD-replicate 16 k dc 0 (omega arith)) ∙ rw (m, c, d)
@@ -226,8 +230,9 @@ module _ (p : List ℕ) (at : ℕ) (r : List ℤ) where
 
   pub four-sums : {a b c d : ℕ} → a ≡ clipZ (pos (getD p at 0) +ℤ getD r 0 (pos 0)) → b ≡ sumAt p at r 1 → c ≡ sumAt p at r 2 → d ≡ sumAt p at r 3
       → a ∷ b ∷ c ∷ d ∷ [] ≡ rowSums p at r
-  unfolding rowSums build
-  four-sums e f g h = (e ∙ ap (λ (n : ℕ). clipZ (pos (getD p n 0) +ℤ getD r 0 (pos 0))) (sym (add-zero at))) ∷≡ f ∷≡ g ∷≡ h ∷≡ refl
+  unfolding rowSums
+  four-sums e f g h =
+      ((e ∙ ap (λ (n : ℕ). clipZ (pos (getD p n 0) +ℤ getD r 0 (pos 0))) (sym (add-zero at))) ∷≡ f ∷≡ g ∷≡ h ∷≡ refl) ∙ sym (build-listed 4 (sumAt p at r))
 
   pub sums-placed : {b q : List ℕ} → b ≡ rowSums p at r → q ≡ placed p at (λ k. getD b (0 + k) 0) 4 → q ≡ rowAdded p at r
   unfolding rowAdded rowSums
@@ -251,14 +256,9 @@ same-near i = each-∷ i (each-∷ i (each-∷ i (each-∷ i (each-[] tt))))
 
 -- nothing added
 module _ (p : List ℕ) (b : Bytes p) where
-  placed-self : (at n : ℕ) → placed p at (λ k. getD p (at + k) 0) n ≡ p
-  unfolding placed
-  placed-self at zero = refl
-  placed-self at (suc n) = rw (placed-self at n) (set-getD p (at + n) 0)
-
   row-none : (at : ℕ) → rowAdded p at (replicate 4 (pos 0)) ≡ p
   unfolding rowAdded
-  row-none at = placed-same p at _ _ 4 (λ k h. same (at + k) k) ∙ placed-self at 4
+  row-none at = placed-same p at _ _ 4 (λ k h. same (at + k) k) ∙ placed-self p 0 at 4
     where
       same : (i k : ℕ) → clipZ (pos (getD p i 0) +ℤ getD (replicate 4 (pos 0)) k (pos 0)) ≡ getD p i 0
       same i k = rw (getD-constant 4 k (pos 0), add-zero) (upTo-same (omega (arith, b i)))
@@ -407,7 +407,7 @@ module _ (p : List ℕ) (w x y : ℕ) (s : Square (length p) w x y 4) where
   painted-then pred c i l = rw (standing-painted pred l) (painted-over pred (summedOf pred (blockResidual c i)))
 
 -- ---- a square put into the plane, then painted over
-module _ (p : List ℕ) (w x y m mode dc : ℕ) (e : Edge) (cs : List ℤ) (s : BlockSides m) (t : Square (length p) w x y (4 * m)) where
+module _ (p : List ℕ) (w x y m mode dc : ℕ) (e : Border) (cs : List ℤ) (s : BlockSides m) (t : Square (length p) w x y (4 * m)) where
   abbrev put : List ℕ
   put = rowsPlaced p w x y (4 * m) (largeAt mode dc e) (4 * m)
 

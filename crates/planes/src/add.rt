@@ -1,4 +1,5 @@
 // The residual, added to what stands in the plane (RFC 6386, section 14.5).
+use crate::predict::clipped;
 use crate::put::copy_row;
 ghost use mathlib.Core.Path.{_≡_};
 ghost use mathlib.Core.Bool.{cond};
@@ -8,28 +9,9 @@ ghost use lib.ListN.{length};
 ghost use Rattle.numbers.specs.Clamp.{clipZ};
 ghost use Rattle.numbers.specs.In.{In, Each};
 ghost use Rattle.numbers.specs.Lists.{Bytes};
-ghost use Rattle.transform.specs.LanesLaws.{laneRow};
-ghost use Rattle.planes.specs.Steps.{noLess, noMore, rowSums, rowAdded, laneAdded, meanOf, meanAdded, Residual};
+ghost use Rattle.transform.specs.Pieces.{laneRow};
+ghost use Rattle.planes.specs.Steps.{rowSums, rowAdded, laneAdded, meanOf, meanAdded, Residual};
 ghost use Rattle.planes.specs.Places.{Block};
-
-// v as a sample. One test after the other, so that the compiler can take several samples at once.
-fn no_less(v: i32) -> i32
-    ensures { λ r. ⌜ r ≡ noLess v ⌝ }
-{
-    if v < 0 { 0 } else { v }
-}
-
-fn no_more(v: i32) -> i32
-    ensures { λ r. ⌜ r ≡ noMore v ⌝ }
-{
-    if 255 < v { 255 } else { v }
-}
-
-pub(crate) fn clipped(v: i32) -> u8
-    ensures { λ r. ⌜ r ≡ clipZ v ⌝ }
-{
-    no_more(no_less(v)) as u8
-}
 
 // A sample, and its residual.
 fn sum(p: u8, r: i32) -> u8

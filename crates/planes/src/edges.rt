@@ -1,6 +1,5 @@
 // What lies around a square or a sub-block of a plane (RFC 6386, sections 12.2 and 12.3). Outside the plane 127 lies above, the corner
 // too, and 129 to the left.
-use crate::predict::Edge;
 ghost use mathlib.Core.Path.{_≡_};
 ghost use mathlib.Core.Bool.{false};
 ghost use Prim.Native.Nat.{_+_, _*_, _<_, _≤_};
@@ -80,6 +79,16 @@ fn four_left(p: &[u8], w: usize, s: Spot) -> [u8; 4]
     [p[at], p[at + w], p[at + 2 * w], p[at + 3 * w]]
 }
 
+// What lies around a macroblock's square: the row above, the column to the left (of both the first 8 or 16), the corner, and
+// whether the row above and the column to the left are inside the picture.
+pub(crate) struct Border {
+    pub above: [u8; 16],
+    pub left: [u8; 16],
+    pub corner: u8,
+    pub above_inside: bool,
+    pub left_inside: bool,
+}
+
 // The row above a square, and the column left of it.
 fn first_above(p: &[u8], w: usize, x: usize, y: usize, size: usize) -> [u8; 16]
     requires { ⌜ Square (length (now p)) w x y size ⌝ }
@@ -106,7 +115,7 @@ fn first_left(p: &[u8], w: usize, x: usize, y: usize, size: usize) -> [u8; 16]
 }
 
 // What lies around a square.
-pub(crate) fn edge(p: &[u8], w: usize, x: usize, y: usize, size: usize) -> Edge
+pub(crate) fn edge(p: &[u8], w: usize, x: usize, y: usize, size: usize) -> Border
     requires { ⌜ Square (length (now p)) w x y size ⌝ }
     requires { ⌜ size ≤ 16 ⌝ }
     ensures { λ r. ⌜ r ≡ edgeOf (now (p .entry)) w x y size ⌝ }
@@ -114,7 +123,7 @@ pub(crate) fn edge(p: &[u8], w: usize, x: usize, y: usize, size: usize) -> Edge
     let a = first_above(p, w, x, y, size);
     let l = first_left(p, w, x, y, size);
     let corner = near(p, w, x, y);
-    Edge {
+    Border {
         above: a,
         left: l,
         corner: corner,

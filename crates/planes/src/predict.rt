@@ -1,21 +1,33 @@
 // Prediction of a block from the samples around it (RFC 6386, sections 12.2 and 12.3).
-use crate::add::clipped;
+use crate::edges::Border;
 ghost use mathlib.Core.Path.{_≡_};
-ghost use Prim.Native.Nat.{_<_, _≤_, _+_, _*_, _/_};
+ghost use Prim.Native.Nat.{_<_, _≤_, _+_, _*_};
 ghost use lib.ListN.{getD};
+ghost use Rattle.numbers.specs.Clamp.{clipZ};
 ghost use Rattle.numbers.specs.Lists.{build};
-ghost use Rattle.planes.specs.Predict.{Size, at, mean2, mean3, two, three, smallBlock, sumOfFirst, dcOf};
-ghost use Rattle.planes.specs.Predict.{dcBlock, tmBlock, veBlock, heBlock, rdBlock, vrBlock, ldBlock, vlBlock, hdBlock, huBlock};
-ghost use Rattle.planes.specs.PredictLaws.{Count, meanOver, joinedOf, tmOne, tmRow, tmOf};
+ghost use Rattle.planes.specs.Predict.{Size, at, mean2, mean3, two, dcBlock, tmBlock, smallBlock, sumOfFirst, dcOf};
+ghost use Rattle.planes.specs.Pieces.{Count, meanOver, joinedOf, tmOne, tmRow, tmOf, Eleven};
+ghost use Rattle.planes.specs.Pieces.{stretchedOf, threeFrom, twosOf, threesOf, bothOf, rowPicked, pickedOf};
+ghost use Rattle.planes.specs.Steps.{noLess, noMore};
 
-// What lies around a macroblock's square: the row above, the column to the left (of both the first 8 or 16), the corner, and
-// whether the row above and the column to the left are inside the picture.
-pub(crate) struct Edge {
-    pub above: [u8; 16],
-    pub left: [u8; 16],
-    pub corner: u8,
-    pub above_inside: bool,
-    pub left_inside: bool,
+// ---- a number as a sample
+// One test after the other, so that the compiler can take several samples at once.
+fn no_less(v: i32) -> i32
+    ensures { λ r. ⌜ r ≡ noLess v ⌝ }
+{
+    if v < 0 { 0 } else { v }
+}
+
+fn no_more(v: i32) -> i32
+    ensures { λ r. ⌜ r ≡ noMore v ⌝ }
+{
+    if 255 < v { 255 } else { v }
+}
+
+pub(crate) fn clipped(v: i32) -> u8
+    ensures { λ r. ⌜ r ≡ clipZ v ⌝ }
+{
+    no_more(no_less(v)) as u8
 }
 
 // ---- means, rounded
@@ -50,20 +62,6 @@ fn mean(total: u32, count: usize) -> u8
     } else {
         ((total + 16) / 32) as u8
     }
-}
-
-fn two(e: [u8; 13], i: usize) -> u8
-    requires { ⌜ i < 12 ⌝ }
-    ensures { λ r. ⌜ r ≡ two e i ⌝ }
-{
-    mean2(e[i], e[i + 1])
-}
-
-fn three(e: [u8; 13], i: usize) -> u8
-    requires { ⌜ (0 < i) × (i < 12) ⌝ }
-    ensures { λ r. ⌜ r ≡ three e i ⌝ }
-{
-    mean3(e[i - 1], e[i], e[i + 1])
 }
 
 // ---- blocks of four rows
@@ -119,8 +117,7 @@ fn tm_samples(l: [u8; 4], a: [u8; 4], corner: u8) -> [u8; 16]
     joined(w, x, y, z)
 }
 
-// ---- section 12.3: a sub-block. The names dN and tN are the means of two from place N and of three around it; at an end of the edge
-// the last sample stands for the one past it.
+// ---- section 12.3: a sub-block
 // The sum of four samples side by side.
 fn total(e: [u8; 13], i: usize) -> u32
     requires { ⌜ i < 10 ⌝ }
@@ -141,169 +138,144 @@ fn tm_block(e: [u8; 13]) -> [u8; 16]
     tm_samples([e[3], e[2], e[1], e[0]], [e[5], e[6], e[7], e[8]], e[4])
 }
 
-fn ve_block(e: [u8; 13]) -> [u8; 16]
-    ensures { λ r. ⌜ r ≡ veBlock e ⌝ }
+// The edge with its first and its last sample once more: at an end they stand for the one past it.
+fn stretched(e: [u8; 13]) -> [u8; 15]
+    ensures { λ r. ⌜ r ≡ stretchedOf e ⌝ }
 {
-    let t5 = three(e, 5);
-    let t6 = three(e, 6);
-    let t7 = three(e, 7);
-    let t8 = three(e, 8);
-    joined(
-        [t5, t6, t7, t8],
-        [t5, t6, t7, t8],
-        [t5, t6, t7, t8],
-        [t5, t6, t7, t8],
-    )
+    [
+        e[0],
+        e[0],
+        e[1],
+        e[2],
+        e[3],
+        e[4],
+        e[5],
+        e[6],
+        e[7],
+        e[8],
+        e[9],
+        e[10],
+        e[11],
+        e[12],
+        e[12],
+    ]
 }
 
-fn he_block(e: [u8; 13]) -> [u8; 16]
-    ensures { λ r. ⌜ r ≡ heBlock e ⌝ }
+// The mean of two from place i of it on, and of three.
+fn two(f: [u8; 15], i: usize) -> u8
+    requires { ⌜ i < 14 ⌝ }
+    ensures { λ r. ⌜ r ≡ two f i ⌝ }
 {
-    let t3 = three(e, 3);
-    let t2 = three(e, 2);
-    let t1 = three(e, 1);
-    let t0 = mean3(e[1], e[0], e[0]);
-    joined(
-        [t3, t3, t3, t3],
-        [t2, t2, t2, t2],
-        [t1, t1, t1, t1],
-        [t0, t0, t0, t0],
-    )
+    mean2(f[i], f[i + 1])
 }
 
-fn rd_block(e: [u8; 13]) -> [u8; 16]
-    ensures { λ r. ⌜ r ≡ rdBlock e ⌝ }
+fn three(f: [u8; 15], i: usize) -> u8
+    requires { ⌜ i < 13 ⌝ }
+    ensures { λ r. ⌜ r ≡ threeFrom f i ⌝ }
 {
-    let t1 = three(e, 1);
-    let t2 = three(e, 2);
-    let t3 = three(e, 3);
-    let t4 = three(e, 4);
-    let t5 = three(e, 5);
-    let t6 = three(e, 6);
-    let t7 = three(e, 7);
-    joined(
-        [t4, t5, t6, t7],
-        [t3, t4, t5, t6],
-        [t2, t3, t4, t5],
-        [t1, t2, t3, t4],
-    )
+    mean3(f[i], f[i + 1], f[i + 2])
 }
 
-fn vr_block(e: [u8; 13]) -> [u8; 16]
-    ensures { λ r. ⌜ r ≡ vrBlock e ⌝ }
+// Four of the first kind and seven of the second, as many as a mode has; what is not picked of them costs nothing.
+fn twos(f: [u8; 15], i: usize) -> [u8; 4]
+    requires { ⌜ i < 11 ⌝ }
+    ensures { λ r. ⌜ r ≡ twosOf f i ⌝ }
 {
-    let d4 = two(e, 4);
-    let d5 = two(e, 5);
-    let d6 = two(e, 6);
-    let d7 = two(e, 7);
-    let t2 = three(e, 2);
-    let t3 = three(e, 3);
-    let t4 = three(e, 4);
-    let t5 = three(e, 5);
-    let t6 = three(e, 6);
-    let t7 = three(e, 7);
-    joined(
-        [d4, d5, d6, d7],
-        [t4, t5, t6, t7],
-        [t3, d4, d5, d6],
-        [t2, t4, t5, t6],
-    )
+    [two(f, i), two(f, i + 1), two(f, i + 2), two(f, i + 3)]
 }
 
-fn ld_block(e: [u8; 13]) -> [u8; 16]
-    ensures { λ r. ⌜ r ≡ ldBlock e ⌝ }
+fn threes(f: [u8; 15], i: usize) -> [u8; 7]
+    requires { ⌜ i < 7 ⌝ }
+    ensures { λ r. ⌜ r ≡ threesOf f i ⌝ }
 {
-    let t6 = three(e, 6);
-    let t7 = three(e, 7);
-    let t8 = three(e, 8);
-    let t9 = three(e, 9);
-    let t10 = three(e, 10);
-    let t11 = three(e, 11);
-    let t12 = mean3(e[11], e[12], e[12]);
-    joined(
-        [t6, t7, t8, t9],
-        [t7, t8, t9, t10],
-        [t8, t9, t10, t11],
-        [t9, t10, t11, t12],
-    )
+    [
+        three(f, i),
+        three(f, i + 1),
+        three(f, i + 2),
+        three(f, i + 3),
+        three(f, i + 4),
+        three(f, i + 5),
+        three(f, i + 6),
+    ]
 }
 
-fn vl_block(e: [u8; 13]) -> [u8; 16]
-    ensures { λ r. ⌜ r ≡ vlBlock e ⌝ }
+fn both(d: [u8; 4], t: [u8; 7]) -> [u8; 11]
+    ensures { λ r. ⌜ r ≡ bothOf d t ⌝ }
 {
-    let d5 = two(e, 5);
-    let d6 = two(e, 6);
-    let d7 = two(e, 7);
-    let d8 = two(e, 8);
-    let t6 = three(e, 6);
-    let t7 = three(e, 7);
-    let t8 = three(e, 8);
-    let t9 = three(e, 9);
-    let t10 = three(e, 10);
-    let t11 = three(e, 11);
-    joined(
-        [d5, d6, d7, d8],
-        [t6, t7, t8, t9],
-        [d6, d7, d8, t10],
-        [t7, t8, t9, t11],
-    )
+    [
+        d[0],
+        d[1],
+        d[2],
+        d[3],
+        t[0],
+        t[1],
+        t[2],
+        t[3],
+        t[4],
+        t[5],
+        t[6],
+    ]
 }
 
-fn hd_block(e: [u8; 13]) -> [u8; 16]
-    ensures { λ r. ⌜ r ≡ hdBlock e ⌝ }
+// Four of the eleven, by their places from number k on, and all sixteen: row by row, so that the compiler stores a row at once.
+fn pick_row(m: [u8; 11], places: [u8; 16], k: usize) -> [u8; 4]
+    requires { ⌜ k < 13 ⌝ }
+    requires { ⌜ Eleven places ⌝ }
+    ensures { λ r. ⌜ r ≡ rowPicked m places k ⌝ }
 {
-    let d0 = two(e, 0);
-    let d1 = two(e, 1);
-    let d2 = two(e, 2);
-    let d3 = two(e, 3);
-    let t1 = three(e, 1);
-    let t2 = three(e, 2);
-    let t3 = three(e, 3);
-    let t4 = three(e, 4);
-    let t5 = three(e, 5);
-    let t6 = three(e, 6);
-    joined(
-        [d3, t4, t5, t6],
-        [d2, t3, d3, t4],
-        [d1, t2, d2, t3],
-        [d0, t1, d1, t2],
-    )
+    [
+        m[places[k] as usize],
+        m[places[k + 1] as usize],
+        m[places[k + 2] as usize],
+        m[places[k + 3] as usize],
+    ]
 }
 
-fn hu_block(e: [u8; 13]) -> [u8; 16]
-    ensures { λ r. ⌜ r ≡ huBlock e ⌝ }
+fn pick(m: [u8; 11], places: [u8; 16]) -> [u8; 16]
+    requires { ⌜ Eleven places ⌝ }
+    ensures { λ r. ⌜ r ≡ pickedOf m places ⌝ }
 {
-    let d0 = two(e, 0);
-    let d1 = two(e, 1);
-    let d2 = two(e, 2);
-    let t0 = mean3(e[1], e[0], e[0]);
-    let t1 = three(e, 1);
-    let t2 = three(e, 2);
-    let z = e[0];
-    joined(
-        [d2, t2, d1, t1],
-        [d1, t1, d0, t0],
-        [d0, t0, z, z],
-        [z, z, z, z],
-    )
+    let w = pick_row(m, places, 0);
+    let x = pick_row(m, places, 4);
+    let y = pick_row(m, places, 8);
+    let z = pick_row(m, places, 12);
+    joined(w, x, y, z)
 }
+
+// Which of a mode's eleven stands where: 0 to 3 are the means of two, 4 to 10 those of three.
+const VE: [u8; 16] = [4, 5, 6, 7, 4, 5, 6, 7, 4, 5, 6, 7, 4, 5, 6, 7];
+
+const HE: [u8; 16] = [7, 7, 7, 7, 6, 6, 6, 6, 5, 5, 5, 5, 4, 4, 4, 4];
+
+const RD: [u8; 16] = [7, 8, 9, 10, 6, 7, 8, 9, 5, 6, 7, 8, 4, 5, 6, 7];
+
+const VR: [u8; 16] = [0, 1, 2, 3, 6, 7, 8, 9, 5, 0, 1, 2, 4, 6, 7, 8];
+
+const LD: [u8; 16] = [4, 5, 6, 7, 5, 6, 7, 8, 6, 7, 8, 9, 7, 8, 9, 10];
+
+const VL: [u8; 16] = [0, 1, 2, 3, 4, 5, 6, 7, 1, 2, 3, 8, 5, 6, 7, 9];
+
+const HD: [u8; 16] = [3, 7, 8, 9, 2, 6, 3, 7, 1, 5, 2, 6, 0, 4, 1, 5];
+
+const HU: [u8; 16] = [3, 6, 2, 5, 2, 5, 1, 4, 1, 4, 0, 0, 0, 0, 0, 0];
 
 // The sixteen samples of a sub-block in a small mode.
 pub(crate) fn small_block(mode: u8, e: [u8; 13]) -> [u8; 16]
     requires { ⌜ mode < 10 ⌝ }
     ensures { λ r. ⌜ r ≡ smallBlock mode e ⌝ }
 {
+    let f = stretched(e);
     match mode {
         0 => dc_block(e),
         1 => tm_block(e),
-        2 => ve_block(e),
-        3 => he_block(e),
-        4 => rd_block(e),
-        5 => vr_block(e),
-        6 => ld_block(e),
-        7 => vl_block(e),
-        8 => hd_block(e),
-        _ => hu_block(e),
+        2 => pick(both(twos(f, 0), threes(f, 5)), VE),
+        3 => pick(both(twos(f, 0), threes(f, 0)), HE),
+        4 => pick(both(twos(f, 0), threes(f, 1)), RD),
+        5 => pick(both(twos(f, 5), threes(f, 2)), VR),
+        6 => pick(both(twos(f, 0), threes(f, 6)), LD),
+        7 => pick(both(twos(f, 6), threes(f, 6)), VL),
+        8 => pick(both(twos(f, 1), threes(f, 1)), HD),
+        _ => pick(both(twos(f, 0), threes(f, 0)), HU),
     }
 }
 
@@ -323,7 +295,7 @@ fn sum(l: [u8; 16], size: usize) -> u32
 }
 
 // The mean of what is inside, for large DC: once a macroblock.
-pub(crate) fn large_dc(size: usize, e: Edge) -> u8
+pub(crate) fn large_dc(size: usize, e: Border) -> u8
     requires { ⌜ Size size ⌝ }
     ensures { λ r. ⌜ r ≡ dcOf size e ⌝ }
 {

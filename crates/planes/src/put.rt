@@ -1,7 +1,7 @@
 // What is predicted, put into the plane.
+use crate::edges::Border;
 use crate::edges::edge;
 use crate::edges::place;
-use crate::predict::Edge;
 use crate::predict::large_dc;
 use crate::predict::tm_wide;
 ghost use mathlib.Core.Path.{_≡_};
@@ -9,9 +9,8 @@ ghost use Prim.Native.Nat.{_+_, _<_, _≤_};
 ghost use lib.ListN.{length, getD};
 ghost use Rattle.numbers.specs.Runs.{placed};
 ghost use Rattle.planes.specs.Predict.{Size, dcOf, largeAt};
-ghost use Rattle.planes.specs.PredictLaws.{tmOne};
+ghost use Rattle.planes.specs.Pieces.{rowsPlaced, tmOne};
 ghost use Rattle.planes.specs.Paint.{edgeOf};
-ghost use Rattle.planes.specs.PaintLaws.{rowsPlaced};
 ghost use Rattle.planes.specs.Steps.{blockCopied};
 ghost use Rattle.planes.specs.Places.{Square, Block};
 
@@ -85,7 +84,7 @@ fn put_left(p: &mut [u8], w: usize, x: usize, y: usize, size: usize, l: [u8; 16]
 }
 
 // A square in TM.
-fn put_tm(p: &mut [u8], w: usize, x: usize, y: usize, size: usize, e: Edge)
+fn put_tm(p: &mut [u8], w: usize, x: usize, y: usize, size: usize, e: Border)
     requires { ⌜ Square (length (now p)) w x y size ⌝ }
     requires { ⌜ Size size ⌝ }
     ensures { λ _. ⌜ now (p .exit)

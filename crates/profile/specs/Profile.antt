@@ -26,7 +26,7 @@ sizeFits w h = eqb w 256 && eqb h 256
 unfoldable pub countFits : ℕ → Bool
 countFits n = eqb n 1 || eqb n 2 || eqb n 4
 
--- 3: segments are off, and there is no map (RFC 6386, section 9.3, 1880-1882): entries 2 and 3 are 0, each of them
+-- 3: segments are off, and there is no map (RFC 6386, section 9.3, 1880-1882)
 unfoldable pub segmentsFit : List ℤ → Bool
 segmentsFit h = not (presentAt h segmentsOn) && not (presentAt h mapOn)
 
@@ -42,16 +42,16 @@ tileRulesOf t = failed 1 (sizeFits (t .width) (t .height) ∷ countFits (t .coun
 unfoldable pub headerRulesOf : List ℤ → ℕ
 headerRulesOf h = failed 3 (segmentsFit h ∷ sharpnessFits h ∷ [])
 
--- 6: macroblock k is both skipped and small, as its mode record says
+-- 6: macroblock k is skipped and small, as its mode record says
 abbrev pub bothAt : List ℕ → ℕ → Bool
 bothAt modes k = modeFound modes k .kinds .skip && modeFound modes k .kinds .small
 
--- the first of n macroblocks from k on that is, or the one behind them
+-- the first of n macroblocks from k on that is both; where none is, the one behind them
 unfoldable pub firstBoth : (n k : ℕ) → List ℕ → ℕ
 firstBoth zero k modes = k
 firstBoth (suc n) k modes = elim (bothAt modes k) [ true ↦ k | false ↦ firstBoth n (suc k) modes ]
 
--- what a picture of so many macroblocks is told, its modes being these
+-- the answer for a picture of so many macroblocks with these modes
 unfoldable pub judgedOf : (blocks : ℕ) → List ℕ → Profiled
 judgedOf blocks modes = elim (ltb (firstBoth blocks 0 modes) blocks) [ true ↦ P.Macroblock (firstBoth blocks 0 modes) | false ↦ P.Fits ]
 

@@ -15,7 +15,7 @@ use Rattle.lent.specs.Records.{modeWidth, strengthWidth}
 use Rattle.picture.specs.Checks.{Call, Bounded, Lengths}
 use Rattle.picture.specs.Picture.{State, picturedOf, begunOf, pictureOf}
 use Rattle.picture.specs.Counts.{costOf}
-use Rattle.hookbarley.specs.TileNumbers.{FieldsFit}
+use Rattle.boundary.specs.TileNumbers.{FieldsFit}
 use Rattle.hookbarley.specs.Calls.{PictureCalled, calledNumbers, calledOf}
 use Rattle.promises.specs.Refusals.{Fine}
 use Rattle.promises.specs.Reached.{Reached, modesAsked, tokensAsked}

@@ -14,7 +14,7 @@ use Rattle.picture.specs.Picture.{Picture, State, Ended, pictureOf, numberOf, v
 use Rattle.macroblock.specs.declared.arguments.SymbolCounts.{SymbolCounts}
 use Rattle.picture.specs.Counts.{costOf}
 use Rattle.picture.specs.CountsLaws.{cost-bad}
-use Rattle.hookbarley.specs.TileNumbersLaws.{fits-where-valid}
+use Rattle.boundary.specs.TileNumbersLaws.{fits-where-valid}
 use Rattle.hookbarley.specs.Calls.{PictureCalled, toPictureCalled, calledNumbers, handedCall, calledOf}
 use Rattle.hookbarley.specs.CallsLaws.{called-refused, called-picture}
 use Rattle.promises.specs.Refusals.{Fine, number, Decided, refused-changes-nothing, first-check-decides}

@@ -16,7 +16,7 @@ use Rattle.picture.specs.Checks.{Call}
 use Rattle.picture.specs.Picture.{planesIn}
 use Rattle.deblock.specs.declared.edges.Edge.{Edge}
 use Rattle.deblock.specs.declared.Deblocked.the-variants.{Done}
-use Rattle.deblock.specs.Deblock.{sweepOf, DeblockLengths, Outcome, deblockOf, deblockNumberOf}
+use Rattle.deblock.specs.Deblock.{sweepOf, DeblockLengths, DeblockAnswer, deblockOf, deblockNumberOf}
 use Rattle.promises.specs.Places.{Plane, luma, blue, red, planeSide, blockAt}
 use Rattle.promises.specs.Grey.{InPlane}
 use Rattle.promises.specs.Isolation.{SameTokens}
@@ -51,7 +51,7 @@ pub record DeblockRefused (d : Planes) (s : List ℕ) (w h : ℕ) (simple : Bool
   pub none : Sides w h → DeblockSized d s w h → ((k : ℕ) → k < recordsIn strengthWidth s → strengthAt s k .limit ≤ 189) → numbered d s w h simple ≡ 0
 
 -- ---- the deblocking call on the lent memory that a call for the tile has left
-abbrev pub deblockedOf : Call → (left : Memory) → Bool → Outcome
+abbrev pub deblockedOf : Call → (left : Memory) → Bool → DeblockAnswer
 deblockedOf t left simple = deblockOf (planesIn left) (left .strengths) (t .tile .width) (t .tile .height) simple
 
 -- one of the three

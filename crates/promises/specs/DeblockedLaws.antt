@@ -27,7 +27,7 @@ use Rattle.picture.specs.HaltLaws.{halted-picture, halted-alive}
 use Rattle.deblock.specs.declared.edges.Edge.{Edge}
 use Rattle.deblock.specs.declared.Deblocked.the-variants.{Done}
 use Rattle.deblock.specs.Deblock as deblock
-use Rattle.deblock.specs.Deblock.{Outcome, when, rasterOf, deblockOf}
+use Rattle.deblock.specs.Deblock.{DeblockAnswer, when, rasterOf, deblockOf}
 use Rattle.deblock.specs.ChecksLaws as checks
 use Rattle.deblock.specs.Located.{PlaneGrid}
 use Rattle.deblock.specs.LocalLaws.{edge-moves-six, edge-looks-at-eight, plane-local, later-stay, when-local, when-same}
@@ -151,7 +151,7 @@ module _ (t : Call) (left : Memory) (d : ℕ) (z : Left t left d) (simple : Bool
 
   stays-grey : (a : Plane) (c r : ℕ) → InPlane t a c r → d ≤ blockAt across a c r → sampleAfter t left simple a c r ≡ 128
   stays-grey a c r i h =
-      ap (λ (E : Outcome). getD (plane a (E .planes)) (r * (across * planeSide a) + c) 0) (is t left (z .fine) simple)
+      ap (λ (E : DeblockAnswer). getD (plane a (E .planes)) (r * (across * planeSide a) + c) 0) (is t left (z .fine) simple)
       ∙ ap (λ (q : List ℕ). getD q (r * (across * planeSide a) + c) 0) (parts-is simple (left .strengths) across (t .tile .height / 16) (planesIn left) a)
       ∙ part-stays a c r i h
       ∙ ap (λ (q : List ℕ). getD q (r * (across * planeSide a) + c) 0) (plane-is a)
@@ -159,7 +159,7 @@ module _ (t : Call) (left : Memory) (d : ℕ) (z : Left t left d) (simple : Bool
 
   -- GREY STAYS GREY, whichever call left it
   pub left-stays : GreyStays t left d simple
-  left-stays = record { answer = ap (λ (E : Outcome). E .answer) (is t left (z .fine) simple); grey = stays-grey }
+  left-stays = record { answer = ap (λ (E : DeblockAnswer). E .answer) (is t left (z .fine) simple); grey = stays-grey }
 
 -- ---- two calls
 -- what they leave for two tiles alike in all but token partition p: the same above row p, and all the same where that partition decides nothing
@@ -225,20 +225,20 @@ module _ (p : ℕ) (t u : Call) (one two : Memory) (a : Alike p t u) (x : Unrefu
   samples-same x c r h k =
       let i : r * (wide * planeSide x) + c < (p * planeSide x - 3) * (wide * planeSide x) = omega (arith, next-row r (p * planeSide x - 3) (wide * planeSide x) (omega arith)) in
       ⊎-elim
-      (λ l. ap (λ (E : Outcome). getD (plane x (E .planes)) (r * (wide * planeSide x) + c) 0) first-is
+      (λ l. ap (λ (E : DeblockAnswer). getD (plane x (E .planes)) (r * (wide * planeSide x) + c) 0) first-is
       ∙ ap (λ (q : List ℕ). getD q (r * (wide * planeSide x) + c) 0) (parts-is simple (one .strengths) wide high (planesIn one) x)
       ∙ parts-same (omega arith) x (r * (wide * planeSide x) + c) i
       ∙ sym (ap (λ (q : List ℕ). getD q (r * (wide * planeSide x) + c) 0) (parts-is simple (two .strengths) wide high (planesIn two) x))
-      ∙ sym (ap (λ (E : Outcome). getD (plane x (E .planes)) (r * (wide * planeSide x) + c) 0) second-is))
-      (λ l. ap (λ (E : Outcome). getD (plane x (E .planes)) (r * (wide * planeSide x) + c) 0) (all-same (before .no-row l)))
+      ∙ sym (ap (λ (E : DeblockAnswer). getD (plane x (E .planes)) (r * (wide * planeSide x) + c) 0) second-is))
+      (λ l. ap (λ (E : DeblockAnswer). getD (plane x (E .planes)) (r * (wide * planeSide x) + c) 0) (all-same (before .no-row l)))
       (lt-or p high)
       ∙ ap (λ (w : ℕ). sampleAt (plane x (deblockedOf u two simple .planes)) (w / 16 * planeSide x) c r) (a .width)
 
   -- DEMAND 3, whichever calls left them
   pub left-isolated : IsolatedDeblocked p t u one two simple
   left-isolated = record {
-    first = ap (λ (E : Outcome). E .answer) first-is;
-    second = ap (λ (E : Outcome). E .answer) second-is;
+    first = ap (λ (E : DeblockAnswer). E .answer) first-is;
+    second = ap (λ (E : DeblockAnswer). E .answer) second-is;
     samples = samples-same;
     no-row = λ l. all-same (before .no-row l);
     no-difference = λ l. all-same (before .no-difference l);

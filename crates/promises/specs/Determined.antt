@@ -6,7 +6,7 @@ use Prim.Native.Nat.{ℕ}
 use mathlib.Core.Bool.{Bool}
 use mathlib.Core.List.{List}
 use lib.IntN.{ℤ}
-use Rattle.numbers.specs.Clamp.{upTo, clipZ, signedTo, signedByteZ}
+use Rattle.numbers.specs.Clamp.{upTo}
 use Rattle.numbers.specs.Wrap.{wrap16Of}
 use Rattle.reader.specs.Boolean.{validOf, firstReader, symbolAnswer}
 use Rattle.reader.specs.Counts.{treeCount, tokenCount, extraCount}
@@ -60,8 +60,9 @@ use Rattle.picture.specs.Checks.{callOf, refusalOf}
 use Rattle.lent.specs.Memory.{memoryOf, filled, blankOf}
 use Rattle.casefile.specs.Run.{ranOf}
 use Rattle.deblock.specs.Deblock.{deblockOf}
-use Rattle.hookbarley.specs.Calls.{calledOf, deblockCalledOf, filteredOf}
-use Rattle.hookbarley.specs.ExplainCalls.{explainCalledOf}
+use Rattle.boundary.specs.FilterCalls.{deblockCalledOf, filteredOf}
+use Rattle.hookbarley.specs.Calls.{calledOf}
+use Rattle.boundary.specs.ExplainCalls.{explainCalledOf}
 use Rattle.picture.specs.declared.rows.Decoded.{Decoded}
 use Rattle.picture.specs.Picture.{besideOf, numberOf, pictureOf, valuesOf}
 use Rattle.picture.specs.Halt.{haltedOf}
@@ -76,8 +77,11 @@ use Rattle.hookbarley.specs.ProfileCalls.{profileCalledOf}
 use Rattle.hookbarley.specs.SurveyCalls.{surveyCalledOf}
 use Rattle.hookbarley.specs.RecodeCalls.{recodeCalledOf}
 use Rattle.picture.specs.Counts.{costOf}
-use Rattle.hookbarley.specs.FrameCalls.{frameCalledOf}
-use Rattle.hookbarley.specs.WebpCalls.{webpFoundOf, webpWrappedOf}
+use Rattle.boundary.specs.TileNumbers.{tileOfNumbers, numbersOfTile, putOf}
+use Rattle.boundary.specs.FrameCalls.{tileAfter, frameCalledOf}
+use Rattle.boundary.specs.WebpCalls.{webpFoundOf, webpWrappedOf}
+use Rattle.frame.specs.declared.take.Answer.{Answer}
+use Rattle.frame.specs.declared.take.ShownSize.{ShownSize}
 use Rattle.frame.specs.Take.{refusedAnswer, takenOf, storedOf, intoOf}
 use Rattle.key_frame.specs.KeyFrame.{keyFrameOf}
 use Rattle.hookbarley.specs.ShowCalls.{showCalledOf}
@@ -104,18 +108,6 @@ numbers-wrap16 v = determined (wrap16Of v)
 pub numbers-clamp-to : (v : ℤ) (top : ℕ) → One (λ o. o ≡ upTo top v)
 numbers-clamp-to v top = determined (upTo top v)
 
--- numbers::clip
-pub numbers-clip : (v : ℤ) → One (λ o. o ≡ clipZ v)
-numbers-clip v = determined (clipZ v)
-
--- numbers::signed_to
-pub numbers-signed-to : (v : ℤ) (top : ℕ) → One (λ o. o ≡ signedTo top v)
-numbers-signed-to v top = determined (signedTo top v)
-
--- numbers::signed_byte
-pub numbers-signed-byte : (v : ℤ) → One (λ o. o ≡ signedByteZ v)
-numbers-signed-byte v = determined (signedByteZ v)
-
 -- ---- reader
 -- reader::boolean::valid
 pub reader-valid : (s : List ℕ) (r : Reader) → One (λ o. o ≡ validOf s r)
@@ -133,25 +125,25 @@ reader-symbol s self prob = determined (symbolAnswer s self prob)
 pub reader-walk-tree : (s probs : List ℕ) (tree : List ℤ) (start : ℕ) (r : Reader) → One (λ o. o ≡ walkAnswer s probs tree start r)
 reader-walk-tree s probs tree start r = determined (walkAnswer s probs tree start r)
 
+-- reader::trees::walk_tree
+pub reader-walk-tree-reads : (s probs : List ℕ) (tree : List ℤ) (start : ℕ) (r : Reader) → One (λ o. o ≡ treeCount s probs tree start r)
+reader-walk-tree-reads s probs tree start r = determined (treeCount s probs tree start r)
+
 -- reader::extra::extra_bits
 pub reader-extra-bits : (s probs : List ℕ) (r : Reader) → One (λ o. o ≡ extraAnswer s probs r)
 reader-extra-bits s probs r = determined (extraAnswer s probs r)
+
+-- reader::extra::extra_bits
+pub reader-extra-bits-reads : (s probs : List ℕ) (r : Reader) → One (λ o. o ≡ extraCount s probs r)
+reader-extra-bits-reads s probs r = determined (extraCount s probs r)
 
 -- reader::token::walk_token
 pub reader-walk-token : (s table : List ℕ) (at : ℕ) (zero : Bool) (r : Reader) → One (λ o. o ≡ tokenAnswer s table at zero r)
 reader-walk-token s table at zero r = determined (tokenAnswer s table at zero r)
 
--- reader::counts::count_tree
-pub reader-count-tree : (s probs : List ℕ) (tree : List ℤ) (start : ℕ) (r : Reader) → One (λ o. o ≡ treeCount s probs tree start r)
-reader-count-tree s probs tree start r = determined (treeCount s probs tree start r)
-
--- reader::counts::count_token
-pub reader-count-token : (s table : List ℕ) (at : ℕ) (zero : Bool) (r : Reader) → One (λ o. o ≡ tokenCount s table at zero r)
-reader-count-token s table at zero r = determined (tokenCount s table at zero r)
-
--- reader::counts::count_extra
-pub reader-count-extra : (s probs : List ℕ) (r : Reader) → One (λ o. o ≡ extraCount s probs r)
-reader-count-extra s probs r = determined (extraCount s probs r)
+-- reader::token::walk_token
+pub reader-walk-token-reads : (s table : List ℕ) (at : ℕ) (zero : Bool) (r : Reader) → One (λ o. o ≡ tokenCount s table at zero r)
+reader-walk-token-reads s table at zero r = determined (tokenCount s table at zero r)
 
 -- ---- wide
 -- wide::wide::Wide::fill
@@ -608,6 +600,49 @@ writer-flush self out = determined (flushAnswer self out)
 pub recode-recode : (bytes : List ℕ) (tile : Tile) (header : List ℤ) (y u v columns modes strengths out : List ℕ)
     → One (λ o. o ≡ recodeOf (callOf bytes tile header) (memoryOf y u v columns modes strengths) out)
 recode-recode bytes tile header y u v columns modes strengths out = determined (recodeOf (callOf bytes tile header) (memoryOf y u v columns modes strengths) out)
+
+-- ---- boundary
+-- boundary::tile_numbers::tile_of
+pub boundary-tile-of : (n : List ℕ) → One (λ o. o ≡ tileOfNumbers n)
+boundary-tile-of n = determined (tileOfNumbers n)
+
+-- boundary::tile_numbers::numbers
+pub boundary-numbers : (tile : Tile) (shown : ShownSize) (simple : ℕ) → One (λ o. o ≡ numbersOfTile tile shown simple)
+boundary-numbers tile shown simple = determined (numbersOfTile tile shown simple)
+
+-- boundary::tile_numbers::put_numbers
+pub boundary-put-numbers : (tile n : List ℕ) → One (λ o. o ≡ putOf tile n)
+boundary-put-numbers tile n = determined (putOf tile n)
+
+-- boundary::frame_header::put_shown
+pub boundary-put-shown : (tile : List ℕ) (a : Answer) → One (λ o. o ≡ tileAfter tile a)
+boundary-put-shown tile a = determined (tileAfter tile a)
+
+-- boundary::frame_header::frame_taken
+pub boundary-frame-taken : (bytes : List ℕ) (header : List ℤ) (tile : List ℕ) → One (λ o. o ≡ frameCalledOf bytes header tile)
+boundary-frame-taken bytes header tile = determined (frameCalledOf bytes header tile)
+
+-- boundary::deblocking::deblocked
+pub boundary-deblocked : (y u v strengths : List ℕ) (width height simple : ℕ) → One (λ o. o ≡ deblockCalledOf (planesOf y u v) strengths width height simple)
+boundary-deblocked y u v strengths width height simple = determined (deblockCalledOf (planesOf y u v) strengths width height simple)
+
+-- boundary::filtering::filtered
+pub boundary-filtered : (samples : List ℕ) (simple edge limit inner threshold : ℕ) → One (λ o. o ≡ filteredOf samples simple edge limit inner threshold)
+boundary-filtered samples simple edge limit inner threshold = determined (filteredOf samples simple edge limit inner threshold)
+
+-- boundary::explaining::explained
+pub boundary-explained : (samples : List ℕ) (simple edge limit inner threshold : ℕ) (after : List ℕ) (steps : List ℤ)
+    → One (λ o. o ≡ explainCalledOf samples simple edge limit inner threshold after steps)
+boundary-explained samples simple edge limit inner threshold after steps =
+    determined (explainCalledOf samples simple edge limit inner threshold after steps)
+
+-- boundary::webp_find::webp_found
+pub boundary-webp-found : (bytes : List ℕ) → One (λ o. o ≡ webpFoundOf bytes)
+boundary-webp-found bytes = determined (webpFoundOf bytes)
+
+-- boundary::webp_wrap::webp_wrapped
+pub boundary-webp-wrapped : (frame out : List ℕ) → One (λ o. o ≡ webpWrappedOf frame out)
+boundary-webp-wrapped frame out = determined (webpWrappedOf frame out)
 
 -- ---- hookbarley
 -- hookbarley::decoding::hookbarley_decode

@@ -15,10 +15,6 @@ pub mod IsolationLaws
 pub mod Cost
 pub mod CostLaws
 pub mod Valid
-pub mod Witness
-pub mod WitnessCost
-pub mod WitnessCalls
-pub mod WitnessFrame
 pub mod Determined
 pub mod Frame
 pub mod Webp

@@ -63,7 +63,8 @@ use Rattle.deblock.specs.Deblock.{deblockOf}
 use Rattle.lent.specs.Memory.{Memory}
 use Rattle.macroblock.specs.Rebuilt.{noResidual, legibleOf, rebuildCallOf}
 use Rattle.rescue.specs.Rescue.{rescueOf, rescueNumberOf, savedCountOf}
-use Rattle.hookbarley.specs.Calls.{flagOf, filteredOf, deblockCalledOf, calledNumbers, handedCall}
+use Rattle.boundary.specs.FilterCalls.{flagOf, filteredOf, deblockCalledOf}
+use Rattle.hookbarley.specs.Calls.{calledNumbers, handedCall}
 use Rattle.survey.specs.Survey.{surveyOf}
 use Rattle.hookbarley.specs.RescueCalls.{rescueNumbers, rescueCalledOf}
 use Rattle.profile.specs.Profile.{profileOf, profileRuleOf, profileBlockOf, profileNumberOf}
@@ -71,16 +72,16 @@ use Rattle.hookbarley.specs.ProfileCalls.{profileNumbers, profileCalledOf}
 use Rattle.hookbarley.specs.SurveyCalls.{surveyNumbers, toSurveyCalled, surveyCalledOf}
 use Rattle.recode.specs.Recode.{recodeOf}
 use Rattle.hookbarley.specs.RecodeCalls.{resultOf, recodeNumbers, recodeCalledOf}
-use Rattle.hookbarley.specs.ExplainCalls.{ruleNumberOf, pairNumberOf, explainCalledOf}
-use Rattle.hookbarley.specs.FrameCalls.{numbersOf, frameCalledOf}
+use Rattle.boundary.specs.ExplainCalls.{ruleNumberOf, pairNumberOf, explainCalledOf}
+use Rattle.boundary.specs.FrameCalls.{numbersOf, frameCalledOf}
 use Rattle.key_frame.specs.KeyFrame.{keyFrameOf}
 use Rattle.hookbarley.specs.ShowCalls.{shownNumbers, toShowCalled, showCalledOf}
-use Rattle.hookbarley.specs.WebpCalls.{webpFoundOf, webpWrappedOf}
+use Rattle.boundary.specs.WebpCalls.{webpFoundOf, webpWrappedOf}
 use Rattle.webp.specs.Webp.{riffSize, mostSize, fileOf, markedOf, sizedOf, lossyOf, filledOf, findOf, foundNumberOf, foundStartOf, foundLengthOf, wrapOf, wrappedNumberOf, wrappedLengthOf}
 
 -- ---- three kinds of call. `values` is all that it gives besides its number, what is lent included; `zeros` are zeros, with what is lent as it was
 -- a call that tries its arguments: `bad` and zeros where one is out of range, else 0
-pub record Checked {X : Type 0} (bad : ℕ) (good : Bool) (number : ℕ) (values zeros whole : X) : Type 0 where
+pub record RefusedOr {X : Type 0} (bad : ℕ) (good : Bool) (number : ℕ) (values zeros whole : X) : Type 0 where
   pub refused : good ≡ false → (number ≡ bad) × (values ≡ zeros)
   pub fine : good ≡ true → (number ≡ 0) × (values ≡ whole)
 
@@ -137,7 +138,7 @@ noValues = record { reader = noReader; empty = false; top = replicate 9 0; left 
 -- THE PROMISE: a field for each public call, by its path
 pub record Numbers : Type 0 where
   -- numbers::wrap16: beyond a thousand million, either way
-  pub wrap16 : (v : ℤ) → Checked 9 (leZ (negsuc 999999999) v && leZ v (pos 1000000000)) (Wrap.wrap16NumberOf (wrap16Of v)) (Wrap.wrap16ValuesOf (wrap16Of v)) (pos 0) (wrapZ v)
+  pub wrap16 : (v : ℤ) → RefusedOr 9 (leZ (negsuc 999999999) v && leZ v (pos 1000000000)) (Wrap.wrap16NumberOf (wrap16Of v)) (Wrap.wrap16ValuesOf (wrap16Of v)) (pos 0) (wrapZ v)
   -- ---- reader: a missing byte is whatever number the layer above gives it
   -- reader::boolean::Reader::symbol
   pub symbol : (short : ℕ) (s : List ℕ) (r : Reader) (prob : ℕ)
@@ -153,11 +154,11 @@ pub record Numbers : Type 0 where
       → Answered short (validOf s r && leb (at + 11) (length table)) (run (token (elevenAt table at) z) s r) (tokenNumberOf short (tokenAnswer s table at z r)) (tokenValuesOf (tokenAnswer s table at z r)) (0, noReader) (λ t q. (t, q))
   -- ---- header: 9
   -- header::quantizers::for_segment
-  pub for-segment : (h : List ℤ) (segment : ℕ) → Checked 9 (headerOf h && ltb segment 4) (quantizersNumberOf (quantizersOf h segment)) (quantizersValuesOf (quantizersOf h segment)) noFactors (factorsOf h segment)
+  pub for-segment : (h : List ℤ) (segment : ℕ) → RefusedOr 9 (headerOf h && ltb segment 4) (quantizersNumberOf (quantizersOf h segment)) (quantizersValuesOf (quantizersOf h segment)) noFactors (factorsOf h segment)
   -- header::levels::for_macroblock
-  pub for-macroblock : (h : List ℤ) (segment : ℕ) (small : Bool) → Checked 9 (headerOf h && ltb segment 4) (levelNumberOf (levelAnswer h segment small)) (levelValuesOf (levelAnswer h segment small)) 0 (levelOf h segment small)
+  pub for-macroblock : (h : List ℤ) (segment : ℕ) (small : Bool) → RefusedOr 9 (headerOf h && ltb segment 4) (levelNumberOf (levelAnswer h segment small)) (levelValuesOf (levelAnswer h segment small)) 0 (levelOf h segment small)
   -- header::frame::take
-  pub header-take : (h : List ℤ) → Checked 9 (headerOf h) (checkedNumberOf (framedOf h .answer)) (framedOf h .frame) noFrame (frameOf h)
+  pub header-take : (h : List ℤ) → RefusedOr 9 (headerOf h) (checkedNumberOf (framedOf h .answer)) (framedOf h .frame) noFrame (frameOf h)
   -- ---- coefficients: a missing byte is 7
   -- coefficients::block::number
   pub number : (s : List ℕ) (token : ℕ) (r : Reader)
@@ -176,15 +177,15 @@ pub record Numbers : Type 0 where
       Answered {X = (ℕ × Reader) × List ℤ} 7 (eqb (length h) entryCount && (validOf s r && (Tokens.blockArguments (headerTable h) kind ctx first && sixteenBits old 16))) (run (block (headerTable h) kind q0 q1 ctx first old) s r)
       (blockNumberOf (c .answer)) (blockValuesOf (c .answer), c .out) ((0, noReader), old) (λ x q. ((x .end, q), x .values))
   -- coefficients::block::probabilities
-  pub probabilities : (h : List ℤ) → Checked 9 (eqb (length h) entryCount) (checkedNumberOf (tableOf h .answer)) (tableOf h .bytes) (replicate 1056 0) (headerTable h)
+  pub probabilities : (h : List ℤ) → RefusedOr 9 (eqb (length h) entryCount) (checkedNumberOf (tableOf h .answer)) (tableOf h .bytes) (replicate 1056 0) (headerTable h)
   -- transform::transform: 8
-  pub transform : (c : List ℤ) (walsh : Bool) → Checked 8 (blockFits c) (transformOf c walsh .number) (transformOf c walsh .samples) (replicate 16 (pos 0)) (samplesOf walsh c)
+  pub transform : (c : List ℤ) (walsh : Bool) → RefusedOr 8 (blockFits c) (transformOf c walsh .number) (transformOf c walsh .samples) (replicate 16 (pos 0)) (samplesOf walsh c)
   -- ---- filter: 9
   -- filter::pixel
   pub pixel : (e : List ℕ) (simple edge : Bool) (limit inner threshold k : ℕ)
-      → Checked 9 (ltb k 8) (Kernel.pixelNumberOf (pixelOf e simple edge limit inner threshold k)) (Kernel.pixelValuesOf (pixelOf e simple edge limit inner threshold k)) 0 (getD (filterOf e simple edge limit inner threshold) k 0)
+      → RefusedOr 9 (ltb k 8) (Kernel.pixelNumberOf (pixelOf e simple edge limit inner threshold k)) (Kernel.pixelValuesOf (pixelOf e simple edge limit inner threshold k)) 0 (getD (filterOf e simple edge limit inner threshold) k 0)
   -- filter::strengths::at_level
-  pub at-level : (level sharp : ℕ) (inside : Bool) → Checked 9 (leb level 63) (strengthsNumberOf (strengthAnswer level sharp inside)) (strengthsValuesOf (strengthAnswer level sharp inside)) noStrength (strengthOf level sharp inside)
+  pub at-level : (level sharp : ℕ) (inside : Bool) → RefusedOr 9 (leb level 63) (strengthsNumberOf (strengthAnswer level sharp inside)) (strengthsValuesOf (strengthAnswer level sharp inside)) noStrength (strengthOf level sharp inside)
   -- ---- modes: a missing byte is 6
   -- modes::prefix::prefix
   pub modes-prefix : (s : List ℕ) (r : Reader) (h : List ℤ)
@@ -217,23 +218,23 @@ pub record Numbers : Type 0 where
   -- planes::paint
   pub paint : (p : List ℕ) (w column row n : ℕ) (small : Bool) (mode : ℕ) (modes : List ℕ) (coefficients : List ℤ) (from : ℕ)
       → let c = squareBlocks n from coefficients in
-      Checked 9 (paintFine (length p) w column row n small mode modes c) (checkedNumberOf (paintOf p w column row n small mode modes c .answer)) (paintOf p w column row n small mode modes c .plane)
+      RefusedOr 9 (paintFine (length p) w column row n small mode modes c) (checkedNumberOf (paintOf p w column row n small mode modes c .answer)) (paintOf p w column row n small mode modes c .plane)
       p (squarePainted p w (column * n) (row * n) n small mode modes c)
   -- ---- lent: 9
   -- lent::columns::write_column, read_column
   pub write-column : (mem : List ℕ) (x : ℕ) (c : Context)
-      → Checked 9 (ltb x (recordsIn columnWidth mem) && contextFine c) (checkedNumberOf (columnWritten mem x c .answer)) (columnWritten mem x c .mem) mem (columnSet packed mem x c)
-  pub read-column : (mem : List ℕ) (x : ℕ) → Checked 9 (ltb x (recordsIn columnWidth mem)) (checkedNumberOf (columnFound mem x .answer)) (columnFound mem x .context) emptyContext (columnAt packed mem x)
+      → RefusedOr 9 (ltb x (recordsIn columnWidth mem) && contextFine c) (checkedNumberOf (columnWritten mem x c .answer)) (columnWritten mem x c .mem) mem (columnSet packed mem x c)
+  pub read-column : (mem : List ℕ) (x : ℕ) → RefusedOr 9 (ltb x (recordsIn columnWidth mem)) (checkedNumberOf (columnFound mem x .answer)) (columnFound mem x .context) emptyContext (columnAt packed mem x)
   -- lent::macroblocks::write_mode_record, read_mode_record
   pub write-modes : (mem : List ℕ) (i : ℕ) (k : Kinds) (modes : List ℕ)
-      → Checked 9 (ltb i (recordsIn modeWidth mem) && (kindsFine k && eachBelow 10 modes)) (checkedNumberOf (modeWritten mem i k modes .answer)) (modeWritten mem i k modes .mem) mem (modeSet mem i k modes)
+      → RefusedOr 9 (ltb i (recordsIn modeWidth mem) && (kindsFine k && eachBelow 10 modes)) (checkedNumberOf (modeWritten mem i k modes .answer)) (modeWritten mem i k modes .mem) mem (modeSet mem i k modes)
   pub modes-read : (mem : List ℕ) (i : ℕ)
-      → Checked {X = Kinds × List ℕ} 9 (ltb i (recordsIn modeWidth mem)) (checkedNumberOf (modeFound mem i .answer)) (modeFound mem i .kinds, modeFound mem i .modes) (noKinds, replicate 16 0) (kindsAt mem i, modesAt mem i)
+      → RefusedOr {X = Kinds × List ℕ} 9 (ltb i (recordsIn modeWidth mem)) (checkedNumberOf (modeFound mem i .answer)) (modeFound mem i .kinds, modeFound mem i .modes) (noKinds, replicate 16 0) (kindsAt mem i, modesAt mem i)
   -- lent::macroblocks::write_strength, read_strength
   pub write-strength : (mem : List ℕ) (i : ℕ) (t : Strength) (k : Kinds)
-      → Checked 9 (ltb i (recordsIn strengthWidth mem) && (strengthFine t && ltb (k .segment) 4)) (checkedNumberOf (strengthWritten mem i t k .answer)) (strengthWritten mem i t k .mem) mem (strengthSet mem i t k)
+      → RefusedOr 9 (ltb i (recordsIn strengthWidth mem) && (strengthFine t && ltb (k .segment) 4)) (checkedNumberOf (strengthWritten mem i t k .answer)) (strengthWritten mem i t k .mem) mem (strengthSet mem i t k)
   pub read-strength : (mem : List ℕ) (i : ℕ)
-      → Checked {X = Strength × ℕ × Bool} 9 (ltb i (recordsIn strengthWidth mem)) (checkedNumberOf (strengthFound mem i .answer)) (strengthFound mem i .strength, strengthFound mem i .segment, strengthFound mem i .small)
+      → RefusedOr {X = Strength × ℕ × Bool} 9 (ltb i (recordsIn strengthWidth mem)) (checkedNumberOf (strengthFound mem i .answer)) (strengthFound mem i .strength, strengthFound mem i .segment, strengthFound mem i .small)
       (noStrength, 0, false) (strengthAt mem i, segmentIn (recordAt strengthWidth mem i), smallIn (recordAt strengthWidth mem i))
   -- macroblock::whole::decode
   pub macroblock : (first tokens : List ℕ) (readers : Readers) (f : Frame) (table : List ℕ) (around : Around) (place : Place) (p : Planes)
@@ -262,12 +263,12 @@ pub record Numbers : Type 0 where
   -- hookbarley::filtering::hookbarley_filter: 9 where there are not eight samples
   pub c-filter : (e : List ℕ) (simple edge limit inner threshold : ℕ)
       → let c = filteredOf e simple edge limit inner threshold in
-      Checked 9 (eqb (length e) 8) (c .number) (c .samples) e (filterOf e (flagOf simple) (flagOf edge) limit inner threshold)
+      RefusedOr 9 (eqb (length e) 8) (c .number) (c .samples) e (filterOf e (flagOf simple) (flagOf edge) limit inner threshold)
   -- hookbarley::explaining::hookbarley_explain: 9 where there are not eight samples, and room for eight samples and eight steps
   pub c-explain : (e : List ℕ) (simple edge limit inner threshold : ℕ) (after : List ℕ) (steps : List ℤ)
       → let c = explainCalledOf e simple edge limit inner threshold after steps in
       let x = explainOf e (flagOf simple) (flagOf edge) limit inner threshold in
-      Checked {X = (ℕ × ℕ) × List ℕ × List ℤ} 9 (eqb (length e) 8 && eqb (length after) 8 && eqb (length steps) 8) (c .number) ((c .rule, c .pair), c .after, c .steps)
+      RefusedOr {X = (ℕ × ℕ) × List ℕ × List ℤ} 9 (eqb (length e) 8 && eqb (length after) 8 && eqb (length steps) 8) (c .number) ((c .rule, c .pair), c .after, c .steps)
       ((0, 0), after, steps) ((ruleNumberOf (x .rule), pairNumberOf (x .rule)), x .after, x .steps)
   -- hookbarley::frame_header::hookbarley_frame: 9 and nothing changed where there are not 28 numbers, else the number of `take_into`
   pub c-frame-room : (b : List ℕ) (header : List ℤ) (tile : List ℕ) → eqb (length tile) 28 ≡ false

@@ -45,16 +45,16 @@ use Rattle.frame.specs.Tag as Tag
 use Rattle.frame.specs.Places.{partitionCount, tokensInside}
 use Rattle.frame.specs.Take as Take
 use Rattle.frame.specs.Take.{givenHeader, takenOf, intoOf}
-use Rattle.hookbarley.specs.Calls.{Filtered, filteredOf, deblockCalledOf}
-use Rattle.hookbarley.specs.ExplainCalls.{ExplainCalled, explainCalledOf}
-use Rattle.hookbarley.specs.FrameCalls.{frameCalledOf}
+use Rattle.boundary.specs.FilterCalls.{Filtered, filteredOf, deblockCalledOf}
+use Rattle.boundary.specs.ExplainCalls.{ExplainCalled, explainCalledOf}
+use Rattle.boundary.specs.FrameCalls.{frameCalledOf}
 use Rattle.hookbarley.specs.RescueCalls.{rescueCalledOf}
 use Rattle.hookbarley.specs.ProfileCalls.{profileCalledOf}
 use Rattle.hookbarley.specs.SurveyCalls.{surveyCalledOf}
 use Rattle.hookbarley.specs.RecodeCalls.{recodeCalledOf}
 use Rattle.macroblock.specs.Rebuilt.{rebuiltOf, rebuildCallOf}
 use Rattle.hookbarley.specs.ShowCalls.{showCalledOf}
-use Rattle.hookbarley.specs.WebpCalls.{webpFoundOf, webpWrappedOf}
+use Rattle.boundary.specs.WebpCalls.{webpFoundOf, webpWrappedOf}
 use Rattle.webp.specs.Webp.{findOf, foundNumberOf, foundStartOf, foundLengthOf, wrapOf, wrappedNumberOf, wrappedLengthOf}
 use mathlib.Core.Logic.{⊎-elim}
 use native.Mathlib.Omega.{arith}
@@ -65,9 +65,9 @@ use Rattle.webp.specs.WriteLaws.{file-length, wrap-long, wrap-small, wrap-good}
 use Rattle.frame.specs.declared.take.Taken.{Taken}
 use Rattle.webp.specs.declared.read.Found.{Found}
 use Rattle.webp.specs.declared.read.Found.the-variants as Found
-use Rattle.webp.specs.declared.write.Wrapped.{Wrapped}
-use Rattle.webp.specs.declared.write.Wrapped.the-variants as Written
-use Rattle.promises.specs.Numbers.{Checked, Answered, Steps, FrameNumbers, FindNumbers, WrapNumbers, Numbers}
+use Rattle.webp.specs.declared.write.WrapAnswer.{WrapAnswer}
+use Rattle.webp.specs.declared.write.WrapAnswer.the-variants as Written
+use Rattle.promises.specs.Numbers.{RefusedOr, Answered, Steps, FrameNumbers, FindNumbers, WrapNumbers, Numbers}
 
 -- ---- what a test picks
 -- one of two, by a test
@@ -75,13 +75,13 @@ abbrev pick : {B : Type 0} → Bool → B → B → B
 pick good x y = elim good [ true ↦ x | false ↦ y ]
 
 checked : {B X : Type 0} {bad : ℕ} (good : Bool) {x y : B} (number : B → ℕ) (values : B → X) {zeros whole : X}
-    → number y ≡ bad → values y ≡ zeros → number x ≡ 0 → values x ≡ whole → Checked bad good (number (pick good x y)) (values (pick good x y)) zeros whole
+    → number y ≡ bad → values y ≡ zeros → number x ≡ 0 → values x ≡ whole → RefusedOr bad good (number (pick good x y)) (values (pick good x y)) zeros whole
 checked true number values a b c d = record { refused = λ e. absurd (never refl e); fine = λ e. (c, d) }
 checked false number values a b c d = record { refused = λ e. (a, b); fine = λ e. absurd (never e refl) }
 
 -- the same of what `cond` picks
 checked-cond : {B X : Type 0} {bad : ℕ} (good : Bool) {x y : B} (number : B → ℕ) (values : B → X) {zeros whole : X}
-    → number y ≡ bad → values y ≡ zeros → number x ≡ 0 → values x ≡ whole → Checked bad good (number (cond good x y)) (values (cond good x y)) zeros whole
+    → number y ≡ bad → values y ≡ zeros → number x ≡ 0 → values x ≡ whole → RefusedOr bad good (number (cond good x y)) (values (cond good x y)) zeros whole
 checked-cond true number values a b c d = checked true number values a b c d
 checked-cond false number values a b c d = checked false number values a b c d
 
@@ -196,7 +196,7 @@ wrap-numbers frame out = record {
   zero = zero (wrapOf frame out .answer);
 }
   where
-    zero : (w : Wrapped) → (wrappedNumberOf w ≡ 0 → ⊥) → wrappedLengthOf w ≡ 0
+    zero : (w : WrapAnswer) → (wrappedNumberOf w ≡ 0 → ⊥) → wrappedLengthOf w ≡ 0
     zero (Written.Written n) e = absurd (e refl)
     zero (Written.Refused n) e = refl
 
@@ -229,11 +229,11 @@ numbers-bind = record {
   residual-decode-header = λ s r h segment small skip top left old. reads-both (headerOf h && ltb segment 4) (validOf s r && Residual.residualArguments (headerTable h) top left (length old)) (run (residualOf (headerTable h) (factorsOf h segment) small skip top left) s r) (Residual.toResidualCalled old) {y = Residual.refusedResidual old} (λ c. residualNumberOf (c .answer)) (λ c. (residualValuesOf (c .answer), c .out)) refl refl refl refl (λ m q. (refl, refl));
   paint = λ p w column row n small mode modes c from. checked-cond _ (λ (x : PaintedPlane). checkedNumberOf (x .answer)) (λ (x : PaintedPlane). x .plane) refl refl refl refl;
   write-column = λ mem x c. checked _ (λ (w : Records.Written). checkedNumberOf (w .answer)) (λ (w : Records.Written). w .mem) refl refl refl refl;
-  read-column = λ mem x. checked _ (λ (t : Records.Taken). checkedNumberOf (t .answer)) (λ (t : Records.Taken). contextIn packed (t .bytes)) refl refl refl refl;
+  read-column = λ mem x. checked _ (λ (t : Records.FoundRecord). checkedNumberOf (t .answer)) (λ (t : Records.FoundRecord). contextIn packed (t .bytes)) refl refl refl refl;
   write-modes = λ mem i k modes. checked _ (λ (w : Records.Written). checkedNumberOf (w .answer)) (λ (w : Records.Written). w .mem) refl refl refl refl;
-  modes-read = λ mem i. checked _ (λ (t : Records.Taken). checkedNumberOf (t .answer)) (λ (t : Records.Taken). (kindsIn (t .bytes), modesIn (t .bytes))) refl refl refl refl;
+  modes-read = λ mem i. checked _ (λ (t : Records.FoundRecord). checkedNumberOf (t .answer)) (λ (t : Records.FoundRecord). (kindsIn (t .bytes), modesIn (t .bytes))) refl refl refl refl;
   write-strength = λ mem i t k. checked _ (λ (w : Records.Written). checkedNumberOf (w .answer)) (λ (w : Records.Written). w .mem) refl refl refl refl;
-  read-strength = λ mem i. checked _ (λ (t : Records.Taken). checkedNumberOf (t .answer)) (λ (t : Records.Taken). (strengthIn (t .bytes), segmentIn (t .bytes), smallIn (t .bytes))) refl refl refl refl;
+  read-strength = λ mem i. checked _ (λ (t : Records.FoundRecord). checkedNumberOf (t .answer)) (λ (t : Records.FoundRecord). (strengthIn (t .bytes), segmentIn (t .bytes), smallIn (t .bytes))) refl refl refl refl;
   macroblock = λ first tokens readers f table around place p. steps (endOf f place p) _ refl;
   rebuild = λ first readers f around place p. steps (endOf f place p) _ refl;
   case-malformed = λ s e. (rw (e, ranOf), rw (e, ranOf));

@@ -13,8 +13,8 @@ use Rattle.lent.specs.Memory.{Memory}
 use Rattle.picture.specs.Checks.{Call, callOf}
 use Rattle.picture.specs.Picture.{Ended, pictureOf, numberOf, valuesOf}
 use Rattle.recode.specs.Recode.{RecodeEnded, recodeOf}
-use Rattle.hookbarley.specs.TileNumbers.{FieldsFit, tileOfNumbers}
-use Rattle.hookbarley.specs.TileNumbersLaws.{fields-fit}
+use Rattle.boundary.specs.TileNumbers.{FieldsFit, tileOfNumbers}
+use Rattle.boundary.specs.TileNumbersLaws.{fields-fit}
 use Rattle.hookbarley.specs.Calls.{PictureCalled, handedCall, calledOf}
 use Rattle.hookbarley.specs.CallsLaws.{called-picture}
 use Rattle.hookbarley.specs.RecodeCalls.{resultOf, RecodeCalled, toRecodeCalled, recodeCalledOf}

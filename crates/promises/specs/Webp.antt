@@ -9,7 +9,7 @@ use lib.ListN.{length, take, drop, length-append, length-drop}
 use lib.Seq.{take-at, drop-at}
 use Rattle.reader.specs.Boolean.{Bytes}
 use Rattle.webp.specs.declared.read.Found.the-variants as F
-use Rattle.webp.specs.declared.write.Wrapped.the-variants as W
+use Rattle.webp.specs.declared.write.WrapAnswer.the-variants as W
 use Rattle.webp.specs.Webp.{riffSize, mostSize, fileOf, findOf, wrapOf}
 use Rattle.webp.specs.WriteLaws.{wrap-long, wrap-small, wrap-good, written, not-written}
 use Rattle.webp.specs.WebpLaws.{file-found, file-frame, found, found-length, found-file}

@@ -1,9 +1,9 @@
 -- The laws of the boolean decoder that callers cite: one turn of the doubling, and that a reader in range stays in range.
 use Prim.Native.Nat.{ℕ, zero, suc, _+_, _-_, _*_, _/_, _%_, _≤_, _<_, _^_}
-use mathlib.Core.Path.{_≡_, refl, sym, _∙_, ap}
+use mathlib.Core.Path.{_≡_, refl, sym, _∙_}
 use mathlib.Core.List.{List}
-use mathlib.Core.Bool.{Bool, true, false, _&&_}
-use mathlib.Core.Logic.{_⊎_, inl, inr, ⊎-elim}
+use mathlib.Core.Bool.{Bool, true, false}
+use mathlib.Core.Logic.{_⊎_, ⊎-elim}
 use lib.ListN.{length, getD}
 use lib.Dec.{ltb, leb, eqb, lit<}
 use borrow.Author.Tests.{le-ltb, lt-ltb, le-leb, lt-leb, eq-eqb, ne-eqb, ltb-true, leb-true, eqb-true}
@@ -12,7 +12,6 @@ use native.Mathlib.Omega.{arith}
 use Rattle.numbers.specs.Powers.{twice, cases8}
 use Rattle.numbers.specs.Tests.{lt-or, eq-or, not-so, both-left, both-right}
 use Rattle.reader.specs.declared.boolean.Reader.{Reader}
-use Rattle.reader.specs.declared.boolean.Symbol.{Symbol}
 use Rattle.reader.specs.declared.boolean.Symbol.the-variants as S
 pub use Rattle.numbers.specs.Lists.{Bytes}
 pub use Rattle.reader.specs.Boolean.{From, Valid}

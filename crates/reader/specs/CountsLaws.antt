@@ -6,28 +6,34 @@ use mathlib.Core.Bool.{Bool, true, false, _&&_}
 use mathlib.Core.List.{List, [], _∷_}
 use native.Mathlib.Omega.{arith}
 use native.Mathlib.Nat.{zero-add, add-zero, add-suc, suc-add}
-use lib.Dec.{leb, eqb, lit≤}
+use lib.Dec.{leb, eqb}
 use lib.IntN.{ℤ}
 use lib.ListN.{length, getD, take, drop, drop-of-length-le}
-use borrow.Author.Tests.{le-leb, lt-leb, eqb-true}
+use borrow.Author.Tests.{le-leb, eqb-true}
 use Rattle.numbers.specs.Flags.{bitOf}
-use Rattle.numbers.specs.Tests.{never, both-left, both-right, both-true, both-false}
+use Rattle.numbers.specs.Tests.{never, both-left, both-right, both-true}
 use Rattle.reader.specs.declared.boolean.Reader.{Reader}
 use Rattle.reader.specs.declared.trees.Branch.{Branch}
 use Rattle.reader.specs.declared.trees.Branch.the-variants as B
 use Rattle.reader.specs.Boolean.{Given, given, missing, symbolOf, validOf}
 use Rattle.reader.specs.BooleanLaws.{Valid, valid-test}
 use Rattle.reader.specs.Reading.{Reading, done, ask, _>>=_, symbol, run}
-use Rattle.reader.specs.ReadingLaws.{never-both, run-done, run-missing, run-got}
+use Rattle.reader.specs.ReadingLaws.{never-both, run-done, run-missing, run-got, run-then, run-stops}
 use Rattle.reader.specs.Trace.{count}
 use Rattle.reader.specs.TraceLaws.{count-done, count-missing, count-got, count-then, count-stops}
-use Rattle.reader.specs.Trees.{branchAt, step, follow, walk, treeOf}
-use Rattle.reader.specs.TreesLaws.{passes}
-use Rattle.reader.specs.Token.{tokenTree, tokenStart, token, elevenAt}
-use Rattle.reader.specs.TokenLaws.{eleven-part}
-use Rattle.reader.specs.Extra.{extraFrom, extra}
-use Rattle.reader.specs.ExtraLaws.{extra-asks}
-use Rattle.reader.specs.Counts.{Costs, ends, asks, treeCount, tokenCount, extraCount, tokenReads}
+use Rattle.reader.specs.declared.trees.Walked.{Walked}
+use Rattle.reader.specs.declared.trees.Walked.the-variants as W
+use Rattle.reader.specs.declared.token.Token.{Token}
+use Rattle.reader.specs.declared.token.Token.the-variants as T
+use Rattle.reader.specs.declared.extra.Number.{Number}
+use Rattle.reader.specs.declared.extra.Number.the-variants as N
+use Rattle.reader.specs.Trees.{branchAt, step, follow, walk, treeOf, walkOf, walkAnswer}
+use Rattle.reader.specs.TreesLaws.{passes, fromWalked, walk-gives}
+use Rattle.reader.specs.Token.{tokenTree, tokenStart, token, elevenAt, toToken, tokenOf, tokenAnswer}
+use Rattle.reader.specs.TokenLaws.{eleven-part, fromToken, tokened}
+use Rattle.reader.specs.Extra.{extraFrom, extra, extraOf, extraAnswer}
+use Rattle.reader.specs.ExtraLaws.{extra-asks, fromNumber, numbered}
+use Rattle.reader.specs.Counts.{Took, Costs, ends, asks, treeCount, tokenCount, extraCount}
 
 -- ---- one symbol
 module _ {A : Type 0} (p : ℕ) (f : Bool → A) (s : List ℕ) (r : Reader) where
@@ -52,6 +58,35 @@ module _ (p : ℕ) (s : List ℕ) (r : Reader) where
   pub symbol-missing : run (symbol p) s r ≡ missing → count (symbol p) s r ≡ 0
   symbol-missing e = one-missing p (λ b. b) s r e
 
+-- ---- runs with their counts, one part after another
+pub took-as : {A : Type 0} {m : Reading A} {s : List ℕ} {r : Reader} {x y : Given A} {n k : ℕ} → x ≡ y → n ≡ k → Took m s r x n → Took m s r y k
+took-as e f t = record { gave = t .gave ∙ e; took = sym f ∙ t .took }
+
+-- what the code answers of it
+pub took-is : {A B : Type 0} (f : Given A → B) {m : Reading A} {s : List ℕ} {r : Reader} {x : Given A} {n : ℕ} → Took m s r x n → (f x ≡ f (run m s r)) × (n ≡ count m s r)
+took-is f t = (ap f (sym (t .gave)), t .took)
+
+pub took-done : {A : Type 0} (a : A) (s : List ℕ) (r : Reader) → Took (done a) s r (given a r) 0
+took-done a s r = record { gave = run-done a s r; took = sym (count-done a s r) }
+
+pub took-got : {p : ℕ} {s : List ℕ} {r : Reader} {b : Bool} {q : Reader} → run (symbol p) s r ≡ given b q → Took (symbol p) s r (given b q) 1
+took-got {p} {s} {r} e = record { gave = e; took = sym (symbol-got p s r e) }
+
+pub took-missing : {p : ℕ} {s : List ℕ} {r : Reader} → run (symbol p) s r ≡ missing → Took (symbol p) s r missing 0
+took-missing {p} {s} {r} e = record { gave = e; took = sym (symbol-missing p s r e) }
+
+module _ {A B : Type 0} (f : A → Reading B) (m : Reading A) {s : List ℕ} {r : Reader} {n : ℕ} where
+  pub took-stops : Took m s r missing n → Took (m >>= f) s r missing n
+  took-stops t = record { gave = run-stops f s m r (t .gave); took = t .took ∙ sym (count-stops f s m r (t .gave)) }
+
+  module _ {a : A} {q : Reader} (t : Took m s r (given a q) n) {y : Given B} where
+    pub took-then : {k : ℕ} → Took (f a) s q y k → Took (m >>= f) s r y (n + k)
+    took-then u = record { gave = run-then f s m r (t .gave) ∙ u .gave; took = omega (arith, t .took, u .took, count-then f s m r (t .gave)) }
+
+    -- after which nothing more is read
+    pub took-ends : Took (f a) s q y 0 → Took (m >>= f) s r y n
+    took-ends u = took-as refl (add-zero n) (took-then u)
+
 -- ---- what is worked out of a part's value reads nothing
 pub count-last : {A B : Type 0} (f : A → B) (s : List ℕ) (m : Reading A) (r : Reader) → count (m >>= λ a. done (f a)) s r ≡ count m s r
 count-last {A} f s m r = go (run m s r) refl
@@ -62,19 +97,13 @@ count-last {A} f s m r = go (run m s r) refl
 
 -- ---- one step of a walk
 module _ (s ps : List ℕ) (t : List ℤ) (n i : ℕ) (r : Reader) where
-  pub walk-missing : run (step ps t i) s r ≡ missing → count (walk (suc n) ps t i) s r ≡ 0
+  pub count-walk-stops : run (step ps t i) s r ≡ missing → count (walk (suc n) ps t i) s r ≡ 0
   unfolding walk step
-  walk-missing e = count-stops (follow (walk n ps t)) s (step ps t i) r e ∙ one-missing (getD ps i 0) (branchAt t i) s r e
+  count-walk-stops e = count-stops (follow (walk n ps t)) s (step ps t i) r e ∙ one-missing (getD ps i 0) (branchAt t i) s r e
 
-  step-then : {x : Branch} {q : Reader} → run (step ps t i) s r ≡ given x q → count (walk (suc n) ps t i) s r ≡ suc (count (follow (walk n ps t) x) s q)
+  pub count-walk-then : {x : Branch} {q : Reader} → run (step ps t i) s r ≡ given x q → count (walk (suc n) ps t i) s r ≡ suc (count (follow (walk n ps t) x) s q)
   unfolding walk step
-  step-then {x} {q} e = count-then (follow (walk n ps t)) s (step ps t i) r e ∙ ap (λ (k : ℕ). k + count (follow (walk n ps t) x) s q) (one-got (getD ps i 0) (branchAt t i) s r e) ∙ omega arith
-
-  pub walk-leaf : {v : ℕ} {q : Reader} → run (step ps t i) s r ≡ given (B.Leaf v) q → count (walk (suc n) ps t i) s r ≡ 1
-  walk-leaf {v} {q} e = step-then e ∙ ap suc (count-done v s q)
-
-  pub walk-node : {j : ℕ} {q : Reader} → run (step ps t i) s r ≡ given (B.Node j) q → count (walk (suc n) ps t i) s r ≡ suc (count (walk n ps t j) s q)
-  walk-node e = step-then e
+  count-walk-then {x} {q} e = count-then (follow (walk n ps t)) s (step ps t i) r e ∙ ap (λ (k : ℕ). k + count (follow (walk n ps t) x) s q) (one-got (getD ps i 0) (branchAt t i) s r e) ∙ omega arith
 
 -- ---- grammars whose value says how many symbols were read
 costs-from : {A : Type 0} {reads : A → ℕ} {n : ℕ} {m : Reading A} → Costs reads n m → (s : List ℕ) (r : Reader) {a : A} {r2 : Reader} → run m s r ≡ given a r2 → n + count m s r ≡ reads a
@@ -132,17 +161,6 @@ costs-walk (suc d) (suc m) n reads ps t i l e =
     go ih (B.Leaf v) f = ends (eqb-true (reads v) (suc n) f)
     go ih (B.Node j) f = ih j f
 
--- ---- a token
-token-depths : (z : Bool) → depthsOf 7 0 (tokenReads z) tokenTree (tokenStart z) ≡ true
-token-depths true = refl
-token-depths false = refl
-
-pub token-costs : (ps : List ℕ) (z : Bool) → Costs (tokenReads z) 0 (token ps z)
-token-costs ps z = costs-walk 7 32 0 (tokenReads z) ps tokenTree (tokenStart z) (lit≤ tt) (token-depths z)
-
-pub token-reads : (ps : List ℕ) (z : Bool) (s : List ℕ) (r : Reader) {t : ℕ} {r2 : Reader} → run (token ps z) s r ≡ given t r2 → count (token ps z) s r ≡ tokenReads z t
-token-reads ps z s r e = costs-reads (token-costs ps z) s r e
-
 -- ---- a number
 extra-from : (ps : List ℕ) (v n : ℕ) → Costs (λ x. n + length ps) n (extraFrom v ps)
 unfolding extraFrom
@@ -151,9 +169,6 @@ extra-from (p ∷ ps) v n = asks (λ b. rw (suc-add n (length ps), ← add-suc n
 
 pub extra-costs : (ps : List ℕ) → Costs (λ x. length ps) 0 (extra ps)
 extra-costs ps = rw (zero-add (length ps)) at (extra-from ps 0 0)
-
-pub extra-reads : (ps : List ℕ) (s : List ℕ) (r : Reader) {x : ℕ} {r2 : Reader} → run (extra ps) s r ≡ given x r2 → count (extra ps) s r ≡ length ps
-extra-reads ps s r e = costs-reads (extra-costs ps) s r e
 
 -- one bit at a time, at index i, whatever the bits before it make
 module _ (s ps : List ℕ) (v i : ℕ) (r : Reader) where
@@ -175,52 +190,51 @@ module _ (s ps : List ℕ) (v i : ℕ) (r : Reader) where
         ∙ ap (λ (k : ℕ). k + count (extraFrom (v + v + bitOf b) (drop (i + 1) ps)) s q) (symbol-got (getD ps i 0) s r e)
         ∙ omega arith
 
--- ---- the calls. THE LAWS for their callers: with good arguments the answer is the count of the grammar (`.. -good`)
-module _ (s ps : List ℕ) (t : List ℤ) (i : ℕ) (r : Reader) where
-  pub tree-count-good : Valid s r → treeOf ps t i ≡ true → treeCount s ps t i r ≡ count (walk 32 ps t i) s r
-  unfolding treeCount
-  tree-count-good v e = rw (both-true (valid-test s r v) e, treeCount)
+-- ---- the calls' tests, as the code makes them: where they fail all is refused, and behind them nothing is
+module _ (s ps : List ℕ) (t : List ℤ) (i : ℕ) (r : Reader) {a b : Bool} (v : a ≡ validOf s r) (e : b ≡ treeOf ps t i) where
+  pub walk-refused : a && b ≡ false → (W.Refused ≡ walkAnswer s ps t i r) × (0 ≡ treeCount s ps t i r)
+  unfolding walkAnswer treeCount
+  walk-refused f = let g : validOf s r && treeOf ps t i ≡ false = rw (v, e) at f in (rw (g, walkAnswer), rw (g, treeCount))
 
-  refused-tree : validOf s r && treeOf ps t i ≡ false → 0 ≡ treeCount s ps t i r
-  unfolding treeCount
-  refused-tree e = rw (e, treeCount)
+  pub walk-made : a && b ≡ true → {x : Walked} {n : ℕ} → (x ≡ walkOf 32 s ps t i r) × (n ≡ count (walk 32 ps t i) s r) → (x ≡ walkAnswer s ps t i r) × (n ≡ treeCount s ps t i r)
+  unfolding walkAnswer treeCount
+  walk-made f p = let g : validOf s r && treeOf ps t i ≡ true = rw (v, e) at f in (rw (g, walkAnswer) (p .0), rw (g, treeCount) (p .1))
 
-  pub tree-count-reader : validOf s r ≡ false → 0 ≡ treeCount s ps t i r
-  tree-count-reader e = refused-tree (rw e)
+module _ (s table : List ℕ) (at : ℕ) (z : Bool) (r : Reader) {a b : Bool} (v : a ≡ validOf s r) (e : b ≡ leb (at + 11) (length table)) where
+  pub token-refused : a && b ≡ false → (T.Refused ≡ tokenAnswer s table at z r) × (0 ≡ tokenCount s table at z r)
+  unfolding tokenAnswer tokenCount
+  token-refused f = let g : validOf s r && leb (at + 11) (length table) ≡ false = rw (v, e) at f in (rw (g, tokenAnswer), rw (g, tokenCount))
 
-  pub tree-count-tree : treeOf ps t i ≡ false → 0 ≡ treeCount s ps t i r
-  tree-count-tree e = refused-tree (both-false (validOf s r) e)
+  pub token-made : a && b ≡ true → {x : Given ℕ} {n : ℕ} → run (token (elevenAt table at) z) s r ≡ x → n ≡ count (token (elevenAt table at) z) s r → (toToken x ≡ tokenAnswer s table at z r) × (n ≡ tokenCount s table at z r)
+  unfolding tokenAnswer tokenCount tokenOf
+  token-made f p q = let g : validOf s r && leb (at + 11) (length table) ≡ true = rw (v, e) at f in (rw (g, tokenAnswer) (ap toToken (sym p)), rw (g, tokenCount) q)
 
-module _ (s table : List ℕ) (at : ℕ) (z : Bool) (r : Reader) where
-  pub token-count-good : Valid s r → at + 11 ≤ length table → tokenCount s table at z r ≡ count (token (elevenAt table at) z) s r
-  unfolding tokenCount
-  token-count-good v l = rw (both-true (valid-test s r v) (le-leb _ _ l), tokenCount)
+-- its walk, with the eleven as a part of the table, from `at` up to m
+pub token-walked : (s table : List ℕ) (at : ℕ) (z : Bool) (r : Reader) {m i : ℕ} {x : Walked} {n : ℕ} → m ≡ at + 11 → i ≡ tokenStart z → (x ≡ walkOf 32 s (take (m - at) (drop at table)) tokenTree i r) × (n ≡ count (walk 32 (take (m - at) (drop at table)) tokenTree i) s r) → (run (token (elevenAt table at) z) s r ≡ fromWalked x) × (n ≡ count (token (elevenAt table at) z) s r)
+token-walked s table at z r {m} h j p = (walk-gives s (elevenAt table at) tokenTree 32 (tokenStart z) r (rw (eleven-part table at m h, j) at (p .0)), rw (eleven-part table at m h, j) at (p .1))
 
-  -- with the eleven as a part of the table, from `at` up to m
-  pub token-count-part : {m i n : ℕ} → m ≡ at + 11 → i ≡ tokenStart z → n ≡ count (walk 32 (take (m - at) (drop at table)) tokenTree i) s r → n ≡ count (token (elevenAt table at) z) s r
-  token-count-part {m} h k e = rw (eleven-part table at m h, k) at e
+module _ (s ps : List ℕ) (r : Reader) {a : Bool} (v : a ≡ validOf s r) where
+  pub extra-refused : a && leb (length ps) 16 ≡ false → (N.Refused ≡ extraAnswer s ps r) × (0 ≡ extraCount s ps r)
+  unfolding extraAnswer extraCount
+  extra-refused f = let g : validOf s r && leb (length ps) 16 ≡ false = rw v at f in (rw (g, extraAnswer), rw (g, extraCount))
 
-  refused-token : validOf s r && leb (at + 11) (length table) ≡ false → 0 ≡ tokenCount s table at z r
-  unfolding tokenCount
-  refused-token e = rw (e, tokenCount)
+  pub extra-made : a && leb (length ps) 16 ≡ true → {x : Number} {n : ℕ} → (x ≡ extraOf s ps r) × (n ≡ count (extra ps) s r) → (x ≡ extraAnswer s ps r) × (n ≡ extraCount s ps r)
+  unfolding extraAnswer extraCount
+  extra-made f p = let g : validOf s r && leb (length ps) 16 ≡ true = rw v at f in (rw (g, extraAnswer) (p .0), rw (g, extraCount) (p .1))
 
-  pub token-count-reader : validOf s r ≡ false → 0 ≡ tokenCount s table at z r
-  token-count-reader e = refused-token (rw e)
+-- ---- THE LAWS for callers: with good arguments answer and count are the grammar's
+pub tree-count-good : (s ps : List ℕ) (t : List ℤ) (i : ℕ) (r : Reader) → Valid s r → treeOf ps t i ≡ true → treeCount s ps t i r ≡ count (walk 32 ps t i) s r
+unfolding treeCount
+tree-count-good s ps t i r v e = rw (both-true (valid-test s r v) e, treeCount)
 
-  pub token-count-place : length table < at + 11 → 0 ≡ tokenCount s table at z r
-  token-count-place l = refused-token (both-false (validOf s r) (lt-leb _ _ l))
+pub token-took : (s table : List ℕ) (at : ℕ) (z : Bool) (r : Reader) → Valid s r → at + 11 ≤ length table → {x : Token} {n : ℕ} → (x ≡ tokenAnswer s table at z r) × (n ≡ tokenCount s table at z r) → Took (token (elevenAt table at) z) s r (fromToken x) n
+unfolding tokenCount
+token-took s table at z r v l p =
+    let e : tokenCount s table at z r ≡ count (token (elevenAt table at) z) s r = rw (both-true (valid-test s r v) (le-leb _ _ l), tokenCount) in
+    record { gave = tokened s table at z r v l (p .0); took = p .1 ∙ e }
 
-module _ (s ps : List ℕ) (r : Reader) where
-  pub extra-count-good : Valid s r → length ps ≤ 16 → extraCount s ps r ≡ count (extra ps) s r
-  unfolding extraCount
-  extra-count-good v h = rw (both-true (valid-test s r v) (le-leb _ _ h), extraCount)
-
-  refused-extra : validOf s r && leb (length ps) 16 ≡ false → 0 ≡ extraCount s ps r
-  unfolding extraCount
-  refused-extra e = rw (e, extraCount)
-
-  pub extra-count-reader : validOf s r ≡ false → 0 ≡ extraCount s ps r
-  extra-count-reader e = refused-extra (rw e)
-
-  pub extra-count-many : 16 < length ps → 0 ≡ extraCount s ps r
-  extra-count-many h = refused-extra (both-false (validOf s r) (lt-leb _ _ h))
+pub extra-took : (s ps : List ℕ) (r : Reader) → Valid s r → length ps ≤ 16 → {x : Number} {n : ℕ} → (x ≡ extraAnswer s ps r) × (n ≡ extraCount s ps r) → Took (extra ps) s r (fromNumber x) n
+unfolding extraCount
+extra-took s ps r v h p =
+    let e : extraCount s ps r ≡ count (extra ps) s r = rw (both-true (valid-test s r v) (le-leb _ _ h), extraCount) in
+    record { gave = numbered s ps r v h (p .0); took = p .1 ∙ e }

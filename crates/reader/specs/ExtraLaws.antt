@@ -1,24 +1,23 @@
 -- The laws of extra bits: what code and callers cite.
-use Prim.Native.Nat.{ℕ, zero, suc, _+_, _*_, _≤_, _<_, _^_}
+use Prim.Native.Nat.{ℕ, suc, _+_, _*_, _≤_, _<_, _^_}
 use mathlib.Core.Path.{_≡_, refl, sym, _∙_, ap}
 use native.Mathlib.Omega.{arith}
 use native.Mathlib.Nat.{mul-one, one-mul}
 use native.Mathlib.Numerals.{add-one}
 use mathlib.Core.List.{List, [], _∷_}
-use mathlib.Core.Bool.{Bool, true, false, _&&_}
+use mathlib.Core.Bool.{Bool, false}
 use lib.ListN.{length, getD, drop, drop-of-length-le}
 use lib.Seq.{drop-cons}
 use lib.Pow.{pow-mono}
-use lib.Dec.{leb}
-use borrow.Author.Tests.{le-leb, lt-leb}
-use Rattle.numbers.specs.Tests.{both-true, both-false}
+use borrow.Author.Tests.{le-leb}
+use Rattle.numbers.specs.Tests.{both-true}
 use Rattle.numbers.specs.Powers.{twice}
 use Rattle.reader.specs.declared.boolean.Reader.{Reader}
 use Rattle.reader.specs.declared.extra.Number.{Number}
 use Rattle.reader.specs.declared.extra.Number.the-variants as N
 use Rattle.reader.specs.Boolean.{Given, given, missing, validOf}
 use Rattle.reader.specs.BooleanLaws.{Bytes, Valid, valid-test}
-use Rattle.reader.specs.Reading.{Reading, done, ask, _>>=_, symbol, run, Within, ends, asks}
+use Rattle.reader.specs.Reading.{done, _>>=_, symbol, run, Within, ends, asks}
 use Rattle.reader.specs.ReadingLaws.{run-done, run-then, run-stops, within-weaken}
 use Rattle.numbers.specs.Flags.{bitOf, bit-small}
 use Rattle.reader.specs.Extra.{extraFrom, extra, toNumber, extraOf, extraAnswer}
@@ -70,15 +69,9 @@ module _ (s ps : List ℕ) (r : Reader) where
   unfolding extraAnswer
   extra-good v h = rw (both-true (valid-test s r v) (le-leb _ _ h), extraAnswer)
 
-  refused : validOf s r && leb (length ps) 16 ≡ false → N.Refused ≡ extraAnswer s ps r
-  unfolding extraAnswer
-  refused e = rw (e, extraAnswer)
-
   pub extra-reader : validOf s r ≡ false → N.Refused ≡ extraAnswer s ps r
-  extra-reader e = refused (rw e)
-
-  pub extra-many : 16 < length ps → N.Refused ≡ extraAnswer s ps r
-  extra-many h = refused (both-false (validOf s r) (lt-leb _ _ h))
+  unfolding extraAnswer
+  extra-reader e = rw (e, extraAnswer)
 
   -- THE LAW for callers of `extra_bits`
   pub numbered : Valid s r → length ps ≤ 16 → {x : Number} → x ≡ extraAnswer s ps r → run (extra ps) s r ≡ fromNumber x

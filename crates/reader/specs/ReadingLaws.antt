@@ -9,7 +9,7 @@ use Rattle.reader.specs.declared.boolean.Reader.{Reader}
 use Rattle.reader.specs.declared.boolean.Symbol.{Symbol}
 use Rattle.reader.specs.declared.boolean.Symbol.the-variants as S
 use Rattle.reader.specs.Boolean.{Given, given, missing, symbolOf, toSymbol, symbolAnswer}
-use Rattle.reader.specs.BooleanLaws.{Bytes, Valid, Next, symbol-valid, symbol-good}
+use Rattle.reader.specs.BooleanLaws.{Bytes, Valid, symbol-valid, symbol-good}
 use Rattle.reader.specs.Reading.{Reading, done, ask, _>>=_, symbol, run, Within, ends, asks, depth}
 
 -- an answer that gives a value misses no byte
@@ -75,13 +75,13 @@ within-depth (ends h) = omega arith
 within-depth (asks h f) = omega (arith, within-depth (f true), within-depth (f false))
 
 -- what a run ends with
-pub record Ended {A : Type 0} (P : A → Type 0) (s : List ℕ) (r : Reader) (a : A) (r2 : Reader) : Type 0 where
+pub record ReadTo {A : Type 0} (P : A → Type 0) (s : List ℕ) (r : Reader) (a : A) (r2 : Reader) : Type 0 where
   pub value : P a
   pub valid : Valid s r2
   pub later : r .at ≤ r2 .at
 
 -- THE LAW of a run, for every grammar at once: a valid reader stays valid, and its place never falls
-pub run-valid : {A : Type 0} {P : A → Type 0} {n : ℕ} {m : Reading A} {s : List ℕ} {r : Reader} {a : A} {r2 : Reader} → Within P n m → Bytes s → Valid s r → run m s r ≡ given a r2 → Ended P s r a r2
+pub run-valid : {A : Type 0} {P : A → Type 0} {n : ℕ} {m : Reading A} {s : List ℕ} {r : Reader} {a : A} {r2 : Reader} → Within P n m → Bytes s → Valid s r → run m s r ≡ given a r2 → ReadTo P s r a r2
 unfolding run
 run-valid {P} {s} {r} {a} {r2} (ends {a = x} h) y v e =
     let g : x ≡ a = cc in
@@ -89,11 +89,11 @@ run-valid {P} {s} {r} {a} {r2} (ends {a = x} h) y v e =
     record { value = rw g at h; valid = rw i at v; later = rw i (omega arith) }
 run-valid {P} {s} {r} {a} {r2} (asks {n} {p} {k} h f) y v e = go (λ b q. run-valid (f b) y) (symbolOf s r p) refl
   where
-    go : ((b : Bool) (q : Reader) → Valid s q → run (k b) s q ≡ given a r2 → Ended P s q a r2) → (x : Given Bool) → symbolOf s r p ≡ x → Ended P s r a r2
+    go : ((b : Bool) (q : Reader) → Valid s q → run (k b) s q ≡ given a r2 → ReadTo P s q a r2) → (x : Given Bool) → symbolOf s r p ≡ x → ReadTo P s r a r2
     go ih missing g = absurd (never-both e (run-missing p k s r g))
     go ih (given b q) g =
         let z : Valid s q × (r .at ≤ q .at) = rw g at (symbol-valid s r p y h v) in
-        let w : Ended P s q a r2 = ih b q (z .0) (sym (run-got p k s r b q g) ∙ e) in
+        let w : ReadTo P s q a r2 = ih b q (z .0) (sym (run-got p k s r b q g) ∙ e) in
         record { value = w .value; valid = w .valid; later = omega arith }
 
 -- ---- what the answer of the code's `symbol` says of the grammar. A refusal cannot happen from a reader in range, so it may be

@@ -1,15 +1,14 @@
 -- The laws of traces: what M-103 (the count is a trace's length) and M-112 (a list that answers alike gives the same value) cite.
-use Prim.Native.Nat.{ℕ, zero, suc, _+_, _≤_, _<_}
+use Prim.Native.Nat.{ℕ, suc, _+_, _≤_, _<_}
 use lib.ListN.{length, length-append}
 use native.Mathlib.Omega.{arith}
 use mathlib.Core.Path.{_≡_, refl, sym, _∙_, ap}
-use mathlib.Core.Bool.{Bool, true, false}
+use mathlib.Core.Bool.{Bool}
 use mathlib.Core.List.{List, [], _∷_, _++_}
 use Rattle.reader.specs.declared.boolean.Reader.{Reader}
 use Rattle.reader.specs.Boolean.{Given, given, missing, symbolOf}
-use Rattle.reader.specs.BooleanLaws.{Bytes, Valid}
 use Rattle.reader.specs.Reading.{Reading, done, ask, _>>=_, run, Within, ends, asks}
-use Rattle.reader.specs.ReadingLaws.{never-both, run-done, run-missing, run-got}
+use Rattle.reader.specs.ReadingLaws.{never-both, run-missing, run-got}
 use Rattle.reader.specs.Trace.{CodedSymbol, trace, count, Follows, stop, take, Answers, none, more}
 
 -- ---- one question

@@ -14,7 +14,7 @@ use Rattle.reader.specs.declared.trees.Branch.the-variants as B
 use Rattle.reader.specs.declared.trees.Step.{Step}
 use Rattle.reader.specs.declared.trees.Step.the-variants as S
 use Rattle.reader.specs.Boolean.{Given, given, missing, validOf, noReader}
-use Rattle.reader.specs.Reading.{Reading, done, ask, _>>=_, symbol, run}
+use Rattle.reader.specs.Reading.{Reading, done, symbol, run, _>>=_}
 
 -- an entry: positive names a node, zero or less a leaf
 abbrev pub node : ℕ → ℤ

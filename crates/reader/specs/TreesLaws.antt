@@ -1,10 +1,10 @@
 -- The laws of tree walks: what code and callers cite.
-use Prim.Native.Nat.{ℕ, zero, suc, _+_, _-_, _/_, _≤_, _<_}
+use Prim.Native.Nat.{ℕ, zero, suc, _+_, _/_, _≤_, _<_}
 use mathlib.Core.Path.{_≡_, refl, sym, _∙_, ap}
 use mathlib.Core.Logic.{⊎-elim}
 use native.Mathlib.Omega.{arith}
 use native.Mathlib.Nat.{add-suc}
-use native.Mathlib.Numerals.{sub-one, add-one}
+use native.Mathlib.Numerals.{add-one}
 use mathlib.Core.List.{List}
 use mathlib.Core.Bool.{Bool, true, false, _&&_}
 use lib.ListN.{length, getD}
@@ -12,7 +12,7 @@ use lib.IntN.{ℤ, pos}
 use lib.Dec.{ltb, leb, eqb}
 use borrow.Author.Tests.{ltb-true, leb-true, eqb-true, lt-ltb, le-leb, eq-eqb}
 use Rattle.numbers.specs.Tables.{allAt, all-at}
-use Rattle.numbers.specs.Tests.{lt-or, never, not-so, both-left, both-right, both-true, both-false}
+use Rattle.numbers.specs.Tests.{lt-or, never, not-so, both-left, both-right, both-true}
 use Rattle.reader.specs.declared.boolean.Reader.{Reader}
 use Rattle.reader.specs.declared.trees.Walked.{Walked}
 use Rattle.reader.specs.declared.trees.Walked.the-variants as W
@@ -20,9 +20,9 @@ use Rattle.reader.specs.declared.trees.Branch.{Branch}
 use Rattle.reader.specs.declared.trees.Branch.the-variants as B
 use Rattle.reader.specs.declared.trees.Step.{Step}
 use Rattle.reader.specs.declared.trees.Step.the-variants as S
-use Rattle.reader.specs.Boolean.{Given, given, missing, validOf}
+use Rattle.reader.specs.Boolean.{Given, given, missing}
 use Rattle.reader.specs.BooleanLaws.{Bytes, Valid, valid-test}
-use Rattle.reader.specs.Reading.{Reading, done, ask, _>>=_, symbol, run, Within, ends, asks}
+use Rattle.reader.specs.Reading.{done, ask, symbol, run, Within, ends, asks}
 use Rattle.reader.specs.ReadingLaws.{run-done, run-then, run-stops, within-weaken}
 use Rattle.reader.specs.Trees.{branchOf, atOf, branchAt, nodesOf, step, follow, walk, leadsOf, treeEntries, treeOf, toStep, toWalked, treeStepOf, walkOf, walkAnswer, Leads, Tree}
 
@@ -37,19 +37,25 @@ module _ (s ps : List ℕ) (t : List ℤ) (i : ℕ) (r : Reader) where
   unfolding step
   step-got {b} {q} e = run-then (λ b. done (branchAt t i b)) s (symbol (getD ps i 0)) r e ∙ run-done (branchAt t i b) s q
 
+  -- a step, and the walk from where it led
   module _ (n : ℕ) where
-    pub chain-missing : run (symbol (getD ps i 0)) s r ≡ missing → run (walk (suc n) ps t i) s r ≡ missing
+    pub walk-stops : run (step ps t i) s r ≡ missing → run (walk (suc n) ps t i) s r ≡ missing
     unfolding walk
-    chain-missing e = run-stops (follow (walk n ps t)) s (step ps t i) r (step-missing e)
+    walk-stops e = run-stops (follow (walk n ps t)) s (step ps t i) r e
+
+    pub walk-then : {x : Branch} {q : Reader} → run (step ps t i) s r ≡ given x q → run (walk (suc n) ps t i) s r ≡ run (follow (walk n ps t) x) s q
+    unfolding walk
+    walk-then e = run-then (follow (walk n ps t)) s (step ps t i) r e
+
+    pub chain-missing : run (symbol (getD ps i 0)) s r ≡ missing → run (walk (suc n) ps t i) s r ≡ missing
+    chain-missing e = walk-stops (step-missing e)
 
     module _ (b : Bool) {q : Reader} where
       pub chain-leaf : {v : ℕ} → branchAt t i b ≡ B.Leaf v → run (symbol (getD ps i 0)) s r ≡ given b q → run (walk (suc n) ps t i) s r ≡ given v q
-      unfolding walk
-      chain-leaf {v} g e = run-then (follow (walk n ps t)) s (step ps t i) r (step-got e) ∙ ap (λ (x : Branch). run (follow (walk n ps t) x) s q) g ∙ run-done v s q
+      chain-leaf {v} g e = walk-then (step-got e) ∙ ap (λ (x : Branch). run (follow (walk n ps t) x) s q) g ∙ run-done v s q
 
       pub chain-node : {j : ℕ} → branchAt t i b ≡ B.Node j → run (symbol (getD ps i 0)) s r ≡ given b q → run (walk (suc n) ps t i) s r ≡ run (walk n ps t j) s q
-      unfolding walk
-      chain-node g e = run-then (follow (walk n ps t)) s (step ps t i) r (step-got e) ∙ ap (λ (x : Branch). run (follow (walk n ps t) x) s q) g
+      chain-node g e = walk-then (step-got e) ∙ ap (λ (x : Branch). run (follow (walk n ps t) x) s q) g
 
 -- ---- one step of the code
 abbrev fromStep : Step → Given Branch
@@ -85,6 +91,16 @@ at-inside n i true h = omega arith
 at-inside n i false h = omega arith
 
 -- ---- a walk of the code
+-- what its answer says of the grammar; where the arguments are good it is never Refused
+abbrev pub fromWalked : Walked → Given ℕ
+fromWalked (W.Leaf v r) = given v r
+fromWalked W.Missing = missing
+fromWalked W.Refused = missing
+
+from-walked : (x : Given ℕ) → x ≡ fromWalked (toWalked x)
+from-walked (given v r) = refl
+from-walked missing = refl
+
 module _ (s ps : List ℕ) (t : List ℤ) where
   -- it is the grammar's run
   pub walk-is : (n i : ℕ) (r : Reader) {x : Given ℕ} → run (walk n ps t i) s r ≡ x → toWalked x ≡ walkOf n s ps t i r
@@ -95,28 +111,9 @@ module _ (s ps : List ℕ) (t : List ℤ) where
   unfolding walkOf
   walk-on n i j r q e = ap toWalked (sym e)
 
-  pub walk-gave : (n i : ℕ) (r : Reader) {v : ℕ} {q : Reader} → W.Leaf v q ≡ walkOf n s ps t i r → run (walk n ps t i) s r ≡ given v q
+  pub walk-gives : (n i : ℕ) (r : Reader) {x : Walked} → x ≡ walkOf n s ps t i r → run (walk n ps t i) s r ≡ fromWalked x
   unfolding walkOf
-  walk-gave n i r {v} {q} e = from (run (walk n ps t i) s r) e
-    where
-      from : (x : Given ℕ) → W.Leaf v q ≡ toWalked x → x ≡ given v q
-      from (given w p) f = cc
-      from missing f = absurd (let z : _≡_ {A = ℕ} 0 1 = cc in omega arith)
-
-  pub walk-leaf : (n i : ℕ) (r : Reader) {v : ℕ} {q : Reader} → 1 ≤ n → S.Leaf v q ≡ treeStepOf s ps t i r → W.Leaf v q ≡ walkOf n s ps t i r
-  unfolding walkOf walk
-  walk-leaf zero i r h e = absurd (omega arith)
-  walk-leaf (suc n) i r {v} {q} h e = sym (ap toWalked (run-then (follow (walk n ps t)) s (step ps t i) r (stepped s ps t i r e) ∙ run-done v s q))
-
-  pub walk-missing : (n i : ℕ) (r : Reader) → 1 ≤ n → S.Missing ≡ treeStepOf s ps t i r → W.Missing ≡ walkOf n s ps t i r
-  unfolding walkOf walk
-  walk-missing zero i r h e = absurd (omega arith)
-  walk-missing (suc n) i r h e = sym (ap toWalked (run-stops (follow (walk n ps t)) s (step ps t i) r (stepped s ps t i r e)))
-
-  pub walk-node : (n i : ℕ) (r : Reader) {j : ℕ} {q : Reader} → 1 ≤ n → S.Node j q ≡ treeStepOf s ps t i r → walkOf (n - 1) s ps t j q ≡ walkOf n s ps t i r
-  unfolding walkOf walk
-  walk-node zero i r h e = absurd (omega arith)
-  walk-node (suc n) i r {j} {q} h e = rw (sub-one (suc n)) (sym (ap toWalked (run-then (follow (walk n ps t)) s (step ps t i) r (stepped s ps t i r e))))
+  walk-gives n i r e = from-walked (run (walk n ps t i) s r) ∙ ap fromWalked (sym e)
 
 -- ---- the test of a tree
 pub entries-none : (n : ℕ) (t : List ℤ) → treeEntries n t 0 ≡ true
@@ -193,35 +190,14 @@ module _ (ps : List ℕ) (t : List ℤ) (start : ℕ) where
       sym (both-true (lt-ltb _ _ a) (both-true (eq-eqb _ _ b) (both-true (le-leb _ _ c) (both-true (lt-ltb _ _ d) g))))
 
 -- ---- the public call
--- what its answer says of the grammar; where the arguments are good it is never Refused
-abbrev pub fromWalked : Walked → Given ℕ
-fromWalked (W.Leaf v r) = given v r
-fromWalked W.Missing = missing
-fromWalked W.Refused = missing
-
-from-walked : (x : Given ℕ) → x ≡ fromWalked (toWalked x)
-from-walked (given v r) = refl
-from-walked missing = refl
-
 module _ (s ps : List ℕ) (t : List ℤ) (i : ℕ) (r : Reader) where
   pub walk-good : Valid s r → treeOf ps t i ≡ true → walkAnswer s ps t i r ≡ walkOf 32 s ps t i r
   unfolding walkAnswer
   walk-good v e = rw (both-true (valid-test s r v) e, walkAnswer)
 
-  refused : validOf s r && treeOf ps t i ≡ false → W.Refused ≡ walkAnswer s ps t i r
-  unfolding walkAnswer
-  refused e = rw (e, walkAnswer)
-
-  pub walk-reader : validOf s r ≡ false → W.Refused ≡ walkAnswer s ps t i r
-  walk-reader e = refused (rw e)
-
-  pub walk-tree : treeOf ps t i ≡ false → W.Refused ≡ walkAnswer s ps t i r
-  walk-tree e = refused (both-false (validOf s r) e)
-
   -- THE LAW for callers of `walk_tree`
   pub walked : Valid s r → treeOf ps t i ≡ true → {x : Walked} → x ≡ walkAnswer s ps t i r → run (walk 32 ps t i) s r ≡ fromWalked x
-  unfolding walkOf
-  walked v e f = from-walked (run (walk 32 ps t i) s r) ∙ ap fromWalked (sym (f ∙ walk-good v e))
+  walked v e f = walk-gives s ps t 32 i r (f ∙ walk-good v e)
 
 -- ---- constant trees: two tests that compute, so that `refl` answers them, and the laws that turn them into facts
 -- what `treeOf` asks of the tree itself

@@ -202,25 +202,6 @@ impl Reader {
         grown(s, bit, part(self, x, bit))
     }
 
-    // The same, each bit's way by itself: less work where the caller goes by the bit at once, and more code.
-    pub(crate) fn read_apart(self, s: &[u8], prob: u8) -> Symbol
-        requires { ⌜ Valid (now s) self ⌝ }
-        ensures { λ r. ⌜ r ≡ toSymbol (symbolOf (now (s .entry)) self prob) ⌝ }
-    {
-        let range = self.range;
-        let window = self.window;
-        if s.len() < self.at {
-            if !decided(s, self) {
-                return Symbol::Missing;
-            }
-        }
-        let x = split(range, prob);
-        if 256 * x <= window {
-            return grown(s, true, part(self, x, true));
-        }
-        grown(s, false, part(self, x, false))
-    }
-
     // One symbol of probability prob / 256 for a 0, and the reader after it.
     pub fn symbol(self, s: &[u8], prob: u8) -> Symbol
         ensures { λ r. ⌜ r ≡ symbolAnswer (now (s .entry)) self prob ⌝ }

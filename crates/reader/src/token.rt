@@ -1,17 +1,14 @@
-// One token of a block (RFC 6386, section 13.2): the walk of coeff_tree, by tests and not by the tree's entries, since it is walked for
-// every coefficient. The reader is tried once a walk.
+// One token of a block (RFC 6386, section 13.2): the walk of coeff_tree.
 use crate::boolean::Reader;
-use crate::boolean::Symbol;
 use crate::boolean::valid;
+use crate::trees::Walked;
+use crate::trees::walk;
 ghost use mathlib.Core.Path.{_≡_};
-ghost use mathlib.Core.Bool.{true, false};
-ghost use Prim.Native.Nat.{ℕ, suc, _+_, _<_, _≤_};
+ghost use Prim.Native.Nat.{_<_, _+_};
+ghost use lib.Dec.{leb};
 ghost use lib.ListN.{length};
-ghost use Rattle.reader.specs.BooleanLaws.{Valid};
-ghost use Rattle.reader.specs.declared.trees.Branch.the-variants as B;
-ghost use Rattle.reader.specs.Trees.{branchAt};
-ghost use Rattle.reader.specs.Token.{tokenTree, elevenAt, tokenOf, tokenAnswer};
-ghost use Rattle.reader.specs.TokenLaws.{tokenFrom};
+ghost use Rattle.reader.specs.Token.{tokenStart, tokenAnswer};
+ghost use Rattle.reader.specs.Counts.{tokenCount};
 
 // A token and the reader after it; Missing where a byte was; Refused where the reader is out of range or the table has not eleven
 // probabilities there.
@@ -21,116 +18,82 @@ pub enum Token {
     Refused,
 }
 
-// The tree as a chain of symbols, whose probabilities stand from `at` on in the table.
-// Node i, which has two leaves.
-fn leaf(s: &[u8], r: Reader, table: &[u8], at: usize, i: usize, low: u8, high: u8) -> Token
-    requires { ⌜ Valid (now s) r ⌝ }
-    requires { ⌜ (at + 11 ≤ length (now table)) × (i < 11) ⌝ }
-    requires { ⌜ (branchAt tokenTree i false ≡ B.Leaf low) × (branchAt tokenTree i true ≡ B.Leaf high) ⌝ }
-    ensures { λ q. ⌜ ((n : ℕ) → q ≡ tokenFrom (suc n) (now (s .entry)) (now (table .entry)) at i r) ⌝ }
-{
-    let Symbol::Got(bit, next) = r.read_apart(s, table[at + i]) else {
-        return Token::Missing;
-    };
-    if bit {
-        return Token::Read(high, next);
-    }
-    Token::Read(low, next)
+// The answer, and how many symbols were read; where one is missing, those before it.
+pub struct TokenRead {
+    pub answer: Token,
+    pub reads: u64,
 }
 
-// From node 6: the categories.
-fn above_four(s: &[u8], r: Reader, table: &[u8], at: usize) -> Token
-    requires { ⌜ Valid (now s) r ⌝ }
-    requires { ⌜ at + 11 ≤ length (now table) ⌝ }
-    ensures { λ q. ⌜ q ≡ tokenFrom 28 (now (s .entry)) (now (table .entry)) at 6 r ⌝ }
+// The RFC's coeff_tree.
+const TOKEN_TREE: [i16; 22] = [
+    0,
+    1,
+    -1,
+    2,
+    -2,
+    3,
+    4,
+    6,
+    -3,
+    5,
+    -4,
+    -5,
+    7,
+    8,
+    -6,
+    -7,
+    9,
+    10,
+    -8,
+    -9,
+    -10,
+    -11,
+];
+
+// Whether the table has eleven probabilities from `at` on.
+fn has_eleven(table: &[u8], at: usize) -> bool
+    ensures { λ b. ⌜ b ≡ leb (at + 11) (length (now (table .entry))) ⌝ }
 {
-    let Symbol::Got(third, next) = r.read_apart(s, table[at + 6]) else {
-        return Token::Missing;
-    };
-    if third {
-        let Symbol::Got(fifth, after) = next.read_apart(s, table[at + 8]) else {
-            return Token::Missing;
-        };
-        if fifth {
-            return leaf(s, after, table, at, 10, 10, 11);
-        }
-        return leaf(s, after, table, at, 9, 8, 9);
+    if table.len() < 11 {
+        return false;
     }
-    leaf(s, next, table, at, 7, 6, 7)
+    if table.len() - 11 < at {
+        return false;
+    }
+    true
 }
 
-// From node 3: two to four, and the categories.
-fn above_one(s: &[u8], r: Reader, table: &[u8], at: usize) -> Token
-    requires { ⌜ Valid (now s) r ⌝ }
-    requires { ⌜ at + 11 ≤ length (now table) ⌝ }
-    ensures { λ q. ⌜ q ≡ tokenFrom 29 (now (s .entry)) (now (table .entry)) at 3 r ⌝ }
+// A block never ends after a zero: there the walk starts at node 1.
+fn first_node(zero: bool) -> usize
+    ensures { λ i. ⌜ (i ≡ tokenStart zero) × (i < 11) ⌝ }
 {
-    let Symbol::Got(large, next) = r.read_apart(s, table[at + 3]) else {
-        return Token::Missing;
-    };
-    if large {
-        return above_four(s, next, table, at);
-    }
-    let Symbol::Got(more, after) = next.read_apart(s, table[at + 4]) else {
-        return Token::Missing;
-    };
-    if more {
-        return leaf(s, after, table, at, 5, 4, 5);
-    }
-    Token::Read(3, after)
-}
-
-// From node 1, where the block does not end: zero, one, and above.
-fn not_end(s: &[u8], r: Reader, table: &[u8], at: usize) -> Token
-    requires { ⌜ Valid (now s) r ⌝ }
-    requires { ⌜ at + 11 ≤ length (now table) ⌝ }
-    ensures { λ q. ⌜ q ≡ tokenFrom 31 (now (s .entry)) (now (table .entry)) at 1 r ⌝ }
-{
-    let Symbol::Got(some, next) = r.read_apart(s, table[at + 1]) else {
-        return Token::Missing;
-    };
-    if some {
-        let Symbol::Got(more, after) = next.read_apart(s, table[at + 2]) else {
-            return Token::Missing;
-        };
-        if more {
-            return above_one(s, after, table, at);
-        }
-        return Token::Read(2, after);
-    }
-    Token::Read(1, next)
-}
-
-// One token; after a zero the block does not end.
-fn read_token(s: &[u8], r: Reader, table: &[u8], at: usize, zero: bool) -> Token
-    requires { ⌜ Valid (now s) r ⌝ }
-    requires { ⌜ at + 11 ≤ length (now table) ⌝ }
-    ensures { λ q. ⌜ q ≡ tokenOf (now (s .entry)) (elevenAt (now (table .entry)) at) zero r ⌝ }
-{
-    if zero {
-        return not_end(s, r, table, at);
-    }
-    let Symbol::Got(on, next) = r.read_apart(s, table[at]) else {
-        return Token::Missing;
-    };
-    if on {
-        return not_end(s, next, table, at);
-    }
-    Token::Read(0, next)
+    if zero { 1 } else { 0 }
 }
 
 // One token, its eleven probabilities from `at` on in the table; after a zero (token 1) the block does not end.
-pub fn walk_token(s: &[u8], r: Reader, table: &[u8], at: usize, zero: bool) -> Token
-    ensures { λ q. ⌜ q ≡ tokenAnswer (now (s .entry)) (now (table .entry)) at zero r ⌝ }
+pub fn walk_token(s: &[u8], r: Reader, table: &[u8], at: usize, zero: bool) -> TokenRead
+    ensures { λ q. ⌜ (q .answer ≡ tokenAnswer (now (s .entry)) (now (table .entry)) at zero r)
+        × (q .reads ≡ tokenCount (now (s .entry)) (now (table .entry)) at zero r) ⌝ }
 {
-    if !valid(s, r) {
-        return Token::Refused;
+    if !(valid(s, r) & has_eleven(table, at)) {
+        return TokenRead {
+            answer: Token::Refused,
+            reads: 0,
+        };
     }
-    if table.len() < 11 {
-        return Token::Refused;
+    let end = at + 11;
+    let start = first_node(zero);
+    let t = walk(s, r, &table[at..end], &TOKEN_TREE, start);
+    let reads = t.reads;
+    let answer = t.answer;
+    let Walked::Leaf(token, next) = answer else {
+        return TokenRead {
+            answer: Token::Missing,
+            reads: reads,
+        };
+    };
+    TokenRead {
+        answer: Token::Read(token as u8, next),
+        reads: reads,
     }
-    if table.len() - 11 < at {
-        return Token::Refused;
-    }
-    read_token(s, r, table, at, zero)
 }

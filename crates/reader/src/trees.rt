@@ -3,17 +3,25 @@ use crate::boolean::Reader;
 use crate::boolean::Symbol;
 use crate::boolean::valid;
 ghost use mathlib.Core.Path.{_≡_};
-ghost use Prim.Native.Nat.{_<_, _≤_, _+_};
+ghost use Prim.Native.Nat.{_<_};
 ghost use lib.IntN.{pos};
 ghost use lib.ListN.{length, getD};
 ghost use Rattle.reader.specs.BooleanLaws.{Valid};
-ghost use Rattle.reader.specs.Trees.{branchOf, atOf, nodesOf, treeStepOf, walkOf, leadsOf, treeOf, walkAnswer, Tree};
+ghost use Rattle.reader.specs.Trees.{branchOf, atOf, nodesOf, treeStepOf, walk, walkOf, leadsOf, treeOf, walkAnswer, Tree};
+ghost use Rattle.reader.specs.Trace.{count};
+ghost use Rattle.reader.specs.Counts.{treeCount};
 
 // The leaf and the reader after it; Missing where a byte was; Refused where the reader or the tree is out of range.
 pub enum Walked {
     Leaf(u16, Reader),
     Missing,
     Refused,
+}
+
+// The answer, and how many symbols were read; where one is missing, those before it.
+pub struct TreeRead {
+    pub answer: Walked,
+    pub reads: u64,
 }
 
 // What an entry is. Public so that the laws on walks of a known tree can be stated of it elsewhere.
@@ -23,7 +31,7 @@ pub enum Branch {
 }
 
 // What one symbol leads to.
-pub(crate) enum Step {
+enum Step {
     Leaf(u16, Reader),
     Node(usize, Reader),
     Missing,
@@ -49,7 +57,7 @@ fn branch_at(tree: &[i16], k: usize) -> Branch
 }
 
 // One step down from node i.
-pub(crate) fn down(s: &[u8], r: Reader, probs: &[u8], tree: &[i16], i: usize) -> Step
+fn down(s: &[u8], r: Reader, probs: &[u8], tree: &[i16], i: usize) -> Step
     requires { ⌜ Valid (now s) r ⌝ }
     requires { ⌜ Tree (now probs) (now tree) ⌝ }
     requires { ⌜ i < nodesOf (now tree) ⌝ }
@@ -64,17 +72,41 @@ pub(crate) fn down(s: &[u8], r: Reader, probs: &[u8], tree: &[i16], i: usize) ->
     }
 }
 
-// Walks from node i; each step uses up one of `left`, which suffice.
-fn walk(s: &[u8], r: Reader, probs: &[u8], tree: &[i16], i: usize, left: usize) -> Walked
+// Walks from node i and counts. In a tree it ends before the limit, which only bounds the loop.
+pub(crate) fn walk(s: &[u8], r: Reader, probs: &[u8], tree: &[i16], i: usize) -> TreeRead
     requires { ⌜ Valid (now s) r ⌝ }
     requires { ⌜ Tree (now probs) (now tree) ⌝ }
-    requires { ⌜ (i < nodesOf (now tree)) × (nodesOf (now tree) ≤ i + left) ⌝ }
-    ensures { λ q. ⌜ q ≡ walkOf left (now (s .entry)) (now (probs .entry)) (now (tree .entry)) i r ⌝ }
+    requires { ⌜ i < nodesOf (now tree) ⌝ }
+    ensures { λ q. ⌜ (q .answer ≡ walkOf 32 (now (s .entry)) (now (probs .entry)) (now (tree .entry)) i r)
+        × (q .reads ≡ count (walk 32 (now (probs .entry)) (now (tree .entry)) i) (now (s .entry)) r) ⌝ }
 {
-    match down(s, r, probs, tree, i) {
-        Step::Leaf(v, next) => Walked::Leaf(v, next),
-        Step::Missing => Walked::Missing,
-        Step::Node(j, next) => walk(s, next, probs, tree, j, left - 1),
+    let mut next = r;
+    let mut node = i;
+    let mut reads: u64 = 0;
+    while reads < 32 {
+        match down(s, next, probs, tree, node) {
+            Step::Leaf(v, after) => {
+                return TreeRead {
+                    answer: Walked::Leaf(v, after),
+                    reads: reads + 1,
+                };
+            }
+            Step::Missing => {
+                return TreeRead {
+                    answer: Walked::Missing,
+                    reads: reads,
+                };
+            }
+            Step::Node(j, after) => {
+                node = j;
+                next = after;
+                reads = reads + 1;
+            }
+        }
+    }
+    TreeRead {
+        answer: Walked::Leaf(0, next),
+        reads: reads,
     }
 }
 
@@ -90,7 +122,7 @@ fn leads(tree: &[i16], n: usize, k: usize) -> bool
 }
 
 // Whether a tree may be walked from a node, with these probabilities.
-pub(crate) fn tree_fine(probs: &[u8], tree: &[i16], start: usize) -> bool
+fn tree_fine(probs: &[u8], tree: &[i16], start: usize) -> bool
     ensures { λ r. ⌜ r ≡ treeOf (now (probs .entry)) (now (tree .entry)) start ⌝ }
 {
     let n = tree.len() / 2;
@@ -117,14 +149,15 @@ pub(crate) fn tree_fine(probs: &[u8], tree: &[i16], start: usize) -> bool
 }
 
 // Walks down a tree from a node to a leaf.
-pub fn walk_tree(s: &[u8], r: Reader, probs: &[u8], tree: &[i16], start: usize) -> Walked
-    ensures { λ q. ⌜ q ≡ walkAnswer (now (s .entry)) (now (probs .entry)) (now (tree .entry)) start r ⌝ }
+pub fn walk_tree(s: &[u8], r: Reader, probs: &[u8], tree: &[i16], start: usize) -> TreeRead
+    ensures { λ q. ⌜ (q .answer ≡ walkAnswer (now (s .entry)) (now (probs .entry)) (now (tree .entry)) start r)
+        × (q .reads ≡ treeCount (now (s .entry)) (now (probs .entry)) (now (tree .entry)) start r) ⌝ }
 {
-    if !valid(s, r) {
-        return Walked::Refused;
+    if !(valid(s, r) & tree_fine(probs, tree, start)) {
+        return TreeRead {
+            answer: Walked::Refused,
+            reads: 0,
+        };
     }
-    if !tree_fine(probs, tree, start) {
-        return Walked::Refused;
-    }
-    walk(s, r, probs, tree, start, 32)
+    walk(s, r, probs, tree, start)
 }

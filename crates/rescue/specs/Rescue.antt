@@ -37,7 +37,7 @@ rescueRefusalOf c z marks =
 unfoldable pub rebuiltAt : Picture → ℕ → State → Step
 rebuiltAt P k S = rebuiltOf (P .first) (readersAt S (partitionOf P k)) (P .frame) (aroundAt P S (columnOf P k)) (placeOf P k) (planesIn (S .mem))
 
--- so many macroblocks are not grey, and the lent memory
+-- how many macroblocks are not grey, and the lent memory
 pub record Saved : Type 0 where
   pub count : ℕ
   pub mem : Memory
@@ -97,12 +97,12 @@ rescueOf c m marks =
       | suc n ↦ rescueEnded (R.Refused (suc n)) m marks
     ]
 
--- ---- the answer as a number, and the macroblocks marked 0 or 1
+-- ---- the answer as a number
 abbrev pub rescueNumberOf : Rescued → ℕ
 rescueNumberOf (R.Saved n) = 0
 rescueNumberOf (R.Refused n) = n
 
--- 0 where an argument is refused
+-- the macroblocks marked 0 or 1; 0 where an argument is refused
 abbrev pub savedCountOf : Rescued → ℕ
 savedCountOf (R.Saved n) = n
 savedCountOf (R.Refused n) = 0

@@ -16,7 +16,7 @@ ghost use Rattle.lent.specs.Memory.{memoryOf};
 ghost use Rattle.picture.specs.Checks.{callOf};
 ghost use Rattle.rescue.specs.Rescue.{rescueEnded, rescueOf, rescueNumberOf, savedCountOf};
 
-// So many macroblocks are not grey; or an argument was refused, 1 to 5.
+// How many macroblocks are not grey; or the argument that was refused, 1 to 5.
 pub enum Rescued {
     Saved(usize),
     Refused(u32),

@@ -1,2 +1,2 @@
-pub mod Answers
+pub mod Tags
 pub mod Turns

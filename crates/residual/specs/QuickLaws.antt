@@ -45,7 +45,7 @@ use Rattle.residual.specs.Quick.{Wider, blockSpots, spotsAt, numberPlace
 use Rattle.residual.specs.Residual.{Model, Flags, initial, secondKind, kindOf, coordinates, coded, flagged, spread, secondPlace, second, sixteenAt, stored, emptyOf, zeroOf, advance, blocksFrom, residualOf, residualAnswer}
 use Rattle.residual.specs.ResidualLaws.{kind-in, flags-flagged, zeros-sixteen, sixteen-fit}
 use Rattle.residual.specs.ResidualSteps.{call-handed}
-use Rattle.residual.specs.declared.Ended.the-variants as E
+use Rattle.residual.specs.declared.answers.Ended.the-variants as E
 use Rattle.residual.specs.declared.blocks.Kind.{Kind}
 use Rattle.residual.specs.declared.contexts.FlagsAt.{FlagsAt}
 use Rattle.residual.specs.declared.quick.Quick.{Quick}

@@ -24,9 +24,9 @@ pub use Rattle.coefficients.specs.Fast.{stored}
 use Rattle.coefficients.specs.Block.{Coefficients, block, headerTable}
 use Rattle.transform.specs.Transform.{samplesOf}
 use Rattle.transform.specs.Lanes.{macroblockLanes}
-use Rattle.residual.specs.declared.Ended.{Ended}
-use Rattle.residual.specs.declared.Ended.the-variants as E
-use Rattle.residual.specs.declared.Residual.{Residual}
+use Rattle.residual.specs.declared.answers.Ended.{Ended}
+use Rattle.residual.specs.declared.answers.Ended.the-variants as E
+use Rattle.residual.specs.declared.answers.Residual.{Residual}
 use Rattle.residual.specs.declared.blocks.Kind.{Kind}
 use Rattle.residual.specs.declared.contexts.FlagsAt.{FlagsAt}
 

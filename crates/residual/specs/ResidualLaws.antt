@@ -37,9 +37,9 @@ use Rattle.transform.specs.Transform.{samplesOf}
 use Rattle.transform.specs.TransformLaws.{CoefficientsIn, transform-good, transform-walsh-in}
 use Rattle.residual.specs.Residual.{Model, Flags, ModelInRange, initial, coordinates, secondKind, lumaKind, kindOf, flagged, spread, secondPlace, second, sixteenAt, emptyOf, advance, blocksFrom, cleared, residualOf, ResidualCalled, toResidualCalled, residualArguments, residualAnswer, residualCallOf, residualByHeaderOf, residualReads}
 use Rattle.residual.specs.ResidualSteps.{arguments-good, decode-passed, reads-passed, decode-refused, header-passed}
-use Rattle.residual.specs.declared.Ended.{Ended}
-use Rattle.residual.specs.declared.Ended.the-variants as E
-use Rattle.residual.specs.declared.Residual.{Residual}
+use Rattle.residual.specs.declared.answers.Ended.{Ended}
+use Rattle.residual.specs.declared.answers.Ended.the-variants as E
+use Rattle.residual.specs.declared.answers.Residual.{Residual}
 use Rattle.residual.specs.declared.blocks.Kind.{Kind}
 use Rattle.residual.specs.declared.contexts.FlagsAt.{FlagsAt}
 
@@ -228,18 +228,18 @@ pub record Kept (x : Residual) (l old : List ℤ) : Type 0 where
 module _ (s : List ℕ) (r : Reader) (table : List ℕ) (f : Factors) (small skip : Bool) (top left : List ℕ) (old : List ℤ) where
   -- with good arguments it is the inner definition
   pub decode-good : Valid s r → Good table top left old → residualAnswer s r table f small skip top left old ≡ residualCallOf s r table f small skip top left old
-  decode-good v g = decode-passed s r table f small skip top left old (valid-test s r v) (arguments-good table top left (length old) (g .size) (g .top-flags) (g .left-flags) (g .long))
+  decode-good v g = decode-passed s r table f small skip top left old (both-true (valid-test s r v) (arguments-good table top left (length old) (g .size) (g .top-flags) (g .left-flags) (g .long)))
 
   -- how many symbols it read
   pub decode-reads : Valid s r → Good table top left old → {n : ℕ} → n ≡ residualReads s r table f small skip top left old → n ≡ count (residualOf table f small skip top left) s r
-  decode-reads v g e = e ∙ sym (reads-passed s r table f small skip top left old (valid-test s r v) (arguments-good table top left (length old) (g .size) (g .top-flags) (g .left-flags) (g .long)))
+  decode-reads v g e = e ∙ sym (reads-passed s r table f small skip top left old (both-true (valid-test s r v) (arguments-good table top left (length old) (g .size) (g .top-flags) (g .left-flags) (g .long))))
 
   -- M-103: no macroblock reads more, whatever its symbols are
   pub residual-few : Bytes table → Flags top → Flags left → count (residualOf table f small skip top left) s r ≤ 7296
   residual-few b t l = count-within s r (residual-within table f b small skip t l)
 
   -- what was read from good arguments: whole, the reader in range and no earlier
-  pub decode-ends : Valid s r → Good table top left old → Bytes s → Bytes table → {m : Model} {q : Reader} → run (residualOf table f small skip top left) s r ≡ given m q → ReadingLaws.Ended ModelInRange s r m q
+  pub decode-ends : Valid s r → Good table top left old → Bytes s → Bytes table → {m : Model} {q : Reader} → run (residualOf table f small skip top left) s r ≡ given m q → ReadingLaws.ReadTo ModelInRange s r m q
   decode-ends v g y b e = run-valid (residual-within table f b small skip (g .top-flags) (g .left-flags)) y v e
 
   -- THE LAW for callers of `decode`: what it gave, with its numbers one block after the other

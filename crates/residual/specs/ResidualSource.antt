@@ -24,13 +24,15 @@ use Rattle.coefficients.specs.Block.{Coefficients}
 use Rattle.transform.specs.Transform.{samplesOf}
 use Rattle.residual.specs.Residual.{Model, initial, coordinates, secondKind, kindOf, coded, flagged, spread, secondPlace, second, sixteenAt, stored, emptyOf, blocksFrom, cleared, residualOf}
 use Rattle.residual.specs.ResidualLaws.{length-spread}
+use Rattle.reader.specs.Counts.{Took}
+use Rattle.reader.specs.Trace.{count}
 use Rattle.residual.specs.ResidualSteps.{second-missing, second-ended, advance-missing, advance-ended, blocks-none, blocks-missing, blocks-next}
 use Rattle.residual.specs.declared.blocks.Kind.{Kind}
 use Rattle.residual.specs.declared.contexts.FlagsAt.{FlagsAt}
 
 -- ---- the source's definitions
 -- its model: flags, the results of the second-order block, the blocks, whether all are empty
-pub record Source : Type 0 where
+pub record SourceState : Type 0 where
   pub top : List ℕ
   pub left : List ℕ
   pub dc : List ℤ
@@ -38,7 +40,7 @@ pub record Source : Type 0 where
   pub empty : Bool
 
 -- before the first block
-abbrev pub sourceInitial : (top left : List ℕ) → Source
+abbrev pub sourceInitial : (top left : List ℕ) → SourceState
 sourceInitial top left = record { top = top; left = left; dc = replicate 16 (pos 0); blocks = replicate 24 (replicate 16 (pos 0)); empty = true }
 
 -- a block starts as zeros, but for the first coefficient of a luma block
@@ -46,42 +48,42 @@ unfoldable pub sourceStart : List ℤ → ℕ → List ℤ
 sourceStart dc i = build 16 (λ k. elim (eqb k 0 && ltb i 16) [ true ↦ getD dc i (pos 0) | false ↦ pos 0 ])
 
 -- after a block: its flag on both sides
-abbrev pub passedSource : Kind → FlagsAt → ℕ → (dc : List ℤ) → (blocks : List (List ℤ)) → Bool → Source → Source
+abbrev pub passedSource : Kind → FlagsAt → ℕ → (dc : List ℤ) → (blocks : List (List ℤ)) → Bool → SourceState → SourceState
 passedSource k p end dc blocks empty m =
     let flag = bitOf (ltb (k .first) end) in
     record { top = set (m .top) (p .x) flag; left = set (m .left) (p .y) flag; dc = dc; blocks = blocks; empty = empty }
 
 -- dc_stage
-unfoldable pub sourceSecond : List ℕ → Factors → Source → Reading Source
+unfoldable pub sourceSecond : List ℕ → Factors → SourceState → Reading SourceState
 sourceSecond table f m = do
   c ← coded table (secondKind f) secondPlace (m .top) (m .left) (replicate 16 (pos 0))
   done (passedSource (secondKind f) secondPlace (c .end) (samplesOf true (c .values)) (m .blocks) (m .empty) m)
 
 -- small modes have no second-order block
-abbrev pub sourceDc : List ℕ → Factors → Bool → Source → Reading Source
+abbrev pub sourceDc : List ℕ → Factors → Bool → SourceState → Reading SourceState
 sourceDc table f true m = done m
 sourceDc table f false m = sourceSecond table f m
 
 -- advance and finish
 module _ (table : List ℕ) (f : Factors) (small : Bool) where
-  abbrev nextSource : ℕ → Coefficients → Source → Source
+  abbrev nextSource : ℕ → Coefficients → SourceState → SourceState
   nextSource i c m = passedSource (kindOf f small i) (coordinates i) (c .end) (m .dc) (set (m .blocks) i (c .values)) (m .empty && emptyOf c) m
 
   -- block i
-  unfoldable pub sourceAdvance : ℕ → Source → Reading Source
+  unfoldable pub sourceAdvance : ℕ → SourceState → Reading SourceState
   sourceAdvance i m = do
     c ← coded table (kindOf f small i) (coordinates i) (m .top) (m .left) (sourceStart (m .dc) i)
     done (nextSource i c m)
 
   -- `more` blocks, from block i on
-  unfoldable pub sourceFrom : (more i : ℕ) → Source → Reading Source
+  unfoldable pub sourceFrom : (more i : ℕ) → SourceState → Reading SourceState
   sourceFrom zero i m = done m
   sourceFrom (suc more) i m = do
     next ← sourceAdvance i m
     sourceFrom more (i + 1) next
 
 -- decoded
-unfoldable pub sourceOf : List ℕ → Factors → (small skip : Bool) → (top left : List ℕ) → Reading Source
+unfoldable pub sourceOf : List ℕ → Factors → (small skip : Bool) → (top left : List ℕ) → Reading SourceState
 sourceOf table f small true top left = done (sourceInitial (cleared small top) (cleared small left))
 sourceOf table f small false top left = do
   m ← sourceDc table f small (sourceInitial top left)
@@ -98,15 +100,15 @@ flatAt i dc blocks j =
 unfoldable flatTo : ℕ → (dc : List ℤ) → (blocks : List (List ℤ)) → List ℤ
 flatTo i dc blocks = build 384 (flatAt i dc blocks)
 
-abbrev laid : ℕ → Source → Model
+abbrev laid : ℕ → SourceState → Model
 laid i m = record { top = m .top; left = m .left; coefficients = flatTo i (m .dc) (m .blocks); empty = m .empty }
 
 -- all 24
-abbrev pub laidOut : Source → Model
+abbrev pub laidOut : SourceState → Model
 laidOut m = record { top = m .top; left = m .left; coefficients = build 384 (λ j. getD (getD (m .blocks) (j / 16) []) (j % 16) (pos 0)); empty = m .empty }
 
 -- of a run
-abbrev pub laidGiven : Given Source → Given Model
+abbrev pub laidGiven : Given SourceState → Given Model
 laidGiven (given m r) = given (laidOut m) r
 laidGiven missing = missing
 
@@ -228,13 +230,16 @@ unfolding flatTo
 all-read dc blocks = build-same 384 _ _ (λ j h. flat-read dc blocks 24 j (omega arith))
 
 -- ---- the grammars
+ran : {A : Type 0} {m : Reading A} {s : List ℕ} {r : Reader} {x : Given A} → run m s r ≡ x → Took m s r x (count m s r)
+ran e = record { gave = e; took = refl }
+
 module _ (table : List ℕ) (f : Factors) (small : Bool) (s : List ℕ) where
-  from-source : (more i : ℕ) (m : Source) (r : Reader) → i + more ≡ 24 → length (m .blocks) ≡ 24 → run (blocksFrom table f small more i (laid i m)) s r ≡ laidGiven (run (sourceFrom table f small more i m) s r)
+  from-source : (more i : ℕ) (m : SourceState) (r : Reader) → i + more ≡ 24 → length (m .blocks) ≡ 24 → run (blocksFrom table f small more i (laid i m)) s r ≡ laidGiven (run (sourceFrom table f small more i m) s r)
   unfolding sourceFrom sourceAdvance
   from-source zero i m r e n =
       let q : i ≡ 24 = omega arith in
       let z : flatTo i (m .dc) (m .blocks) ≡ laidOut m .coefficients = rw q (all-read (m .dc) (m .blocks)) in
-      blocks-none table f s (laid i m) r small i ∙ ap (λ (l : List ℤ). given (record { top = m .top; left = m .left; coefficients = l; empty = m .empty }) r) z ∙ sym (ap laidGiven (run-done m s r))
+      blocks-none table f s (laid i m) r small i .gave ∙ ap (λ (l : List ℤ). given (record { top = m .top; left = m .left; coefficients = l; empty = m .empty }) r) z ∙ sym (ap laidGiven (run-done m s r))
   from-source (suc more) i m r e n = go (λ m r. from-source more (i + 1) m r (omega arith)) (run own s r) refl
     where
       own : Reading Coefficients
@@ -249,25 +254,25 @@ module _ (table : List ℕ) (f : Factors) (small : Bool) (s : List ℕ) where
       got : {c : Coefficients} {q : Reader} → run own s r ≡ given c q → run (sourceAdvance table f small i m) s r ≡ given (nextSource table f small i c m) q
       got {c} {q} w = run-then _ s own r w ∙ run-done (nextSource table f small i c m) s q
 
-      go : ((m : Source) (r : Reader) → length (m .blocks) ≡ 24 → run (blocksFrom table f small more (i + 1) (laid (i + 1) m)) s r ≡ laidGiven (run (sourceFrom table f small more (i + 1) m) s r))
+      go : ((m : SourceState) (r : Reader) → length (m .blocks) ≡ 24 → run (blocksFrom table f small more (i + 1) (laid (i + 1) m)) s r ≡ laidGiven (run (sourceFrom table f small more (i + 1) m) s r))
           → (x : Given Coefficients) → run own s r ≡ x → run (blocksFrom table f small (suc more) i (laid i m)) s r ≡ laidGiven (run (sourceFrom table f small (suc more) i m) s r)
       go ih missing w =
-          blocks-missing table f s (laid i m) r small i more (advance-missing table f s (laid i m) r small i (starts w))
+          blocks-missing table f s (laid i m) r small i more (advance-missing table f s (laid i m) r small i (ran (starts w))) .gave
           ∙ sym (ap laidGiven (run-stops _ s (sourceAdvance table f small i m) r (lost w)))
       go ih (given c q) w =
-          blocks-next table f s (laid i m) r small i more (advance-ended table f s (laid i m) r small i (starts w))
+          blocks-next table f s (laid i m) r small i more (advance-ended table f s (laid i m) r small i (ran (starts w))) (ran refl) .gave
           ∙ ap (λ (l : List ℤ). run (blocksFrom table f small more (i + 1) (flagged (kindOf f small i) (coordinates i) (c .end) l (m .empty && emptyOf c) (laid i m))) s q) (stored-read (m .dc) (m .blocks) i (omega arith) n (c .values))
           ∙ ih (nextSource table f small i c m) q (length-set (m .blocks) i (c .values) ∙ n)
           ∙ sym (ap laidGiven (run-then _ s (sourceAdvance table f small i m) r (got w)))
 
-  second-source : (m : Source) (r : Reader) → m .dc ≡ replicate 16 (pos 0) → length (m .blocks) ≡ 24 → run (second table f (laid 0 m) >>= blocksFrom table f small 24 0) s r ≡ laidGiven (run (sourceSecond table f m >>= sourceFrom table f small 24 0) s r)
+  second-source : (m : SourceState) (r : Reader) → m .dc ≡ replicate 16 (pos 0) → length (m .blocks) ≡ 24 → run (second table f (laid 0 m) >>= blocksFrom table f small 24 0) s r ≡ laidGiven (run (sourceSecond table f m >>= sourceFrom table f small 24 0) s r)
   unfolding sourceSecond
   second-source m r e n = go (run own s r) refl
     where
       own : Reading Coefficients
       own = coded table (secondKind f) secondPlace (m .top) (m .left) (replicate 16 (pos 0))
 
-      next : Coefficients → Source
+      next : Coefficients → SourceState
       next c = passedSource (secondKind f) secondPlace (c .end) (samplesOf true (c .values)) (m .blocks) (m .empty) m
 
       lost : run own s r ≡ missing → run (sourceSecond table f m) s r ≡ missing
@@ -280,9 +285,9 @@ module _ (table : List ℕ) (f : Factors) (small : Bool) (s : List ℕ) where
       over d = rw (e, ← (zeros-start (m .blocks))) (spread-start d (m .blocks))
 
       go : (x : Given Coefficients) → run own s r ≡ x → run (second table f (laid 0 m) >>= blocksFrom table f small 24 0) s r ≡ laidGiven (run (sourceSecond table f m >>= sourceFrom table f small 24 0) s r)
-      go missing w = run-stops _ s (second table f (laid 0 m)) r (second-missing table f s (laid 0 m) r w) ∙ sym (ap laidGiven (run-stops _ s (sourceSecond table f m) r (lost w)))
+      go missing w = run-stops _ s (second table f (laid 0 m)) r (second-missing table f s (laid 0 m) r (ran w) .gave) ∙ sym (ap laidGiven (run-stops _ s (sourceSecond table f m) r (lost w)))
       go (given c q) w =
-          run-then _ s (second table f (laid 0 m)) r (second-ended table f s (laid 0 m) r w)
+          run-then _ s (second table f (laid 0 m)) r (second-ended table f s (laid 0 m) r (ran w) .gave)
           ∙ ap (λ (l : List ℤ). run (blocksFrom table f small 24 0 (flagged (secondKind f) secondPlace (c .end) l (m .empty) (laid 0 m))) s q) (over (samplesOf true (c .values)))
           ∙ from-source 24 0 (next c) q refl n
           ∙ sym (ap laidGiven (run-then _ s (sourceSecond table f m) r (got w)))

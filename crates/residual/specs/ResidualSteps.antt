@@ -13,15 +13,15 @@ use lib.ListN.{length, getD, set, replicate, List·getD-eq-default}
 use Rattle.header.specs.Entries.{probabilityCount}
 use Rattle.numbers.specs.Runs.{placed, placed-next}
 use Rattle.numbers.specs.Tables.{allBelow, all-below}
-use Rattle.numbers.specs.Tests.{lt-or, both-left, both-right, both-true, both-false}
+use Rattle.numbers.specs.Tests.{lt-or, both-left, both-right, both-true}
 use Rattle.reader.specs.Boolean.{Given, given, missing, validOf}
 use Rattle.reader.specs.BooleanLaws.{Valid}
 use Rattle.header.specs.Header.{headerOf}
 use Rattle.header.specs.HeaderLaws.{header-length}
 use Rattle.reader.specs.Reading.{Reading, run}
-use Rattle.reader.specs.ReadingLaws.{run-done, run-then, run-stops}
 use Rattle.reader.specs.Trace.{count}
-use Rattle.reader.specs.TraceLaws.{count-done, count-then, count-stops, count-map}
+use Rattle.reader.specs.Counts.{Took}
+use Rattle.reader.specs.CountsLaws.{took-done, took-stops, took-then, took-ends}
 use Rattle.reader.specs.declared.boolean.Reader.{Reader}
 use Rattle.header.specs.Quantizers.{factorsOf, quantizersOf}
 use Rattle.header.specs.QuantizersLaws.{segment-ready, segment-refused}
@@ -37,9 +37,9 @@ use Rattle.coefficients.specs.declared.block.Table.{Table}
 use Rattle.transform.specs.Transform.{samplesOf}
 use Rattle.transform.specs.Lanes.{macroblockLanes}
 use Rattle.residual.specs.Residual.{Model, Flags, ModelInRange, initial, coordinates, secondKind, kindOf, coded, flagged, spread, secondPlace, second, sixteenAt, stored, emptyOf, advance, blocksFrom, dcStage, cleared, residualOf, noResidual, toResidualCalled, flagsOf, residualArguments, residualAnswer, residualCallOf, residualByHeaderOf, residualReads, residualByHeaderReads}
-use Rattle.residual.specs.declared.Ended.the-variants as E
-use Rattle.residual.specs.declared.Residual.{Residual}
-use Rattle.residual.specs.declared.ResidualRead.{ResidualRead}
+use Rattle.residual.specs.declared.answers.Ended.the-variants as E
+use Rattle.residual.specs.declared.answers.Residual.{Residual}
+use Rattle.residual.specs.declared.answers.ResidualRead.{ResidualRead}
 use Rattle.residual.specs.declared.blocks.Kind.{Kind}
 use Rattle.residual.specs.declared.blocks.State.{State}
 use Rattle.residual.specs.declared.blocks.Turn.{Turn}
@@ -55,14 +55,12 @@ turnOf true m l = given (modelOf m l) (m .reader)
 turnOf false m l = missing
 
 -- a part as the code read it: what it gave, and how many symbols it took
-pub record Part (g : Reading Model) (s : List ℕ) (r : Reader) (t : Turn) (flat : List ℤ) : Type 0 where
-  pub gave : run g s r ≡ turnOf (t .ended) (t .state) flat
-  pub took : t .reads ≡ count g s r
+abbrev pub Part : Reading Model → List ℕ → Reader → Turn → List ℤ → Type 0
+Part g s r t flat = Took g s r (turnOf (t .ended) (t .state) flat) (t .reads)
 
 -- a block, the same
 pub record BlockPart (table : List ℕ) (k : Kind) (ctx : ℕ) (old : List ℤ) (s : List ℕ) (r : Reader) (a : BlockRead) (l : List ℤ) : Type 0 where
-  pub gave : run (block table (k .kind) (k .q0) (k .q1) ctx (k .first) old) s r ≡ fromBlock l (a .answer)
-  pub took : a .reads ≡ count (block table (k .kind) (k .q0) (k .q1) ctx (k .first) old) s r
+  pub read : Took (block table (k .kind) (k .q0) (k .q1) ctx (k .first) old) s r (fromBlock l (a .answer)) (a .reads)
 
 -- what every part asks, and leaves
 pub record Held (s table : List ℕ) (m : State) (flat : List ℤ) : Type 0 where
@@ -88,104 +86,67 @@ pub coded-read : (s : List ℕ) (r : Reader) (table : List ℕ) (k : Kind) (ctx 
     → BlockPart table k ctx old s r a l
 coded-read s r table k ctx old v n g h o e =
     let z : Good table (k .kind) ctx (k .first) old = record { size = n; kinds = g .0; near = h; start = g .1; each = o .each } in
-    record { gave = decoded s r table (k .kind) ctx (k .first) (k .q0) (k .q1) old v z (e .0); took = decode-reads s r table (k .kind) ctx (k .first) (k .q0) (k .q1) old v z (e .1) }
+    record { read = record { gave = decoded s r table (k .kind) ctx (k .first) (k .q0) (k .q1) old v z (e .0); took = decode-reads s r table (k .kind) ctx (k .first) (k .q0) (k .q1) old v z (e .1) } }
 
-module _ (s : List ℕ) (r : Reader) (table : List ℕ) (k : Kind) (p : FlagsAt) (top left : List ℕ) (old : List ℤ) {ctx : ℕ} (h : ctx ≡ getD top (p .x) 0 + getD left (p .y) 0) where
-  pub coded-at : {g : Given Coefficients} → run (block table (k .kind) (k .q0) (k .q1) ctx (k .first) old) s r ≡ g → run (coded table k p top left old) s r ≡ g
-  coded-at e = rw (← h) e
+pub coded-at : (s : List ℕ) (r : Reader) (table : List ℕ) (k : Kind) (p : FlagsAt) (top left : List ℕ) (old : List ℤ) {ctx : ℕ} → ctx ≡ getD top (p .x) 0 + getD left (p .y) 0 → {g : Given Coefficients} {n : ℕ} → Took (block table (k .kind) (k .q0) (k .q1) ctx (k .first) old) s r g n → Took (coded table k p top left old) s r g n
+coded-at s r table k p top left old h e = rw (← h) e
 
-  pub coded-count : {n : ℕ} → n ≡ count (block table (k .kind) (k .q0) (k .q1) ctx (k .first) old) s r → n ≡ count (coded table k p top left old) s r
-  coded-count e = rw (← h) e
-
-module _ (table : List ℕ) (f : Factors) (s : List ℕ) (m : Model) (r : Reader) where
+module _ (table : List ℕ) (f : Factors) (s : List ℕ) (m : Model) (r : Reader) {k : ℕ} where
   -- ---- the second-order block
-  pub second-count : count (second table f m) s r ≡ count (coded table (secondKind f) secondPlace (m .top) (m .left) (replicate 16 (pos 0))) s r
+  pub second-missing : Took (coded table (secondKind f) secondPlace (m .top) (m .left) (replicate 16 (pos 0))) s r missing k → Took (second table f m) s r missing k
   unfolding second
-  second-count = count-map (λ (c : Coefficients). flagged (secondKind f) secondPlace (c .end) (spread (m .coefficients) (samplesOf true (c .values)) 16) (m .empty) m) s (coded table (secondKind f) secondPlace (m .top) (m .left) (replicate 16 (pos 0))) r
+  second-missing e = took-stops _ (coded table (secondKind f) secondPlace (m .top) (m .left) (replicate 16 (pos 0))) e
 
-  pub second-missing : run (coded table (secondKind f) secondPlace (m .top) (m .left) (replicate 16 (pos 0))) s r ≡ missing → run (second table f m) s r ≡ missing
+  pub second-ended : {c : Coefficients} {q : Reader} → Took (coded table (secondKind f) secondPlace (m .top) (m .left) (replicate 16 (pos 0))) s r (given c q) k
+      → Took (second table f m) s r (given (flagged (secondKind f) secondPlace (c .end) (spread (m .coefficients) (samplesOf true (c .values)) 16) (m .empty) m) q) k
   unfolding second
-  second-missing e = run-stops _ s (coded table (secondKind f) secondPlace (m .top) (m .left) (replicate 16 (pos 0))) r e
-
-  pub second-ended : {c : Coefficients} {q : Reader} → run (coded table (secondKind f) secondPlace (m .top) (m .left) (replicate 16 (pos 0))) s r ≡ given c q
-      → run (second table f m) s r ≡ given (flagged (secondKind f) secondPlace (c .end) (spread (m .coefficients) (samplesOf true (c .values)) 16) (m .empty) m) q
-  unfolding second
-  second-ended {c} {q} e = run-then _ s (coded table (secondKind f) secondPlace (m .top) (m .left) (replicate 16 (pos 0))) r e ∙ run-done _ s q
+  second-ended {c} {q} e = took-ends _ (coded table (secondKind f) secondPlace (m .top) (m .left) (replicate 16 (pos 0))) e (took-done _ s q)
 
   -- ---- block i
   module _ (small : Bool) (i : ℕ) where
-    pub advance-count : count (advance table f small i m) s r ≡ count (coded table (kindOf f small i) (coordinates i) (m .top) (m .left) (sixteenAt (m .coefficients) (16 * i))) s r
+    pub advance-missing : Took (coded table (kindOf f small i) (coordinates i) (m .top) (m .left) (sixteenAt (m .coefficients) (16 * i))) s r missing k → Took (advance table f small i m) s r missing k
     unfolding advance
-    advance-count = count-map (λ (c : Coefficients). flagged (kindOf f small i) (coordinates i) (c .end) (stored (m .coefficients) (16 * i) (c .values)) (m .empty && emptyOf c) m) s (coded table (kindOf f small i) (coordinates i) (m .top) (m .left) (sixteenAt (m .coefficients) (16 * i))) r
+    advance-missing e = took-stops _ (coded table (kindOf f small i) (coordinates i) (m .top) (m .left) (sixteenAt (m .coefficients) (16 * i))) e
 
-    pub advance-missing : run (coded table (kindOf f small i) (coordinates i) (m .top) (m .left) (sixteenAt (m .coefficients) (16 * i))) s r ≡ missing → run (advance table f small i m) s r ≡ missing
+    pub advance-ended : {c : Coefficients} {q : Reader} → Took (coded table (kindOf f small i) (coordinates i) (m .top) (m .left) (sixteenAt (m .coefficients) (16 * i))) s r (given c q) k
+        → Took (advance table f small i m) s r (given (flagged (kindOf f small i) (coordinates i) (c .end) (stored (m .coefficients) (16 * i) (c .values)) (m .empty && emptyOf c) m) q) k
     unfolding advance
-    advance-missing e = run-stops _ s (coded table (kindOf f small i) (coordinates i) (m .top) (m .left) (sixteenAt (m .coefficients) (16 * i))) r e
-
-    pub advance-ended : {c : Coefficients} {q : Reader} → run (coded table (kindOf f small i) (coordinates i) (m .top) (m .left) (sixteenAt (m .coefficients) (16 * i))) s r ≡ given c q
-        → run (advance table f small i m) s r ≡ given (flagged (kindOf f small i) (coordinates i) (c .end) (stored (m .coefficients) (16 * i) (c .values)) (m .empty && emptyOf c) m) q
-    unfolding advance
-    advance-ended {c} {q} e = run-then _ s (coded table (kindOf f small i) (coordinates i) (m .top) (m .left) (sixteenAt (m .coefficients) (16 * i))) r e ∙ run-done _ s q
+    advance-ended {c} {q} e = took-ends _ (coded table (kindOf f small i) (coordinates i) (m .top) (m .left) (sixteenAt (m .coefficients) (16 * i))) e (took-done _ s q)
 
     -- ---- the blocks from i on
-    pub blocks-none : run (blocksFrom table f small 0 i m) s r ≡ given m r
+    pub blocks-missing : (more : ℕ) → Took (advance table f small i m) s r missing k → Took (blocksFrom table f small (suc more) i m) s r missing k
     unfolding blocksFrom
-    blocks-none = run-done _ s r
+    blocks-missing more e = took-stops _ (advance table f small i m) e
 
-    pub blocks-missing : (more : ℕ) → run (advance table f small i m) s r ≡ missing → run (blocksFrom table f small (suc more) i m) s r ≡ missing
+    pub blocks-next : (more : ℕ) {n : Model} {q : Reader} → Took (advance table f small i m) s r (given n q) k → {y : Given Model} {j : ℕ} → Took (blocksFrom table f small more (i + 1) n) s q y j → Took (blocksFrom table f small (suc more) i m) s r y (k + j)
     unfolding blocksFrom
-    blocks-missing more e = run-stops _ s (advance table f small i m) r e
+    blocks-next more e u = took-then _ (advance table f small i m) e u
 
-    pub blocks-next : (more : ℕ) {n : Model} {q : Reader} → run (advance table f small i m) s r ≡ given n q → run (blocksFrom table f small (suc more) i m) s r ≡ run (blocksFrom table f small more (i + 1) n) s q
-    unfolding blocksFrom
-    blocks-next more e = run-then _ s (advance table f small i m) r e
-
-    -- their symbols
-    pub blocks-count-none : count (blocksFrom table f small 0 i m) s r ≡ 0
-    unfolding blocksFrom
-    blocks-count-none = count-done _ s r
-
-    pub blocks-count-missing : (more : ℕ) → run (advance table f small i m) s r ≡ missing → count (blocksFrom table f small (suc more) i m) s r ≡ count (advance table f small i m) s r
-    unfolding blocksFrom
-    blocks-count-missing more e = count-stops _ s (advance table f small i m) r e
-
-    pub blocks-count-next : (more : ℕ) {n : Model} {q : Reader} → run (advance table f small i m) s r ≡ given n q → count (blocksFrom table f small (suc more) i m) s r ≡ count (advance table f small i m) s r + count (blocksFrom table f small more (i + 1) n) s q
-    unfolding blocksFrom
-    blocks-count-next more e = count-then _ s (advance table f small i m) r e
+pub blocks-none : (table : List ℕ) (f : Factors) (s : List ℕ) (m : Model) (r : Reader) (small : Bool) (i : ℕ) → Took (blocksFrom table f small 0 i m) s r (given m r) 0
+unfolding blocksFrom
+blocks-none table f s m r small i = took-done _ s r
 
 -- ---- the macroblock
 module _ (table : List ℕ) (f : Factors) (small : Bool) (s : List ℕ) where
-  pub dc-small : small ≡ true → (m : State) (flat : List ℤ) → Part (dcStage table f small (modelOf m flat)) s (m .reader) (record { ended = true; state = m; reads = 0 }) flat
-  dc-small e m flat = record { gave = rw e (run-done (modelOf m flat) s (m .reader)); took = rw e (sym (count-done (modelOf m flat) s (m .reader))) }
+  pub dc-small : small ≡ true → (m : State) (flat : List ℤ) → Took (dcStage table f small (modelOf m flat)) s (m .reader) (given (modelOf m flat) (m .reader)) 0
+  dc-small e m flat = rw e (took-done (modelOf m flat) s (m .reader))
 
-  pub dc-second : (m : Model) (r : Reader) → small ≡ false → {t : Turn} {flat : List ℤ} → Part (second table f m) s r t flat → Part (dcStage table f small m) s r t flat
+  pub dc-second : (m : Model) (r : Reader) → small ≡ false → {x : Given Model} {n : ℕ} → Took (second table f m) s r x n → Took (dcStage table f small m) s r x n
   dc-second m r e h = rw e h
 
   module _ (top left : List ℕ) (r : Reader) where
-    pub residual-skip : run (residualOf table f small true top left) s r ≡ given (initial (cleared small top) (cleared small left)) r
+    pub residual-skip : Took (residualOf table f small true top left) s r (given (initial (cleared small top) (cleared small left)) r) 0
     unfolding residualOf
-    residual-skip = run-done _ s r
+    residual-skip = took-done _ s r
 
-    pub residual-missing : run (dcStage table f small (initial top left)) s r ≡ missing → run (residualOf table f small false top left) s r ≡ missing
-    unfolding residualOf
-    residual-missing e = run-stops _ s (dcStage table f small (initial top left)) r e
+    module _ {k : ℕ} where
+      pub residual-missing : Took (dcStage table f small (initial top left)) s r missing k → Took (residualOf table f small false top left) s r missing k
+      unfolding residualOf
+      residual-missing e = took-stops _ (dcStage table f small (initial top left)) e
 
-    pub residual-next : {m : Model} {q : Reader} → run (dcStage table f small (initial top left)) s r ≡ given m q → run (residualOf table f small false top left) s r ≡ run (blocksFrom table f small 24 0 m) s q
-    unfolding residualOf
-    residual-next e = run-then _ s (dcStage table f small (initial top left)) r e
-
-    -- its symbols
-    pub residual-count-skip : count (residualOf table f small true top left) s r ≡ 0
-    unfolding residualOf
-    residual-count-skip = count-done _ s r
-
-    pub residual-count-missing : run (dcStage table f small (initial top left)) s r ≡ missing → count (residualOf table f small false top left) s r ≡ count (dcStage table f small (initial top left)) s r
-    unfolding residualOf
-    residual-count-missing e = count-stops _ s (dcStage table f small (initial top left)) r e
-
-    pub residual-count-next : {m : Model} {q : Reader} → run (dcStage table f small (initial top left)) s r ≡ given m q → count (residualOf table f small false top left) s r ≡ count (dcStage table f small (initial top left)) s r + count (blocksFrom table f small 24 0 m) s q
-    unfolding residualOf
-    residual-count-next e = count-then _ s (dcStage table f small (initial top left)) r e
+      pub residual-next : {m : Model} {q : Reader} → Took (dcStage table f small (initial top left)) s r (given m q) k → {y : Given Model} {j : ℕ} → Took (blocksFrom table f small 24 0 m) s q y j → Took (residualOf table f small false top left) s r y (k + j)
+      unfolding residualOf
+      residual-next e u = took-then _ (dcStage table f small (initial top left)) e u
 
 -- ---- what the public calls check
 below-all : (f : ℕ → Bool) (n : ℕ) → ((i : ℕ) → i < n → f i ≡ true) → allBelow n f ≡ true
@@ -224,35 +185,30 @@ module _ (s : List ℕ) (r : Reader) (table : List ℕ) (f : Factors) (small ski
   unfolding residualAnswer
   call-handed e h = rw h (sym (ap (toResidualCalled old) e))
 
-  pub decode-passed : validOf s r ≡ true → residualArguments table top left (length old) ≡ true → residualAnswer s r table f small skip top left old ≡ residualCallOf s r table f small skip top left old
-  unfolding residualCallOf
-  decode-passed v a = rw (both-true v a, residualCallOf)
-
-  pub reads-passed : validOf s r ≡ true → residualArguments table top left (length old) ≡ true → count (residualOf table f small skip top left) s r ≡ residualReads s r table f small skip top left old
-  unfolding residualReads
-  reads-passed v a = rw (both-true v a, residualReads)
-
-  reads-refused : validOf s r && residualArguments table top left (length old) ≡ false → 0 ≡ residualReads s r table f small skip top left old
-  unfolding residualReads
-  reads-refused e = rw (e, residualReads)
-
-  pub decode-refused : validOf s r && residualArguments table top left (length old) ≡ false → {q : Residual} → q ≡ noResidual E.Refused → record { answer = q; out = old } ≡ residualCallOf s r table f small skip top left old
-  unfolding residualCallOf
-  decode-refused e h = rw (h, e, residualCallOf)
-
   -- what the call promises of its answer, with the numbers behind it
   abbrev pub Decoded : ResidualRead → List ℤ → Type 0
   Decoded a out = (record { answer = a .residual; out = out } ≡ residualCallOf s r table f small skip top left old) × (a .reads ≡ residualReads s r table f small skip top left old)
 
-  module _ {a : ResidualRead} (d : a ≡ record { residual = noResidual E.Refused; reads = 0 }) where
-    refused : validOf s r && residualArguments table top left (length old) ≡ false → Decoded a old
-    refused e = (decode-refused e (rw d refl), rw d (reads-refused e))
+  module _ (e : validOf s r && residualArguments table top left (length old) ≡ true) where
+    pub decode-passed : residualAnswer s r table f small skip top left old ≡ residualCallOf s r table f small skip top left old
+    unfolding residualCallOf
+    decode-passed = rw (e, residualCallOf)
 
-    pub decode-reader : validOf s r ≡ false → Decoded a old
-    decode-reader e = refused (rw e)
+    pub reads-passed : count (residualOf table f small skip top left) s r ≡ residualReads s r table f small skip top left old
+    unfolding residualReads
+    reads-passed = rw (e, residualReads)
 
-    pub decode-arguments : residualArguments table top left (length old) ≡ false → Decoded a old
-    decode-arguments e = refused (both-false (validOf s r) e)
+    pub passed : {a : ResidualRead} {out : List ℤ} → (record { answer = a .residual; out = out } ≡ residualAnswer s r table f small skip top left old) × (a .reads ≡ count (residualOf table f small skip top left) s r) → Decoded a out
+    passed p = (p .0 ∙ decode-passed, p .1 ∙ reads-passed)
+
+  module _ (e : validOf s r && residualArguments table top left (length old) ≡ false) where
+    pub decode-refused : {q : Residual} → q ≡ noResidual E.Refused → record { answer = q; out = old } ≡ residualCallOf s r table f small skip top left old
+    unfolding residualCallOf
+    decode-refused h = rw (h, e, residualCallOf)
+
+    pub refused : {a : ResidualRead} → a ≡ record { residual = noResidual E.Refused; reads = 0 } → Decoded a old
+    unfolding residualReads
+    refused d = (decode-refused (rw d refl), rw d (rw (e, residualReads)))
 
 -- ---- with a header
 module _ (s : List ℕ) (r : Reader) (h : List ℤ) (segment : ℕ) (small skip : Bool) (top left : List ℕ) (old : List ℤ) where

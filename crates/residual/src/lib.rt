@@ -1,4 +1,8 @@
 // The residual of a macroblock: the coefficients of its blocks and what they leave behind for its neighbours (RFC 6386, section 13).
+use crate::answers::Ended;
+use crate::answers::Residual;
+use crate::answers::ResidualRead;
+use crate::answers::no_residual;
 use crate::blocks::read;
 use crate::contexts::flags_fine;
 use crate::flat::squares;
@@ -15,48 +19,15 @@ ghost use lib.ListN.{length};
 ghost use Rattle.header.specs.Entries.{probabilityCount};
 ghost use Rattle.reader.specs.BooleanLaws.{Valid};
 ghost use Rattle.reader.specs.Trace.{count};
-ghost use Rattle.residual.specs.Residual.{Flags, noResidual, residualArguments, residualOf, residualAnswer};
+ghost use Rattle.residual.specs.Residual.{Flags, residualArguments, residualOf, residualAnswer};
 ghost use Rattle.residual.specs.Residual.{residualCallOf, residualByHeaderOf};
 ghost use Rattle.residual.specs.Residual.{residualReads, residualByHeaderReads};
 
+pub mod answers;
 mod blocks;
 mod contexts;
 mod flat;
 mod quick;
-
-// The reader after the macroblock, and whether it is empty; Missing where a byte was; Refused where an argument is out of range.
-pub enum Ended {
-    Done(Reader, bool),
-    Missing,
-    Refused,
-}
-
-// The answer, and the flags for the macroblocks below and to the right; zeros where there are none.
-pub struct Residual {
-    pub answer: Ended,
-    pub top: [u8; 9],
-    pub left: [u8; 9],
-}
-
-// The residual, and how many symbols were read; where one is missing, those before it.
-pub struct ResidualRead {
-    pub residual: Residual,
-    pub reads: u64,
-}
-
-pub(crate) fn no_residual(answer: Ended, reads: u64) -> ResidualRead
-    ensures { λ q. ⌜ q ≡ record { residual = noResidual answer; reads = reads } ⌝ }
-{
-    let residual = Residual {
-        answer: answer,
-        top: [0; 9],
-        left: [0; 9],
-    };
-    ResidualRead {
-        residual: residual,
-        reads: reads,
-    }
-}
 
 // Arguments in range, one block after the other. The coefficients reach `out` only where all of them were read.
 fn read_residual(
@@ -149,10 +120,7 @@ pub fn decode(
         ≡ residualCallOf (now (s .entry)) r (now (table .entry)) f small skip top left (now (out .entry)))
         × (q .reads ≡ residualReads (now (s .entry)) r (now (table .entry)) f small skip top left (now (out .entry))) ⌝ }
 {
-    if !valid(s, r) {
-        return no_residual(Ended::Refused, 0);
-    }
-    if !arguments(table, top, left, out.len()) {
+    if !(valid(s, r) & arguments(table, top, left, out.len())) {
         return no_residual(Ended::Refused, 0);
     }
     read_fast(s, r, table, f, small, skip, top, left, out)

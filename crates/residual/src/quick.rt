@@ -1,8 +1,9 @@
 // A macroblock over a wide reader: all of its blocks are read over bytes that zeros follow, then one look says whether the partition's end
 // was passed. Where it was, nothing is kept, and the blocks are read again one by one.
-use crate::Ended;
-use crate::Residual;
-use crate::ResidualRead;
+use crate::answers::Ended;
+use crate::answers::Residual;
+use crate::answers::ResidualRead;
+use crate::answers::no_residual;
 use crate::blocks::Kind;
 use crate::blocks::kind_of;
 use crate::blocks::second_kind;
@@ -10,7 +11,6 @@ use crate::blocks::zero;
 use crate::contexts::FlagsAt;
 use crate::contexts::location;
 use crate::flat::hand_over;
-use crate::no_residual;
 use coefficients::fast::Spots;
 use coefficients::fast::coded_block;
 use header::quantizers::Factors;

@@ -65,7 +65,7 @@ skipAt modes k = bitOf (modeFound modes k .kinds .skip)
 abbrev pub insideAt : List ℕ → ℕ → ℕ
 insideAt strengths k = strengthFound strengths k .strength .inside
 
--- how many sub-blocks of a small macroblock have the mode x; a large one counts none
+-- a small macroblock's sub-blocks with mode x; a large one counts none
 unfoldable pub subBlocks : (small : Bool) → (mode : ℕ → ℕ) → (x : ℕ) → ℕ
 subBlocks small mode x = elim small [ true ↦ howMany 16 mode x | false ↦ 0 ]
 
@@ -112,7 +112,7 @@ pub record Passed (l a : List ℕ) (n : ℕ) : Type 0 where
   pub inside : place < n
   pub passes : countLimit < getD l place 0 + getD a place 0
 
--- place by place
+-- the sums, place by place
 unfoldable pub sumOf : (l a : List ℕ) → List ℕ
 sumOf l a = build 37 (λ i. getD l i 0 + getD a i 0)
 

@@ -38,7 +38,7 @@ blocksOf w h = w / 16 * (h / 16)
 unfoldable pub countOf : ℕ → Bool
 countOf n = leb 1 n && leb n 8
 
--- as a fact
+-- the count, as a fact
 pub record Counted (n : ℕ) : Type 0 where
   pub least : 1 ≤ n
   pub most : n ≤ 8

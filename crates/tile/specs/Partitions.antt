@@ -15,7 +15,7 @@ use Rattle.tile.specs.declared.Tile.{Tile}
 unfoldable pub contentsOf : List ℕ → Span → List ℕ
 contentsOf bytes s = take (s .len) (drop (s .start) bytes)
 
--- token partition i: its span, of which there are eight, and its contents
+-- the span of a token partition that is not there: empty
 abbrev pub noSpan : Span
 noSpan = record { start = 0; len = 0 }
 
@@ -23,12 +23,11 @@ noSpan = record { start = 0; len = 0 }
 unfoldable pub spanAt : Tile → ℕ → Span
 spanAt t i = elim (ltb i 8) [ true ↦ getD (t .tokens) i noSpan | false ↦ noSpan ]
 
--- its contents
+-- the contents of token partition i
 abbrev pub tokenContents : List ℕ → Tile → ℕ → List ℕ
 tokenContents bytes t i = contentsOf bytes (spanAt t i)
 
--- a row reads the token partition of its number modulo the count (RFC 6386: no prose says it; source 20.4,
--- 8183-8196)
+-- a row reads the token partition of its number modulo the count (source 20.4, 8183-8196; no prose of RFC 6386 says it)
 unfoldable pub pickOf : (row count : ℕ) → ℕ
 pickOf row count = elim (eqb count 0) [ true ↦ 0 | false ↦ row % count ]
 
@@ -36,6 +35,6 @@ pickOf row count = elim (eqb count 0) [ true ↦ 0 | false ↦ row % count ]
 unfoldable pub readerOf : List ℕ → Tile → ℕ → Reader
 readerOf bytes t i = elim (ltb i (t .count)) [ true ↦ firstReader (tokenContents bytes t i) | false ↦ noReader ]
 
--- the eight of them
+-- the readers of all eight
 unfoldable pub readersOf : List ℕ → Tile → List Reader
 readersOf bytes t = build 8 (readerOf bytes t)

@@ -5,7 +5,7 @@ pub mod partitions;
 
 use reader::boolean::Reader;
 
-// A range of the bytes. No more is known of it: it may end past them.
+// A range of the bytes; it may end past them.
 pub struct Span {
     pub start: usize,
     pub len: usize,

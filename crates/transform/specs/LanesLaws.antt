@@ -2,7 +2,7 @@
 use mathlib.Core.Path.{_≡_, refl, sym, ap, ap₂, _∙_}
 use mathlib.Core.Bool.{Bool, true, false, _&&_}
 use mathlib.Core.List.{List, [], _∷_, _++_}
-use mathlib.Core.Logic.{_⊎_, inl, inr, ⊎-elim}
+use mathlib.Core.Logic.{inl, inr, ⊎-elim}
 use Prim.Native.Nat.{ℕ, zero, suc, _+_, _-_, _*_, _/_, _%_, _<_, _≤_}
 use native.Mathlib.Decide.{ℕ-discrete}
 use native.Mathlib.Nat.{mul-comm}
@@ -18,12 +18,13 @@ use Rattle.numbers.specs.Clamp.{signedTo}
 use Rattle.numbers.specs.ClampLaws.{clamp-in, clamp-same}
 use Rattle.numbers.specs.In.{In, Each}
 use Rattle.numbers.specs.Order.{In-wider}
-use Rattle.numbers.specs.Lists.{build, built, set-keeps, build-listed, build-same, length-build, getD-build, getD-constant, _∷≡_}
+use Rattle.numbers.specs.Lists.{built, set-keeps, build-listed, build-same, length-build, getD-build, getD-constant, _∷≡_}
 use Rattle.numbers.specs.Tables.{allBelow, all-below}
 use Rattle.numbers.specs.Tests.{lt-or, eq-or}
 use Rattle.transform.specs.Transform.{Grid, at, cell, gridOf, verticalPass, horizontalPass, resultOf, resultsOf, samplesOf}
 use Rattle.transform.specs.TransformBounds.{numeral-in}
 use Rattle.transform.specs.TransformLaws.{CoefficientsIn, range-in, SmallIn, small-samples-in}
+use Rattle.transform.specs.Pieces.{isSmall, laneOf, laneRow, turnedAt, aloneAt, Blocks}
 use Rattle.transform.specs.Lanes.{byLanes, byBlocks, macroblockLanes, macroblockBlocks, blockNumbers, knownLength, laneResidual, laned, turnedTo, Residuals, residualsOf}
 
 -- ---- blocks one after the other, and by lanes
@@ -132,10 +133,6 @@ squares-zeros e f =
     (λ p h. getD-constant 384 p (pos 0) ∙ sym (getD-constant 384 (16 * (p % 16) + p / 16) (pos 0)))
     (λ p h. getD-constant 384 (256 + p) (pos 0) ∙ sym (getD-constant 384 (256 + (16 * (p % 8) + p / 8)) (pos 0))))
 
--- block i of n blocks by lanes
-unfoldable pub laneOf : (n : ℕ) → List ℤ → (i : ℕ) → List ℤ
-laneOf n c i = build 16 (λ k. at c (n * k + i))
-
 pub block-lane : (n : ℕ) (c : List ℤ) (i : ℕ) → i < n → blockNumbers (byBlocks n c) i ≡ laneOf n c i
 unfolding blockNumbers laneOf
 block-lane n c i h = build-same 16 _ _ (λ k g. blocks-at n c i k h g)
@@ -144,22 +141,6 @@ block-lane n c i h = build-same 16 _ _ (λ k g. blocks-at n c i k h g)
 pub block-is : (c : List ℤ) (i : ℕ) {l : List ℤ} → length l ≡ 16 → ((k : ℕ) → k < 16 → at l k ≡ at c (16 * i + k)) → l ≡ blockNumbers c i
 unfolding blockNumbers
 block-is c i {l} e h = built l 16 _ (pos 0) e h
-
--- how long the coefficients of 8 or of 16 blocks are
-abbrev pub Blocks : ℕ → Type 0
-Blocks n = (n ≡ 128) ⊎ (n ≡ 256)
-
--- ---- what the code works on
--- four numbers of a block of n, from the place of the first
-abbrev pub laneRow : (n : ℕ) → List ℤ → (from : ℕ) → List ℤ
-laneRow n t from = at t from ∷ at t (from + n) ∷ at t (from + 2 * n) ∷ at t (from + 3 * n) ∷ []
-
--- number k of the residual of block i of n, and the same in 16 bits
-abbrev pub turnedAt : (n : ℕ) → List ℤ → (i k : ℕ) → ℤ
-turnedAt n c i k = at (samplesOf false (laneOf n c i)) k
-
-abbrev pub aloneAt : (n : ℕ) → List ℤ → (i k : ℕ) → ℤ
-aloneAt n c i k = signedTo 32767 (turnedAt n c i k)
 
 -- ---- one number of a block after the other
 module _ (t : List ℤ) (i : ℕ) (f : ℕ → ℤ) where
@@ -261,10 +242,6 @@ turned-keeps P f t zero h g = g
 turned-keeps P f t (suc n) h g = laned-keeps P (turnedTo f t n) n (f n) 16 (h n) (turned-keeps P f t n h g)
 
 -- ---- the test of all coefficients
--- -2048..2047: then the transform stays within 16 bits
-abbrev pub isSmall : ℤ → Bool
-isSmall z = leZ (negsuc 2047) z && leZ z (pos 2047)
-
 abbrev pub eachSmall : List ℤ → Bool
 eachSmall c = allBelow (length c) (λ k. isSmall (at c k))
 

@@ -20,6 +20,8 @@ use Rattle.numbers.specs.Tests.{lt-or, both-true, both-left, both-right, cond-a
 use Rattle.numbers.specs.WrapLaws.{wrap-in}
 use Rattle.transform.specs.declared.Transformed.{Transformed}
 use Rattle.transform.specs.Transform.{Grid, at, cell, four, gridRow, gridOf, transposeOf, scaledOf, passOf, rowsOf, verticalPass, biasOf, horizontalPass, resultOf, resultsOf, samplesOf, fits16, blockFits, transformOf}
+pub use Rattle.transform.specs.Pieces.{CoefficientsIn}
+use Rattle.transform.specs.Pieces.{PlainTo}
 use Rattle.transform.specs.TransformBounds.{numeral-in, vertical-in, horizontal-in, result-in, small-vertical-in, small-horizontal-in, small-result-in}
 
 -- ---- the scaled products: 65536 q is at most k x, and less than 65536 below it
@@ -64,10 +66,6 @@ transpose-at g =
     (below-four _ refl refl refl refl) (below-four _ refl refl refl refl)
 
 -- ---- coefficients
--- sixteen that fit 16 bits
-pub record CoefficientsIn (c : List ℤ) : Type 0 where
-  pub fit : (k : ℕ) → k < 16 → In (negsuc 32767) (pos 32767) (at c k)
-
 -- what both tests say
 pub range-in : (l h z : ℤ) → leZ l z && leZ z h ≡ true → In l h z
 range-in l h z e = record { low = true-le l z (both-left (leZ l z) (leZ z h) e); high = true-le z h (both-right (leZ l z) (leZ z h) e) }
@@ -180,10 +178,6 @@ module _ (c : List ℤ) where
       answer true (Each (negsuc 32767) (pos 32767)) (λ f. each-build 16 _ (numeral-in (pos 0) tt) (λ k. wrap-in _)) (zeros-in tt)
 
 -- ---- the shortcut
--- every coefficient below n but the first is 0
-pub record PlainTo (n : ℕ) (c : List ℤ) : Type 0 where
-  pub zero : (k : ℕ) → 0 < k → k < n → at c k ≡ pos 0
-
 -- a line whose first number alone is not 0, and one of zeros
 pass-plain : (walsh : Bool) (bias d : ℤ) → passOf walsh bias d (pos 0) (pos 0) (pos 0) ≡ four (λ i. d +ℤ bias)
 unfolding passOf scaledOf

@@ -3,11 +3,11 @@
 use mathlib.Core.Path.{_≡_, refl, sym, _∙_}
 use mathlib.Core.Bool.{Bool, true, false}
 use mathlib.Core.List.{List, [], _∷_}
-use Prim.Native.Nat.{ℕ, zero, suc, _+_, _*_, _/_, _%_, _<_}
+use Prim.Native.Nat.{ℕ, zero, suc, _+_, _/_, _%_, _<_}
 use native.Mathlib.Omega.{arith}
 use lib.Dec.{T, lit<}
 use lib.IntN.{ℤ, pos, negsuc, _+ℤ_, _-ℤ_, _*ℤ_}
-use lib.Signed.{_≤ℤ_, leZ, leZ-yes, shrZ, quotZ, remZ}
+use lib.Signed.{leZ, leZ-yes, shrZ, quotZ, remZ}
 use mir.Syntax.{w64}
 use Rattle.numbers.specs.In.{In}
 use Rattle.numbers.specs.Parts.{of-eq, ≤ℤ-trans, add-parts, sub-parts-ℤ}

@@ -13,9 +13,8 @@ ghost use Rattle.numbers.specs.Clamp.{signedTo};
 ghost use Rattle.numbers.specs.In.{Each};
 ghost use Rattle.numbers.specs.Tables.{allBelow};
 ghost use Rattle.transform.specs.Transform.{at, cell, gridOf, resultOf};
-ghost use Rattle.transform.specs.TransformLaws.{CoefficientsIn};
+ghost use Rattle.transform.specs.Pieces.{CoefficientsIn, isSmall, laneOf, laneRow, turnedAt, aloneAt, Blocks};
 ghost use Rattle.transform.specs.Lanes.{knownLength, laned, turnedTo, Residuals, residualsOf};
-ghost use Rattle.transform.specs.LanesLaws.{isSmall, laneOf, laneRow, turnedAt, aloneAt, Blocks};
 
 // Whether so many coefficients are those of 8 or of 16 blocks.
 fn known_length(len: usize) -> bool

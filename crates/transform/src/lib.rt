@@ -13,7 +13,7 @@ ghost use Rattle.numbers.specs.Wrap.{wrapZ};
 ghost use Rattle.transform.specs.Transform.{scaledOf, lineOf, transposeOf, gridOf, gridColumn, gridRow, verticalPass};
 ghost use Rattle.transform.specs.Transform.{biasOf, horizontalPass};
 ghost use Rattle.transform.specs.Transform.{resultOf, resultsOf, samplesOf, blockFits, transformOf};
-ghost use Rattle.transform.specs.TransformLaws.{CoefficientsIn, PlainTo};
+ghost use Rattle.transform.specs.Pieces.{CoefficientsIn, PlainTo};
 
 type Grid = [[i32; 4]; 4];
 

@@ -15,7 +15,7 @@ use Rattle.reader.specs.Reading.{symbol, run}
 use Rattle.reader.specs.Trees.{node, leaf, branchAt, walkOf}
 use Rattle.reader.specs.BooleanLaws.{Bytes, Valid}
 use Rattle.reader.specs.ReadingLaws.{run-valid}
-use Rattle.reader.specs.TreesLaws.{chain-missing, chain-leaf, chain-node, walk-is, walk-on, walk-gave, reach-within}
+use Rattle.reader.specs.TreesLaws.{chain-missing, chain-leaf, chain-node, walk-is, walk-on, walk-gives, reach-within}
 
 abbrev pub segmentTree : List ℤ
 segmentTree = node 1 ∷ node 2 ∷ leaf 0 ∷ leaf 1 ∷ leaf 2 ∷ leaf 3 ∷ []
@@ -38,7 +38,7 @@ last-node s ps t i n r {low} {high} e f = go (run (symbol (getD ps i 0)) s r) re
 
 -- a leaf's reader is in range
 pub leaf-valid : (s ps : List ℕ) (r : Reader) {v : ℕ} {q : Reader} → Bytes s → Bytes ps → Valid s r → W.Leaf v q ≡ walkOf 32 s ps segmentTree 0 r → Valid s q
-leaf-valid s ps r y z h e = run-valid (reach-within 2 32 (λ v. true) ps segmentTree 0 (lit≤ tt) z refl) y h (walk-gave s ps segmentTree 32 0 r e) .valid
+leaf-valid s ps r y z h e = run-valid (reach-within 2 32 (λ v. true) ps segmentTree 0 (lit≤ tt) z refl) y h (walk-gives s ps segmentTree 32 0 r e) .valid
 
 -- the segment tree, node by node
 module _ (s ps : List ℕ) (r : Reader) where

@@ -81,7 +81,9 @@ fn walks(s: &[u8], r: Reader) -> usize {
     let mut next = r;
     let mut n = 0;
     while n < 1000000 {
-        let Walked::Leaf(_, after) = walk_tree(s, next, &PROBS, &TREE, 0) else {
+        let t = walk_tree(s, next, &PROBS, &TREE, 0);
+        let answer = t.answer;
+        let Walked::Leaf(_, after) = answer else {
             return n;
         };
         next = after;

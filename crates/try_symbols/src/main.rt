@@ -99,7 +99,9 @@ fn bits(s: &[u8], r: Reader, probs: &[u8]) {
 }
 
 fn number(s: &[u8], r: Reader, probs: &[u8]) {
-    match extra_bits(s, r, probs) {
+    let bits = extra_bits(s, r, probs);
+    let answer = bits.answer;
+    match answer {
         Number::Value(v, after) => {
             io::print_decimal(1, v as u64);
             show_reader(after);
@@ -114,7 +116,9 @@ fn number(s: &[u8], r: Reader, probs: &[u8]) {
 }
 
 fn leaf(s: &[u8], r: Reader, probs: &[u8], start: usize) {
-    match walk_tree(s, r, probs, &TREE, start) {
+    let t = walk_tree(s, r, probs, &TREE, start);
+    let answer = t.answer;
+    match answer {
         Walked::Leaf(v, after) => {
             io::print_decimal(1, v as u64);
             show_reader(after);

@@ -6,9 +6,9 @@ use mathlib.Core.List.{List, [], _∷_, _++_}
 use lib.Dec.{leb, eqb}
 use lib.ListN.{length, getD, drop, replicate}
 use Rattle.webp.specs.declared.read.Found.{Found}
-use Rattle.webp.specs.declared.write.Wrapped.{Wrapped}
+use Rattle.webp.specs.declared.write.WrapAnswer.{WrapAnswer}
 use Rattle.webp.specs.declared.read.Found.the-variants as F
-use Rattle.webp.specs.declared.write.Wrapped.the-variants as W
+use Rattle.webp.specs.declared.write.WrapAnswer.the-variants as W
 
 -- ---- terminology and basics, before 2.3 RIFF file format: uint32, FourCC; then 2.3, the chunk
 -- uint32: a 32-bit, little-endian, unsigned integer
@@ -103,7 +103,7 @@ findOf s = elim (eqb (foundRefusal s) 0) [ true ↦ F.At 20 (chunkSize s) | fals
 
 -- ---- the writer
 pub record WriteEnded : Type 0 where
-  pub answer : Wrapped
+  pub answer : WrapAnswer
   pub out : List ℕ
 
 -- a file at the start of the room, what lies behind it unchanged; 16 where the room is too small
@@ -138,11 +138,11 @@ foundLengthOf (F.At start len) = len
 foundLengthOf (F.Refused n) = 0
 
 -- the writer's number
-abbrev pub wrappedNumberOf : Wrapped → ℕ
+abbrev pub wrappedNumberOf : WrapAnswer → ℕ
 wrappedNumberOf (W.Written n) = 0
 wrappedNumberOf (W.Refused n) = n
 
 -- the bytes written; 0 after a refusal
-abbrev pub wrappedLengthOf : Wrapped → ℕ
+abbrev pub wrappedLengthOf : WrapAnswer → ℕ
 wrappedLengthOf (W.Written n) = n
 wrappedLengthOf (W.Refused n) = 0

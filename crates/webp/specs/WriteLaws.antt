@@ -8,8 +8,8 @@ use lib.ListN.{length, take, drop, replicate, length-append, length-drop, length
 use lib.Seq.{take-length, take-all, take-append-seam, drop-append-add, drop-drop}
 use borrow.Author.Tests.{le-leb, lt-leb}
 use Rattle.numbers.specs.Tests.{lt-or}
-use Rattle.webp.specs.declared.write.Wrapped.{Wrapped}
-use Rattle.webp.specs.declared.write.Wrapped.the-variants as W
+use Rattle.webp.specs.declared.write.WrapAnswer.{WrapAnswer}
+use Rattle.webp.specs.declared.write.WrapAnswer.the-variants as W
 use Rattle.webp.specs.Webp.{uint32Of, riff, webp, vp8, padOf, riffSize, mostSize, fileOf, WriteEnded, writtenInto, wrapOf}
 
 -- ---- twenty bytes before a frame of n
@@ -110,7 +110,7 @@ pub record Not (frame out : List ℕ) (n : ℕ) (after : List ℕ) : Type 0 wher
   pub same : after ≡ out
 
 module _ (frame out : List ℕ) where
-  abbrev Said : Wrapped → List ℕ → Type 0
+  abbrev Said : WrapAnswer → List ℕ → Type 0
   Said (W.Written n) after = Whole frame out n after
   Said (W.Refused n) after = Not frame out n after
 

@@ -5,7 +5,8 @@ ghost use lib.ListN.{length};
 ghost use Rattle.webp.specs.Webp.{wrapOf};
 ghost use Rattle.webp.specs.WriteLaws.{headOf, laid};
 
-pub enum Wrapped {
+// How many bytes were written, or the number of a refusal.
+pub enum WrapAnswer {
     // The length of the file.
     Written(usize),
     // 18: the frame is too long; 16: the room is too small.
@@ -57,23 +58,23 @@ fn lay(out: &mut [u8], at: usize, b: &[u8])
 }
 
 // Writes the file around `frame` at the start of `out`; what lies behind it in `out` is left alone.
-pub fn wrap(frame: &[u8], out: &mut [u8]) -> Wrapped
+pub fn wrap(frame: &[u8], out: &mut [u8]) -> WrapAnswer
     ensures { λ r. ⌜ record { answer = r; out = now (out .exit) } ≡ wrapOf (now (frame .entry)) (now (out .entry)) ⌝ }
 {
     let n = frame.len();
     // The RIFF size, 12 and the padded length, is even, and so is 2^32 - 10.
     if 4294967274 < n {
-        return Wrapped::Refused(18);
+        return WrapAnswer::Refused(18);
     }
     let odd = n % 2;
     let end = 20 + n;
     if out.len() < end + odd {
-        return Wrapped::Refused(16);
+        return WrapAnswer::Refused(16);
     }
     let first = head(n);
     let pad = [0u8; 1];
     lay(out, 0, &first);
     lay(out, 20, frame);
     lay(out, end, &pad[0..odd]);
-    Wrapped::Written(end + odd)
+    WrapAnswer::Written(end + odd)
 }

@@ -69,12 +69,12 @@ mod-less a d m z h =
     ∙ add-mul-mod-self-right ((a + d) % m - d) ((a + d) / m) m
     ∙ mod-eq-of-lt (omega (arith, mod-lt (a + d) z)))
 
-record Taken (y K J d m : ℕ) : Type 0 where
+record TakenAway (y K J d m : ℕ) : Type 0 where
   z : ℕ
   less : y ≡ z + d * J
   window : y * K % m - d * (K * J) ≡ z * K % m
 
-taken : (y K J d m : ℕ) → 0 < K → 0 < m → d * (K * J) ≤ y * K % m → Taken y K J d m
+taken : (y K J d m : ℕ) → 0 < K → 0 < m → d * (K * J) ≤ y * K % m → TakenAway y K J d m
 taken y K J d m k q h =
     let g : d * J * K ≤ y * K = omega (arith, mod-le (y * K) m) in
     let l : d * J ≤ y = le-of-mul-le-mul-right g k in

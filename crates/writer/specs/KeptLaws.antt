@@ -24,7 +24,7 @@ use Rattle.reader.specs.TraceLaws.{Byte}
 use Rattle.writer.specs.declared.Writer.{Writer}
 use Rattle.writer.specs.Encoder.{Encoder, fresh, addOne, carried, emit, chosen, writeOf, writeAll, fourOf, flushOf}
 use Rattle.writer.specs.EncoderLaws.{Ready, fresh-ready, chosen-ready, Flushed, flushed}
-use Rattle.writer.specs.Room.{Written, writtenOf, freshWriter, carriedIn, widthIn, raisedIn, loudIn, shiftedIn, writeIn, fourIn, flushIn, writerFine, Ended, endedOf, flushAnswer}
+use Rattle.writer.specs.Room.{Written, writtenOf, freshWriter, carriedIn, widthIn, raisedIn, loudIn, shiftedIn, writeIn, fourIn, flushIn, writerFine, FlushEnd, endedOf, flushAnswer}
 use Rattle.writer.specs.RoomLaws.{carried-append, length-carried, length-carries, Fine, fine-test, flush-good}
 use Rattle.writer.specs.ShiftLaws.{scaled-mod, split-same, width-same, raised-same, doublings-same, shifts, emit-shifts, quiet, loudly, loud}
 
@@ -189,7 +189,7 @@ module _ {e : Encoder} {old : List ℕ} {w : Writer} {room : List ℕ} (k : Kept
       ∙ (λ j. shiftedIn (writerOf e) room (width-same (e .range) x (q .bit) (i .2) (y .top) j) (raised-same (e .bottom) x (e .range) (q .bit) fits (i .2) j)) in
       subst (Kept (emit 7 part) old) (sym (f ∙ g)) (shifted-kept part old room K ready h (e .range) (e .bottom))
 
-pub record Finished (e : Encoder) (old : List ℕ) (x : Ended) : Type 0 where
+pub record Finished (e : Encoder) (old : List ℕ) (x : FlushEnd) : Type 0 where
   pub long : x .long ≡ length (flushOf e)
   pub size : length (x .room) ≡ length old
   pub same : length (flushOf e) ≤ length old → x .room ≡ flushOf e ++ drop (length (flushOf e)) old
@@ -240,7 +240,7 @@ module _ (e : Encoder) (old room : List ℕ) (k : Kept e old (writtenOf (writerO
       ap (drop (m + 4)) q ∙ ap (λ (z : ℕ). drop (z + 4) (D ++ drop m old)) (sym long-D) ∙ drop-append-add D (drop m old) 4 ∙ drop-drop 4 m old in
       four-sets r ∙ sets-eq (fourOf u) r m (omega arith) ∙ (λ i. (a i ++ fourOf u) ++ d i)
 
-  flush-kept : {x : Ended} → x ≡ endedOf (m + 4) (flushIn (writerOf e) room) → Finished e old x
+  flush-kept : {x : FlushEnd} → x ≡ endedOf (m + 4) (flushIn (writerOf e) room) → Finished e old x
   unfolding flushIn flushOf c m D u
   flush-kept {x} f =
       let g = flushed e y in
@@ -248,7 +248,7 @@ module _ (e : Encoder) (old room : List ℕ) (k : Kept e old (writtenOf (writerO
       subst (Finished e old) (sym f)
       (record { long = sym l; size = room-size; same = λ h. room-same (omega (arith, l)) ∙ ap (λ (z : ℕ). (D ++ fourOf u) ++ drop z old) (sym l) })
 
-pub kept-flush : {e : Encoder} {old : List ℕ} {w : Writer} {room : List ℕ} → Kept e old (writtenOf w room) → Ready 128 e → length (e .out) < 9223372036854775808 → {x : Ended} → x ≡ flushAnswer w room → Finished e old x
+pub kept-flush : {e : Encoder} {old : List ℕ} {w : Writer} {room : List ℕ} → Kept e old (writtenOf w room) → Ready 128 e → length (e .out) < 9223372036854775808 → {x : FlushEnd} → x ≡ flushAnswer w room → Finished e old x
 unfolding m
 kept-flush {e} {old} {w} {room} k y h {x} f =
     flush-kept e old room (subst (λ (z : Writer). Kept e old (writtenOf z room)) (k .writer) k) y

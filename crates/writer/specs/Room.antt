@@ -89,14 +89,14 @@ writerFine w =
     && ((leb 128 (w .range) && ltb (w .range) 256) && (leb 1 (w .count) && leb (w .count) 24))
 
 -- how many bytes are written in all, and the room
-pub record Ended : Type 0 where
+pub record FlushEnd : Type 0 where
   pub long : ℕ
   pub room : List ℕ
 
 -- the two as one
-abbrev pub endedOf : ℕ → List ℕ → Ended
+abbrev pub endedOf : ℕ → List ℕ → FlushEnd
 endedOf n room = record { long = n; room = room }
 
 -- `flush`: a writer out of range writes nothing
-unfoldable pub flushAnswer : Writer → List ℕ → Ended
+unfoldable pub flushAnswer : Writer → List ℕ → FlushEnd
 flushAnswer w room = elim (writerFine w) [ true ↦ endedOf (w .at + 4) (flushIn w room) | false ↦ endedOf 0 room ]

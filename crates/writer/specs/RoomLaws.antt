@@ -17,7 +17,7 @@ use Rattle.wide.specs.Wide.{less32, doublingsOf}
 use Rattle.writer.specs.declared.Writer.{Writer}
 use Rattle.writer.specs.Encoder.{addOne, carried}
 use Rattle.writer.specs.NumberLaws.{length-add-one}
-use Rattle.writer.specs.Room.{Written, writtenOf, carriedIn, byteIn, splitIn, widthIn, raisedIn, loudIn, shiftedIn, writeIn, fourIn, flushIn, writerFine, Ended, endedOf, flushAnswer}
+use Rattle.writer.specs.Room.{Written, writtenOf, carriedIn, byteIn, splitIn, widthIn, raisedIn, loudIn, shiftedIn, writeIn, fourIn, flushIn, writerFine, FlushEnd, endedOf, flushAnswer}
 
 -- ---- one turn of the carry
 pub add-one-none : (l : List ℕ) → addOne 0 l ≡ l

@@ -1,60 +1,50 @@
+-- `decode` meets its contract: what passes the tests is what `read_fast` asks.
 use lib.ListN.{length}
-use mathlib.Core.Path.{sym, _∙_}
-use borrow.Author.Tests.{not-true, not-false}
-use Rattle.reader.specs.BooleanLaws.{valid-fact}
-use Rattle.residual.specs.ResidualSteps.{arguments-fact, decode-reader, decode-arguments, decode-passed, reads-passed}
+use mathlib.Core.Bool.{Bool, _&&_}
+use mathlib.Core.Path.{_≡_}
 use borrow.Author.Needs.{needs}
+use borrow.Author.Tests.{not-true, not-false}
 use borrow.Kind.Array.{eInt, good-length}
 use mir.Syntax.{w8}
+use Rattle.numbers.specs.Tests.{both-left, both-right}
+use Rattle.reader.specs.Boolean.{validOf}
+use Rattle.reader.specs.BooleanLaws.{valid-fact}
+use Rattle.coefficients.specs.BlockSteps.{tests-two}
+use Rattle.residual.specs.Residual.{residualArguments}
+use Rattle.residual.specs.ResidualSteps.{arguments-fact, passed, refused}
 use Rattle.residual.proofs.decode.Statement.{statement}
 use Rattle.residual.proofs.decode.Tie as tie
 
 valid-requires : tie.Need-valid-requires
 valid-requires c κs = search needs
 
-no-residual-requires : tie.Need-no-residual-requires
-no-residual-requires c κs = search needs
-
-returns : tie.Need-returns
-returns c = decode-reader _ _ _ _ _ _ _ _ _ (c .no-residual .ensures) (sym (c .before .before .valid .ensures) ∙ not-true _ (c .before .if1 .taken))
-
 arguments-requires : tie.Need-arguments-requires
 arguments-requires c κs = search needs
 
-no-residual-requires-2 : tie.Need-no-residual-requires-2
-no-residual-requires-2 c κs = search needs
+no-residual-requires : tie.Need-no-residual-requires
+no-residual-requires c κs = search needs
 
-returns-2 : tie.Need-returns-2
-returns-2 c = decode-arguments _ _ _ _ _ _ _ _ _ (c .no-residual2 .ensures) (sym (c .before .before .arguments .ensures) ∙ not-true _ (c .before .if2 .taken))
+-- the tests are the definition's
+tests : (c : tie.After-arguments) {b : Bool} → c .before .valid .result && c .arguments .result ≡ b → (let a = c .before .before .before .before .args in validOf (a .s .now) (a .r) && residualArguments (a .table .now) (a .top) (a .left) (length (a .out .now)) ≡ b)
+tests c e = tests-two (c .before .valid .ensures) (c .arguments .ensures) e
+
+returns : tie.Need-returns
+returns c = refused _ _ _ _ _ _ _ _ _ (tests (c .before .before) (not-true _ (c .before .if1 .taken))) (c .no-residual .ensures)
 
 read-fast-requires : tie.Need-read-fast-requires
 read-fast-requires c κs =
-    let b = c .before .before .before .before .before .before .before in
+    let b = c .before .before .before .before .before .before in
     let a = b .args in
     let g = b .good .1 .1 .1 .1 .1 .1 in
-    let x = arguments-fact (a .table .now) (a .top) (a .left) (length (a .out .now)) (good-length (eInt w8) 9 (a .top) _ (g .0)) (good-length (eInt w8) 9 (a .left) _ (g .1 .0)) (sym (c .before .before .arguments .ensures) ∙ not-false _ (c .before .if2 .left)) in
-    ((valid-fact _ _ (sym (c .before .before .before .before .valid .ensures) ∙ not-false _ (c .before .before .before .if1 .left)), x .0), x .1)
+    let e = tests (c .before .before) (not-false _ (c .before .if1 .left)) in
+    let x = arguments-fact (a .table .now) (a .top) (a .left) (length (a .out .now)) (good-length (eInt w8) 9 (a .top) _ (g .0)) (good-length (eInt w8) 9 (a .left) _ (g .1 .0)) (both-right (validOf (a .s .now) (a .r)) _ e) in
+    ((valid-fact _ _ (both-left _ _ e), x .0), x .1)
 
 same-length : tie.Need-same-length
 same-length c = search needs
 
-returns-3 : tie.Need-returns-3
-returns-3 c =
-    let v = sym (c .before .before .before .before .before .before .valid .ensures) ∙ not-false _ (c .before .before .before .before .before .if1 .left) in
-    let a = sym (c .before .before .before .before .arguments .ensures) ∙ not-false _ (c .before .before .before .if2 .left) in
-    let e = c .before .read-fast .ensures in
-    (e .0 ∙ decode-passed _ _ _ _ _ _ _ _ _ v a, e .1 ∙ reads-passed _ _ _ _ _ _ _ _ _ v a)
+returns-2 : tie.Need-returns-2
+returns-2 c = passed _ _ _ _ _ _ _ _ _ (tests (c .before .before .before .before) (not-false _ (c .before .before .before .if1 .left))) (c .before .read-fast .ensures)
 
 pub decode-spec : {M : Type 1} → statement M
-decode-spec =
-    tie.close
-    (tie.spec
-    valid-requires
-    no-residual-requires
-    returns
-    arguments-requires
-    no-residual-requires-2
-    returns-2
-    read-fast-requires
-    same-length
-    returns-3)
+decode-spec = tie.close (tie.spec valid-requires arguments-requires no-residual-requires returns read-fast-requires same-length returns-2)

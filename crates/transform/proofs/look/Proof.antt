@@ -17,7 +17,7 @@ use Rattle.numbers.specs.Hand.{back, same-bits}
 use Rattle.numbers.specs.Tables.{allBelow}
 use Rattle.numbers.specs.Tests.{both-left, both-right}
 use Rattle.transform.specs.Transform.{at, fits16, blockFits}
-use Rattle.transform.specs.TransformLaws.{PlainTo}
+use Rattle.transform.specs.Pieces.{PlainTo}
 use Rattle.transform.proofs.look.Statement.{statement}
 use Rattle.transform.proofs.look.Tie as tie
 

@@ -26,8 +26,8 @@ slice-aggregate-walk-tree-2 c = search needs
 walk-tree-requires : tie.Need-walk-tree-requires Inv-loop μ-loop
 walk-tree-requires c κs = search needs
 
-enum-known-after : tie.Need-enum-known-after Inv-loop μ-loop
-enum-known-after c = search needs
+enum-known-answer : tie.Need-enum-known-answer Inv-loop μ-loop
+enum-known-answer c = search needs
 
 returns : tie.Need-returns Inv-loop μ-loop
 returns c = search needs
@@ -54,7 +54,7 @@ walks-spec =
     slice-aggregate-walk-tree
     slice-aggregate-walk-tree-2
     walk-tree-requires
-    enum-known-after
+    enum-known-answer
     returns
     add-n
     loop-less

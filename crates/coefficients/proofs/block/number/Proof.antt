@@ -1,40 +1,30 @@
--- `number` meets its contract: what passes both tests is what `read_number` asks.
-use Prim.Native.Nat.{_≤_}
-use mathlib.Core.Path.{sym, _∙_}
+-- `number` meets its contract: what passes the test is what the inner call asks.
+use mathlib.Core.Path.{_∙_}
 use borrow.Author.Needs.{needs}
 use borrow.Author.Tests.{not-true, not-false}
-use Rattle.reader.specs.BooleanLaws.{Valid, valid-fact}
-use Rattle.coefficients.specs.BlockLaws.{number-good}
-use Rattle.coefficients.specs.BlockSteps.{number-reader, number-token, numeric-fact}
+use Rattle.numbers.specs.Tests.{both-left, both-right}
+use Rattle.reader.specs.Boolean.{validOf}
+use Rattle.reader.specs.BooleanLaws.{valid-fact}
+use Rattle.coefficients.specs.BlockSteps.{tests-two, number-refused, number-good, numeric-fact}
 use Rattle.coefficients.proofs.block.number.Statement.{statement}
 use Rattle.coefficients.proofs.block.number.Tie as tie
 
 valid-requires : tie.Need-valid-requires
 valid-requires c κs = search needs
 
-returns : tie.Need-returns
-returns c = number-reader _ _ _ (sym (c .before .valid .ensures) ∙ not-true _ (c .if1 .taken))
-
 numeric-requires : tie.Need-numeric-requires
 numeric-requires c κs = search needs
 
-returns-2 : tie.Need-returns-2
-returns-2 c = number-token _ _ _ (sym (c .before .numeric .ensures) ∙ not-true _ (c .if2 .taken))
-
--- what the tests showed
-good : (c : tie.Else2) → Valid (c .before .before .before .before .before .args .s .now) (c .before .before .before .before .before .args .r)
-good c = valid-fact _ _ (sym (c .before .before .before .valid .ensures) ∙ not-false _ (c .before .before .if1 .left))
-
-token-good : (c : tie.Else2) → (2 ≤ c .before .before .before .before .before .args .token) × (c .before .before .before .before .before .args .token ≤ 11)
-token-good c = numeric-fact _ (sym (c .before .numeric .ensures) ∙ not-false _ (c .if2 .left))
+returns : tie.Need-returns
+returns c = number-refused _ _ _ (tests-two (c .before .before .valid .ensures) (c .before .numeric .ensures) (not-true _ (c .if1 .taken)))
 
 read-number-requires : tie.Need-read-number-requires
-read-number-requires c κs = (good c, token-good c)
+read-number-requires c κs =
+    let e = tests-two (c .before .before .valid .ensures) (c .before .numeric .ensures) (not-false _ (c .if1 .left)) in
+    (valid-fact _ _ (both-left _ _ e), numeric-fact _ (both-right (validOf (c .before .before .before .before .args .s .now) (c .before .before .before .before .args .r)) _ e))
 
-returns-3 : tie.Need-returns-3
-returns-3 c = c .read-number .ensures ∙ number-good _ _ _ (good (c .before)) (token-good (c .before) .0) (token-good (c .before) .1)
+returns-2 : tie.Need-returns-2
+returns-2 c = c .read-number .ensures .0 ∙ number-good _ _ _ (tests-two (c .before .before .before .valid .ensures) (c .before .before .numeric .ensures) (not-false _ (c .before .if1 .left)))
 
 pub number-spec : {M : Type 1} → statement M
-number-spec =
-    tie.close
-    (tie.spec valid-requires returns numeric-requires returns-2 read-number-requires returns-3)
+number-spec = tie.close (tie.spec valid-requires numeric-requires returns read-number-requires returns-2)

@@ -16,10 +16,10 @@ abbrev μ-loop : tie.MeasureT-loop
 
 returns : tie.Need-returns Inv-loop μ-loop
 unfolding roughAt
-returns c = let l = c .before .before .before .loop in first-here _ _ (l .inv .1) (sym (c .before .near .ensures) ∙ not-true _ (c .if1 .taken))
+returns c = let l = c .before .before .before .loop in first-here _ _ (l .inv .1) (sym (c .before .pair-smooth .ensures) ∙ not-true _ (c .if1 .taken))
 
 loop-again : tie.Need-loop-again Inv-loop μ-loop
-loop-again c = let l = c .before .before .before .loop in (omega arith, first-later _ _ (omega arith) (l .inv .1) (sym (c .before .near .ensures) ∙ not-false _ (c .if1 .left)))
+loop-again c = let l = c .before .before .before .loop in (omega arith, first-later _ _ (omega arith) (l .inv .1) (sym (c .before .pair-smooth .ensures) ∙ not-false _ (c .if1 .left)))
 
 returns-2 : tie.Need-returns-2 Inv-loop μ-loop
 unfolding roughAt

@@ -6,9 +6,6 @@ use Rattle.hookbarley.proofs.showing.hookbarley_key_frame.Tie as tie
 returns : tie.Need-returns
 returns c = show-refused _ _ _ _ (c .if1 .taken)
 
-put-shown-requires : tie.Need-put-shown-requires
-put-shown-requires c κs = c .before .before .before .before .before .before .before .before .before .before .before .before .before .before .before .before .before .before .before .before .before .before .before .before .if1 .left
-
 returns-2 : tie.Need-returns-2
 returns-2 c = show-found _ _ _ _ (c .before .before .before .before .before .before .before .before .before .before .before .before .before .before .before .before .before .before .before .before .before .before .before .before .before .before .before .if1 .left) (c .before .before .before .before .before .before .before .before .before .before .before .before .before .before .before .before .before .before .before .key-frame .ensures) (c .before .before .put-shown .ensures)
 
@@ -18,7 +15,7 @@ hookbarley-key-frame-spec =
     (tie.spec
     returns
     (λ c κs. search needs)
-    put-shown-requires
+    (λ c κs. search needs)
     (λ c. search needs)
     (λ c. search needs)
     (λ c. search needs)

@@ -1,5 +1,5 @@
 use mathlib.Core.Path.{ap}
-use Rattle.lent.specs.Records.{Taken, packed, contextIn}
+use Rattle.lent.specs.Records.{FoundRecord, packed, contextIn}
 use borrow.Author.Needs.{needs}
 use Rattle.lent.proofs.columns.read_column.Statement.{statement}
 use Rattle.lent.proofs.columns.read_column.Tie as tie
@@ -55,7 +55,7 @@ returns : tie.Need-returns
 returns c =
     let h = c .before .before .before in
     rw (c .unpack-flags .ensures, c .before .half2 .ensures, c .before .before .unpack-modes .ensures, h .half .ensures)
-    (ap (λ (r : Taken). record { answer = r .answer; context = contextIn packed (r .bytes) }) (h .before .before .read .ensures))
+    (ap (λ (r : FoundRecord). record { answer = r .answer; context = contextIn packed (r .bytes) }) (h .before .before .read .ensures))
 
 pub read-column-spec : {M : Type 1} → statement M
 read-column-spec =

@@ -45,20 +45,20 @@ module _ (p : List ℕ) (v at n : ℕ) {q : List ℕ} (e : q ≡ placed p 0 (λ 
   further d = d ∙ ap (λ (l : List ℕ). placed l at (λ i. v) n) e ∙ on p v at n
 
 fill-part-requires : tie.Need-fill-part-requires Inv-loop μ-loop
-fill-part-requires c κs = omega (arith, c .before .part .ensures .0)
+fill-part-requires c κs = omega (arith, c .before .piece .ensures .0)
 
 -- where the part was told, and what is filled after it
-abbrev called : tie.After-slice-known2 Inv-loop μ-loop → tie.After-part Inv-loop μ-loop
+abbrev called : tie.After-slice-known2 Inv-loop μ-loop → tie.After-piece Inv-loop μ-loop
 called c = c .before .before .before .before
 
-behind : (c : tie.After-slice-known2 Inv-loop μ-loop) → called c .before .before .loop .at + called c .part .result ≤ length (called c .before .before .before .before .args .mem .now)
-behind c = let b = called c in room _ _ _ _ (b .before .before .loop .inv .1) (b .part .ensures .0) (omega arith)
+behind : (c : tie.After-slice-known2 Inv-loop μ-loop) → called c .before .before .loop .at + called c .piece .result ≤ length (called c .before .before .before .before .args .mem .now)
+behind c = let b = called c in room _ _ _ _ (b .before .before .loop .inv .1) (b .piece .ensures .0) (omega arith)
 
 add-at : tie.Need-add-at Inv-loop μ-loop
 add-at c = omega (arith, behind c)
 
 loop-less : tie.Need-loop-less Inv-loop μ-loop
-loop-less c = let b = called c in omega (arith, behind c, b .part .ensures .1 (omega arith))
+loop-less c = let b = called c in omega (arith, behind c, b .piece .ensures .1 (omega arith))
 
 loop-again : tie.Need-loop-again Inv-loop μ-loop
 loop-again c = (behind c, further _ _ _ _ (called c .before .before .loop .inv .1) (c .before .before .fill-part .ensures))

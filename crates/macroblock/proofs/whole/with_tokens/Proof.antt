@@ -17,7 +17,7 @@ use Rattle.macroblock.specs.Counts.{readsMade, macroblockTokenReads}
 use Rattle.macroblock.specs.MacroblockLaws.{tokens-missing, tokens-done, painting}
 use denote.Enum.Declared.{tagOf}
 use Rattle.residual.specs.ResidualLaws.{not-done}
-use Rattle.residual.proofs.Ended as ended-answer
+use Rattle.residual.proofs.answers.Ended as ended-answer
 use borrow.Author.Needs.{needs}
 use Rattle.macroblock.proofs.whole.with_tokens.Statement.{statement}
 use Rattle.macroblock.proofs.whole.with_tokens.Tie as tie

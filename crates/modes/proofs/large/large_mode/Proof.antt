@@ -1,8 +1,11 @@
-use mathlib.Core.Path.{refl}
+use mathlib.Core.Path.{refl, sym, ap}
 use lib.Dec.{lit≤}
 use borrow.Author.Needs.{needs}
 use Rattle.reader.specs.TreesLaws.{tree-fixed}
-use Rattle.modes.specs.ModesLaws.{byte-leaves}
+use Rattle.modes.specs.Modes.{largeMode}
+use Rattle.modes.specs.ModesLaws.{byte-leaves, large-within}
+use Rattle.modes.specs.Answers.{toMode}
+use Rattle.modes.proofs.Careful.{told-as}
 use Rattle.modes.proofs.large.large_mode.Statement.{statement}
 use Rattle.modes.proofs.large.large_mode.Tie as tie
 
@@ -16,7 +19,7 @@ coded-requires : tie.Need-coded-requires
 coded-requires c κs = (c .before .before .before .before .pre, (tree-fixed _ _ 0 (lit≤ tt) refl, byte-leaves _ refl))
 
 returns : tie.Need-returns
-returns c = rw (c .before .before .before .if1 .taken) (c .coded .ensures)
+returns c = let a = c .before .before .before .before .before .args in told-as toMode (a .s .now) (a .r) (ap largeMode (sym (c .before .before .before .if1 .taken))) (large-within (a .chroma)) (c .coded .ensures)
 
 slice-aggregate-coded-3 : tie.Need-slice-aggregate-coded-3
 slice-aggregate-coded-3 c = search needs
@@ -28,7 +31,7 @@ coded-requires-2 : tie.Need-coded-requires-2
 coded-requires-2 c κs = (c .before .before .before .before .pre, (tree-fixed _ _ 0 (lit≤ tt) refl, byte-leaves _ refl))
 
 returns-2 : tie.Need-returns-2
-returns-2 c = rw (c .before .before .before .if1 .left) (c .coded2 .ensures)
+returns-2 c = let a = c .before .before .before .before .before .args in told-as toMode (a .s .now) (a .r) (ap largeMode (sym (c .before .before .before .if1 .left))) (large-within (a .chroma)) (c .coded2 .ensures)
 
 pub large-mode-spec : {M : Type 1} → statement M
 large-mode-spec =

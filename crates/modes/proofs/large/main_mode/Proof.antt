@@ -20,7 +20,7 @@ large-mode-requires : tie.Need-large-mode-requires
 large-mode-requires c κs = good c
 
 returns-2 : tie.Need-returns-2
-returns-2 c = c .large-mode .ensures ∙ sym (main-good _ _ _ (good (c .before)))
+returns-2 c = c .large-mode .ensures .0 ∙ sym (main-good _ _ _ (good (c .before)))
 
 pub main-mode-spec : {M : Type 1} → statement M
 main-mode-spec = tie.close (tie.spec valid-requires returns large-mode-requires returns-2)

@@ -2,6 +2,7 @@ use mathlib.Core.Path.{sym, _∙_, ap}
 use borrow.Author.Tests.{not-true, not-false}
 use borrow.Author.Needs.{needs}
 use Rattle.reader.specs.BooleanLaws.{Valid, valid-fact}
+use Rattle.header.specs.FrameLaws.{announced-bytes}
 use Rattle.header.specs.declared.frame.Announced.{Announced}
 use Rattle.reader.specs.Reading.{run}
 use Rattle.modes.specs.Modes.{prefix}
@@ -27,13 +28,13 @@ announced-by-requires : tie.Need-announced-by-requires
 announced-by-requires c κs = search needs
 
 head-requires : tie.Need-head-requires
-head-requires c κs = good (c .before)
+head-requires c κs = (good (c .before), rw (c .announced-by .ensures) (announced-bytes _))
 
 returns-3 : tie.Need-returns-3
 returns-3 c =
     let b = c .before .before in
     let a = b .before .before .before .before .args in
-    c .head .ensures ∙ ap (λ (n : Announced). toHeaded (run (prefix n) (a .s .now) (a .r))) (c .before .announced-by .ensures) ∙ sym (prefix-good _ _ _ (good b) (b .before .before .if1 .left))
+    c .head .ensures .0 ∙ ap (λ (n : Announced). toHeaded (run (prefix n) (a .s .now) (a .r))) (c .before .announced-by .ensures) ∙ sym (prefix-good _ _ _ (good b) (b .before .before .if1 .left))
 
 pub prefix-spec : {M : Type 1} → statement M
 prefix-spec = tie.close (tie.spec returns valid-requires returns-2 announced-by-requires head-requires returns-3)

@@ -1,22 +1,21 @@
-use mathlib.Core.Path.{sym, ap, _∙_}
-use Rattle.reader.specs.Boolean.{toSymbol}
-use Rattle.modes.specs.ModesLaws.{skip-none, skip-some}
-use Rattle.modes.specs.AnswersLaws.{symbol-is}
+use mathlib.Core.Bool.{false}
 use borrow.Author.Needs.{needs}
+use Rattle.reader.specs.Boolean.{toSymbol}
+use Rattle.modes.specs.ModesLaws.{skip-within}
+use Rattle.reader.specs.CountsLaws.{took-done}
+use Rattle.modes.proofs.Steps.{no-skip, some-skip}
+use Rattle.modes.proofs.Careful.{told, told-as, took-equal}
 use Rattle.modes.proofs.prefix.skip.Statement.{statement}
 use Rattle.modes.proofs.prefix.skip.Tie as tie
-use Rattle.modes.proofs.prefix.skip.Reads as reads
-use Rattle.modes.proofs.prefix.skip.Lts as lts
-use Rattle.reader.proofs.boolean.Reader.symbol.Reads as symbol-reads
 
-symbol-requires : tie.Need-symbol-requires
-symbol-requires c κs = search needs
+ask-requires : tie.Need-ask-requires
+ask-requires c κs = search needs
 
 returns : tie.Need-returns
-returns c = let b = c .before .before in c .symbol .ensures ∙ symbol-is _ _ _ (b .before .pre) ∙ ap toSymbol (skip-some _ _ _ (c .before .if1 .taken))
+returns c = let a = c .before .before .before .args in told-as toSymbol (a .s .now) (a .r) (some-skip (a .a) (c .before .if1 .taken)) (skip-within (a .a) (c .before .before .before .pre .1)) (c .ask .ensures)
 
 returns-2 : tie.Need-returns-2
-returns-2 c = sym (ap toSymbol (skip-none _ _ _ (c .if1 .left)))
+returns-2 c = let a = c .before .before .args in told toSymbol (skip-within (a .a) (c .before .before .pre .1)) (took-equal (no-skip (a .a) (c .if1 .left)) (took-done false (a .s .now) (a .r)))
 
 pub skip-spec : {M : Type 1} → statement M
-skip-spec = tie.close (tie.spec symbol-requires returns returns-2)
+skip-spec = tie.close (tie.spec ask-requires returns returns-2)

@@ -1,11 +1,16 @@
 use Prim.Native.Nat.{ℕ, _+_}
-use mathlib.Core.Path.{refl, ap, _∙_}
+use lib.Dec.{lit≤}
 use mathlib.Core.List.{List}
+use mathlib.Core.Path.{refl, ap, _∙_}
 use borrow.Author.Needs.{needs}
-use Rattle.reader.specs.Reading.{run}
-use Rattle.modes.specs.TableLaws.{part-is}
+use Rattle.reader.specs.Trees.{treeOf}
+use Rattle.reader.specs.TreesLaws.{tree-fixed}
 use Rattle.modes.specs.Modes.{tree, bTree}
+use Rattle.modes.specs.ModesLaws.{byte-leaves, block-within}
 use Rattle.modes.specs.Answers.{toMode}
+use Rattle.modes.specs.Table.{probabilities}
+use Rattle.modes.specs.TableLaws.{probabilities-length, part-is}
+use Rattle.modes.proofs.Careful.{told-as}
 use Rattle.modes.proofs.small.block.Statement.{statement}
 use Rattle.modes.proofs.small.block.Tie as tie
 
@@ -15,35 +20,38 @@ place-requires c κs = search needs
 add-end : tie.Need-add-end
 add-end c = search needs
 
-sub-small-mode : tie.Need-sub-small-mode
-sub-small-mode c = search needs
+sub-coded : tie.Need-sub-coded
+sub-coded c = search needs
 
-part-small-mode-start : tie.Need-part-small-mode-start
-part-small-mode-start c = search needs
+part-coded-start : tie.Need-part-coded-start
+part-coded-start c = search needs
 
-part-small-mode-end : tie.Need-part-small-mode-end
-part-small-mode-end c = search needs
+part-coded-end : tie.Need-part-coded-end
+part-coded-end c = search needs
 
-small-mode-requires : tie.Need-small-mode-requires
-small-mode-requires c κs = search needs
+slice-aggregate-coded : tie.Need-slice-aggregate-coded
+slice-aggregate-coded c = search needs
+
+coded-requires : tie.Need-coded-requires
+coded-requires c κs =
+    let a = c .before .before .before .before .before .args in
+    let p = c .before .before .before .before .before .pre in (
+      p .0,
+      (
+        ap (λ (ps : List ℕ). treeOf ps bTree 0) (part-is (a .top) (a .left) (p .1 .1) (p .1 .0 .0) (p .1 .0 .1) (c .before .before .place .result) (c .before .before .place .result + 9) (c .before .before .place .ensures .0) refl)
+            ∙ tree-fixed (probabilities (a .top) (a .left)) bTree 0 (rw (probabilities-length (a .top) (a .left)) (lit≤ tt)) refl,
+        byte-leaves bTree refl,
+      ),
+    )
 
 returns : tie.Need-returns
 returns c =
-    let p = c .before .before in
-    let d = p .before .before .before in
-    let a = d .args in
-    c .small-mode .ensures
-    ∙ ap (λ (ps : List ℕ). toMode (run (tree ps bTree) (a .s .now) (a .r)))
-    (part-is (a .top) (a .left) (d .pre .1 .1) (d .pre .1 .0 .0) (d .pre .1 .0 .1) (p .place .result) (p .place .result + 9) (p .place .ensures .0) refl)
+    let a = c .before .before .before .before .before .before .args in
+    let p = c .before .before .before .before .before .before .pre in
+    told-as toMode (a .s .now) (a .r)
+    (ap (λ (ps : List ℕ). tree ps bTree) (part-is (a .top) (a .left) (p .1 .1) (p .1 .0 .0) (p .1 .0 .1) (c .before .before .before .place .result) (c .before .before .before .place .result + 9) (c .before .before .before .place .ensures .0) refl))
+    (block-within (a .top) (a .left))
+    (c .coded .ensures)
 
 pub block-spec : {M : Type 1} → statement M
-block-spec =
-    tie.close
-    (tie.spec
-    place-requires
-    add-end
-    sub-small-mode
-    part-small-mode-start
-    part-small-mode-end
-    small-mode-requires
-    returns)
+block-spec = tie.close (tie.spec place-requires add-end sub-coded part-coded-start part-coded-end slice-aggregate-coded coded-requires returns)

@@ -32,7 +32,7 @@ block-requires : tie.Need-block-requires
 block-requires c κs = let b = c .before .before in (good (b .before .before), ((b .before .if2 .left, b .if3 .left), c .before .all-probabilities .ensures))
 
 returns-4 : tie.Need-returns-4
-returns-4 c = let b = c .before .before .before in c .block .ensures ∙ sym (block-good _ _ _ _ (good (b .before .before)) (b .before .if2 .left) (b .if3 .left))
+returns-4 c = let b = c .before .before .before in c .block .ensures .0 ∙ sym (block-good _ _ _ _ (good (b .before .before)) (b .before .if2 .left) (b .if3 .left))
 
 pub block-mode-spec : {M : Type 1} → statement M
 block-mode-spec =

@@ -47,10 +47,10 @@ enum-known-answer : tie.Need-enum-known-answer
 enum-known-answer c = search needs
 
 returns-3 : tie.Need-returns-3
-returns-3 c = let b = c .before in sixteen-missing (whole b) zeros _ (b .sixteen .ensures) (not-next (b .sixteen .result .answer) (b .sixteen .result .modes) (c .match .keys2)) ∙ sym (small-good _ _ _ _ _ (good (b .before)) (fine (b .before)))
+returns-3 c = let b = c .before in sixteen-missing (whole b) zeros _ (b .sixteen .ensures .0) (not-next (b .sixteen .result .answer) (b .sixteen .result .modes) (c .match .keys2)) ∙ sym (small-good _ _ _ _ _ (good (b .before)) (fine (b .before)))
 
 returns-4 : tie.Need-returns-4
-returns-4 c = let b = c .before .before .before .before in sixteen-read (whole b) zeros (start (b .before) .args .modes .now) (b .sixteen .ensures) (c .before .before .answer .given .1) ∙ sym (small-good _ _ _ _ _ (good (b .before)) (fine (b .before)))
+returns-4 c = let b = c .before .before .before .before in sixteen-read (whole b) zeros (start (b .before) .args .modes .now) (b .sixteen .ensures .0) (c .before .before .answer .given .1) ∙ sym (small-good _ _ _ _ _ (good (b .before)) (fine (b .before)))
 
 pub small-modes-spec : {M : Type 1} → statement M
 small-modes-spec =

@@ -1,21 +1,23 @@
-use mathlib.Core.Path.{_≡_, sym, _∙_}
+use mathlib.Core.Path.{_≡_, sym, _∙_, ap}
 use mathlib.Core.Bool.{true}
+use native.Mathlib.Omega.{arith}
 use lib.ListN.{getD}
 use mir.Syntax.{w8}
 use mir.Val.{Fits}
 use borrow.Author.Tests.{not-true, not-false}
 use borrow.Author.Needs.{needs}
 use Rattle.header.specs.FrameLaws.{Probabilities}
-use Rattle.reader.specs.Boolean.{Given, given}
+use Rattle.reader.specs.Boolean.{given}
 use Rattle.reader.specs.Reading.{run}
 use Rattle.reader.specs.BooleanLaws.{Bytes, Valid, valid-fact}
 use Rattle.reader.specs.ReadingLaws.{run-valid}
-use Rattle.modes.specs.Modes.{zeros, Macroblock, modesOf}
-use Rattle.modes.specs.ModesLaws.{Modes, modes-within, above-fact, left-fact}
-use Rattle.modes.specs.Answers.{contextsOf, macroblockOf}
-use Rattle.modes.specs.AnswersLaws.{modes-reader, modes-contexts, modes-good, staged-missing, staged-gave, staged-read}
+use Rattle.wide.specs.Wide.{narrowOf}
+use Rattle.modes.specs.Modes.{Modes, modesOf}
+use Rattle.modes.specs.ModesLaws.{modes-within, above-fact, left-fact}
+use Rattle.modes.specs.Answers.{contextsOf, macroblockOf, toStaged}
+use Rattle.modes.specs.AnswersLaws.{modes-reader, modes-contexts, modes-good}
 use Rattle.modes.specs.CountsLaws.{reads-good, reads-reader, reads-contexts, modes-read}
-use Rattle.modes.proofs.Others.{not-stage}
+use Rattle.modes.proofs.Steps.{wide-modes}
 use Rattle.modes.proofs.whole.read_modes.Statement.{statement}
 use Rattle.modes.proofs.whole.read_modes.Tie as tie
 
@@ -52,54 +54,55 @@ known c =
       skip = let f : Fits w8 (a .«skip_probability») = search needs in f .fits;
     }
 
-asks : (c : tie.Else2) → (let a = start c .args in Valid (a .s .now) (a .r) × (Modes (a .t4) × Modes (a .t5)))
-asks c = (good c, (above-fact (start c .args .t4) (start c .args .t5) (fine c), left-fact (start c .args .t4) (start c .args .t5) (fine c)))
+beside : (c : tie.Else2) → Modes (start c .args .t4) × Modes (start c .args .t5)
+beside c = (above-fact (start c .args .t4) (start c .args .t5) (fine c), left-fact (start c .args .t4) (start c .args .t5) (fine c))
 
-quick-stage-requires : tie.Need-quick-stage-requires
-quick-stage-requires c κs = asks (c .before .before)
+widen-requires : tie.Need-widen-requires
+widen-requires c κs = search needs
 
-enum-known-answer : tie.Need-enum-known-answer
-enum-known-answer c = search needs
+quick-requires : tie.Need-quick-requires
+quick-requires c κs = beside (c .before .before .before)
 
-abbrev tested : tie.After-quick-stage → tie.Else2
-tested c = c .before .before .before
+inside-requires : tie.Need-inside-requires
+inside-requires c κs = search needs
 
-abbrev whole : tie.After-quick-stage → Given Macroblock
-whole c = let a = start (tested c) .args in run (modesOf (a .a) (a .t4) (a .t5)) (a .s .now) (a .r)
-
-count-modes-requires : tie.Need-count-modes-requires
-count-modes-requires c κs = let d = tested (c .before .before .before) in (good d, (asks d .1, known d))
+stage-requires : tie.Need-stage-requires
+stage-requires c κs = let t = c .before .before .before .before .before .before .before .before .before .before in (good t, (beside t, known t))
 
 returns-3 : tie.Need-returns-3
 returns-3 c =
-    let m = c .before .before .before in
-    let b = m .before in
-    let d = tested b in (
-      staged-missing (whole b) zeros _ (b .quick-stage .ensures) (not-stage (b .quick-stage .result .answer) (b .quick-stage .result .modes) (m .match .keys2)) ∙ sym (modes-good _ _ _ _ _ _ (good d) (fine d)),
-      c .count-modes .ensures ∙ sym (reads-good _ _ _ _ _ (good d) (fine d)),
-    )
+    let t = c .before .before .before .before .before .before .before .before .before .before .before in
+    (c .stage .ensures .0 ∙ sym (modes-good _ _ _ _ _ _ (good t) (fine t)), c .stage .ensures .1 .0 ∙ sym (reads-good _ _ _ _ _ (good t) (fine t)))
 
--- what was read
-gave : (c : tie.After-known-told) → whole (c .before .before .before) ≡ given (macroblockOf (c .before .answer .given .0 .0) (c .before .before .before .quick-stage .result .modes)) (c .before .answer .given .0 .1 .0)
-gave c = let b = c .before .before .before in staged-gave (whole b) zeros zeros (b .quick-stage .ensures) (c .before .answer .given .1)
+-- what was read inside the partition
+abbrev tested : tie.Else3 → tie.Else2
+tested c = c .before .before .before .before .before .before .before
+
+gave : (c : tie.Else3) → (let a = start (tested c) .args in let q = c .before .before .before .quick .result in run (modesOf (a .a) (a .t4) (a .t5)) (a .s .now) (a .r) ≡ given (macroblockOf (q .kinds) (q .modes)) (narrowOf (a .s .now) (q .next)))
+gave c =
+    let t = tested c in
+    let a = start t .args in
+    wide-modes (a .s .now) (a .a) (a .r) (a .t4) (a .t5) (bytes t) (good t) (omega (arith, start t .good .0)) (c .before .before .before .before .before .before .widen .ensures) (c .before .before .before .quick .ensures) (c .before .inside .ensures) (not-false _ (c .if3 .left))
 
 modes-read-requires : tie.Need-modes-read-requires
 modes-read-requires c κs =
-    let k = c .before .before in
-    let b = k .before .before .before in
-    let d = tested b in
-    let a = start d .args in
-    let e = run-valid (modes-within (a .a) (known d) (a .t4) (a .t5)) (bytes d) (good d) (gave k) in
+    let d = c .before .before .before in
+    let t = tested d in
+    let a = start t .args in
+    let e = run-valid (modes-within (a .a) (known t) (a .t4) (a .t5)) (bytes t) (good t) (gave d) in
     (e .value .luma .each, e .value .chroma)
+
+narrow-requires : tie.Need-narrow-requires
+narrow-requires c κs = search needs
 
 returns-4 : tie.Need-returns-4
 returns-4 c =
-    let k = c .before .before .before in
-    let b = k .before .before .before in
-    let d = tested b in
-    let a = start d .args in (
-      staged-read (whole b) zeros (a .modes .now) (b .quick-stage .ensures) (k .before .answer .given .1) ∙ sym (modes-good _ _ _ _ _ _ (good d) (fine d)),
-      c .modes-read .ensures ∙ sym (modes-read (a .a) (a .t4) (a .t5) (a .s .now) (a .r) (gave k)) ∙ sym (reads-good _ _ _ _ _ (good d) (fine d)),
+    let d = c .before .before .before .before .before in
+    let t = tested d in
+    let a = start t .args in
+    let q = c .before .before .before .before .before .before .before .before .quick .result in (
+      sym (ap (toStaged (a .modes .now)) (gave d ∙ ap (given (macroblockOf (q .kinds) (q .modes))) (sym (c .narrow .ensures)))) ∙ sym (modes-good _ _ _ _ _ _ (good t) (fine t)),
+      c .before .modes-read .ensures ∙ sym (modes-read (a .a) (a .t4) (a .t5) (a .s .now) (a .r) (gave d)) ∙ sym (reads-good _ _ _ _ _ (good t) (fine t)),
     )
 
 pub read-modes-spec : {M : Type 1} → statement M
@@ -110,9 +113,11 @@ read-modes-spec =
     returns
     contexts-fine-requires
     returns-2
-    quick-stage-requires
-    enum-known-answer
-    count-modes-requires
+    widen-requires
+    quick-requires
+    inside-requires
+    stage-requires
     returns-3
     modes-read-requires
+    narrow-requires
     returns-4)

@@ -1,5 +1,5 @@
 -- `four_left` meets its contract: outside, or a sample of each of four rows.
-use mathlib.Core.Path.{_≡_, refl}
+use mathlib.Core.Path.{refl}
 use Prim.Native.Nat.{_+_, _-_}
 use native.Mathlib.Nat.{one-mul}
 use native.Mathlib.Omega.{arith}

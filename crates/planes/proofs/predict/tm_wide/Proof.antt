@@ -5,7 +5,7 @@ use native.Mathlib.Omega.{arith}
 use borrow.Author.Needs.{needs}
 use lib.ListN.{getD}
 use Rattle.numbers.specs.Lists.{Filled, filled-none, filled-next, filled-all}
-use Rattle.planes.specs.PredictLaws.{tmOne}
+use Rattle.planes.specs.Pieces.{tmOne}
 use Rattle.planes.proofs.predict.tm_wide.Statement.{statement}
 use Rattle.planes.proofs.predict.tm_wide.Tie as tie
 

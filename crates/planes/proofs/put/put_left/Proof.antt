@@ -3,7 +3,8 @@ use mathlib.Core.Path.{_≡_, sym}
 use Prim.Native.Nat.{ℕ, _-_, _≤_}
 use native.Mathlib.Omega.{arith}
 use lib.ListN.{getD, getD-replicate}
-use Rattle.planes.specs.PaintLaws.{rowsPlaced, rows-none, length-rows}
+use Rattle.planes.specs.Pieces.{rowsPlaced}
+use Rattle.planes.specs.PaintLaws.{rows-none, length-rows}
 use Rattle.planes.specs.Places.{size-some}
 use Rattle.planes.specs.Steps.{row-room, row-turn}
 use Rattle.planes.proofs.put.put_left.Statement.{statement}

@@ -5,7 +5,7 @@ use lib.IntN.{pos}
 use lib.ListN.{getD}
 use mir.Syntax.{w32}
 use Rattle.numbers.specs.Hand.{back}
-use Rattle.residual.proofs.Answers.{not-ended}
+use Rattle.residual.proofs.Tags.{not-ended}
 use Rattle.residual.specs.Residual.{zeroOf}
 use Rattle.residual.specs.ResidualSteps.{BlockPart, coded-read}
 use Rattle.residual.proofs.Turns.{kind-fine, sixteen-fine, advance-lost, advance-read}

@@ -2,8 +2,6 @@ use Prim.Native.Nat.{_-_}
 use native.Mathlib.Omega.{arith}
 use mathlib.Core.Path.{sym, _∙_}
 use borrow.Author.Tests.{not-true, not-false}
-use Rattle.reader.specs.Reading.{run}
-use Rattle.reader.specs.Trace.{count}
 use Rattle.residual.specs.Residual.{blocksFrom}
 use Rattle.residual.specs.ResidualSteps.{modelOf}
 use Rattle.residual.proofs.Turns.{Going, going-start, going-end, turn-few, going-missing, going-next}
@@ -11,7 +9,7 @@ use Rattle.residual.proofs.blocks.blocks.Statement.{statement}
 use Rattle.residual.proofs.blocks.blocks.Tie as tie
 
 abbrev Inv-loop : tie.InvT-loop
-Inv-loop s table f small flat₀ m₀ reads₀ i₀ flat m reads i = (let g = blocksFrom table f small 24 0 (modelOf m₀ flat₀) in Going s table f small (run g s (m₀ .reader)) (count g s (m₀ .reader)) i m flat reads)
+Inv-loop s table f small flat₀ m₀ reads₀ i₀ flat m reads i = Going s table f small (blocksFrom table f small 24 0 (modelOf m₀ flat₀)) (m₀ .reader) i m flat reads
 
 abbrev μ-loop : tie.MeasureT-loop
 μ-loop s table f small flat₀ m₀ reads₀ i₀ flat m reads i = 24 - i
@@ -38,8 +36,7 @@ same-length c =
 returns : tie.Need-returns Inv-loop μ-loop
 returns c =
     let b = c .before .before .before .before .before in
-    let g = going-missing (b .before .before .before .loop .inv) (b .before .before .loop-test .taken) (b .block .result) _ (b .block .ensures) (not-true _ (c .if1 .taken)) in
-    record { gave = g .0; took = g .1 }
+    going-missing (b .before .before .before .loop .inv) (b .before .before .loop-test .taken) (b .block .result) _ (b .block .ensures) (not-true _ (c .if1 .taken))
 
 add-i : tie.Need-add-i Inv-loop μ-loop
 add-i c = omega arith
@@ -58,7 +55,7 @@ same-length-2 : tie.Need-same-length-2 Inv-loop μ-loop
 same-length-2 c = c .before .loop .inv .held .whole .long ∙ sym (c .before .before .before .before .pre .whole .long)
 
 returns-2 : tie.Need-returns-2 Inv-loop μ-loop
-returns-2 c = let g = going-end (c .before .loop .inv) (c .loop-test .left) in record { gave = g .0; took = g .1 }
+returns-2 c = going-end (c .before .loop .inv) (c .loop-test .left)
 
 pub blocks-spec : {M : Type 1} → statement M
 blocks-spec =

@@ -2,7 +2,7 @@
 use native.Mathlib.Omega.{arith}
 use lib.IntN.{pos}
 use lib.ListN.{replicate}
-use Rattle.residual.proofs.Answers.{not-ended}
+use Rattle.residual.proofs.Tags.{not-ended}
 use Rattle.residual.proofs.Turns.{second-fine, second-lost, second-read}
 use Rattle.residual.specs.ResidualLaws.{zeros-sixteen}
 use Rattle.residual.specs.ResidualSteps.{BlockPart, coded-read}

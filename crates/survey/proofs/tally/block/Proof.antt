@@ -4,76 +4,74 @@ use Rattle.survey.specs.TallyLaws.{block-large, block-small, roomy-more,
 use Rattle.survey.proofs.tally.block.Statement.{statement}
 use Rattle.survey.proofs.tally.block.Tie as tie
 
+-- The places behind the counts, each from the next.
+abbrev four : tie.After-count5 → tie.After-count4
+four p = p .before .before .before .before
+
+abbrev three : tie.After-count4 → tie.After-count3
+three p = p .before .before .before .before
+
+abbrev two : tie.After-count3 → tie.After-count2
+two p = p .before .before .before .before
+
+abbrev one : tie.After-count2 → tie.After-count
+one p = p .before .before .before .before
+
+abbrev start : tie.After-count → tie.Start
+start p = p .before .before .before .before .before .before .before .before .before .before .before .before
+
 count-requires : tie.Need-count-requires
-count-requires c κs = let start = c .before .before .before .before .before .before .before .before .before .before .before in (roomy-more _ 999999800 1000000000 (start .pre) (omega arith), omega arith)
+count-requires c κs = let s = c .before .before .before .before .before .before .before .before .before .before .before in (roomy-more _ 999999800 1000000000 (s .pre) (omega arith), omega arith)
 
 count-requires-2 : tie.Need-count-requires-2
-count-requires-2 c κs =
-    let one = c .before .before .before in
-    let start = one .before .before .before .before .before .before .before .before .before .before .before .before in
-    (roomy-more _ 999999801 1000000000 (roomy-after _ _ _ 8 4 _ (one .count .ensures) (start .pre)) (omega arith), omega arith)
+count-requires-2 c κs = let p = c .before .before .before in (roomy-more _ 999999801 1000000000 (roomy-after _ _ _ 8 4 _ (p .count .ensures) (start p .pre)) (omega arith), omega arith)
 
 count-requires-3 : tie.Need-count-requires-3
 count-requires-3 c κs =
-    let two = c .before .before .before in
-    let one = two .before .before .before .before in
-    let start = one .before .before .before .before .before .before .before .before .before .before .before .before in
-    (roomy-more _ 999999802 1000000000 (roomy-after _ _ _ 12 5 _ (two .count2 .ensures) (roomy-after _ _ _ 8 4 _ (one .count .ensures) (start .pre))) (omega arith), omega arith)
+    let p = c .before .before .before in
+    (roomy-more _ 999999802 1000000000 (roomy-after _ _ _ 12 5 _ (p .count2 .ensures) (roomy-after _ _ _ 8 4 _ (one p .count .ensures) (start (one p) .pre))) (omega arith), omega arith)
 
 count-requires-4 : tie.Need-count-requires-4
 count-requires-4 c κs =
-    let three = c .before .before .before in
-    let two = three .before .before .before .before in
-    let one = two .before .before .before .before in
-    let start = one .before .before .before .before .before .before .before .before .before .before .before .before in
-    (roomy-more _ 999999803 1000000000 (roomy-after _ _ _ 17 4 _ (three .count3 .ensures) (roomy-after _ _ _ 12 5 _ (two .count2 .ensures) (roomy-after _ _ _ 8 4 _ (one .count .ensures) (start .pre)))) (omega arith), omega arith)
+    let p = c .before .before .before in (
+      roomy-more _ 999999803 1000000000 (roomy-after _ _ _ 17 4 _ (p .count3 .ensures) (roomy-after _ _ _ 12 5 _ (two p .count2 .ensures)
+          (roomy-after _ _ _ 8 4 _ (one (two p) .count .ensures) (start (one (two p)) .pre)))) (omega arith),
+      omega arith,
+    )
 
 count-requires-5 : tie.Need-count-requires-5
 count-requires-5 c κs =
-    let four = c .before .before .before in
-    let three = four .before .before .before .before in
-    let two = three .before .before .before .before in
-    let one = two .before .before .before .before in
-    let start = one .before .before .before .before .before .before .before .before .before .before .before .before in
-    (roomy-more _ 999999804 1000000000 (roomy-after _ _ _ 21 2 _ (four .count4 .ensures) (roomy-after _ _ _ 17 4 _ (three .count3 .ensures) (roomy-after _ _ _ 12 5 _ (two .count2 .ensures) (roomy-after _ _ _ 8 4 _ (one .count .ensures) (start .pre))))) (omega arith), omega arith)
+    let p = c .before .before .before in
+    let q = two (three p) in (
+      roomy-more _ 999999804 1000000000 (roomy-after _ _ _ 21 2 _ (p .count4 .ensures) (roomy-after _ _ _ 17 4 _ (three p .count3 .ensures)
+          (roomy-after _ _ _ 12 5 _ (q .count2 .ensures) (roomy-after _ _ _ 8 4 _ (one q .count .ensures) (start (one q) .pre))))) (omega arith),
+      omega arith,
+    )
 
 smalls-requires : tie.Need-smalls-requires
 smalls-requires c κs =
-    let five = c .before .before .before .before .before in
-    let four = five .before .before .before .before in
-    let three = four .before .before .before .before in
-    let two = three .before .before .before .before in
-    let one = two .before .before .before .before in
-    let start = one .before .before .before .before .before .before .before .before .before .before .before .before in
-    roomy-more _ 999999805 999999900 (roomy-after _ _ _ 23 2 _ (five .count5 .ensures) (roomy-after _ _ _ 21 2 _ (four .count4 .ensures) (roomy-after _ _ _ 17 4 _ (three .count3 .ensures) (roomy-after _ _ _ 12 5 _ (two .count2 .ensures) (roomy-after _ _ _ 8 4 _ (one .count .ensures) (start .pre)))))) (omega arith)
+    let p = c .before .before .before .before .before in
+    let q = three (four p) in
+    roomy-more _ 999999805 999999900 (roomy-after _ _ _ 23 2 _ (p .count5 .ensures) (roomy-after _ _ _ 21 2 _ (four p .count4 .ensures) (roomy-after _ _ _ 17 4 _ (q .count3 .ensures)
+    (roomy-after _ _ _ 12 5 _ (two q .count2 .ensures) (roomy-after _ _ _ 8 4 _ (one (two q) .count .ensures) (start (one (two q)) .pre)))))) (omega arith)
 
 returns : tie.Need-returns
 returns c =
-    let five = c .before .before .before .before .before .before .before .before in
-    let four = five .before .before .before .before in
-    let three = four .before .before .before .before in
-    let two = three .before .before .before .before in
-    let one = two .before .before .before .before in
-    let bits = one .before .before in
-    let kind = bits .before in
-    let told = kind .before .before .before .before in
-    let found = told .before in
-    block-small _ _ _ (found .read-mode-record .ensures) (told .read-strength .ensures) _ _ (kind .luma .ensures) (bits .bit .ensures) _ _ _ _ _ _
-    (one .count .ensures) (two .count2 .ensures) (three .count3 .ensures) (four .count4 .ensures) (five .count5 .ensures) (c .before .before .before .before .before .if1 .taken) (c .before .before .smalls .ensures)
+    let p = c .before .before .before .before .before .before .before .before in
+    let q = three (four p) in
+    let bits = one (two q) .before .before in
+    let told = bits .before .before .before .before .before in
+    block-small _ _ _ (told .before .read-mode-record .ensures) (told .read-strength .ensures) _ _ (bits .before .luma .ensures) (bits .bit .ensures) _ _ _ _ _ _
+    (one (two q) .count .ensures) (two q .count2 .ensures) (q .count3 .ensures) (four p .count4 .ensures) (p .count5 .ensures) (c .before .before .before .before .before .if1 .taken) (c .before .before .smalls .ensures)
 
 returns-2 : tie.Need-returns-2
 returns-2 c =
-    let five = c .before .before .before in
-    let four = five .before .before .before .before in
-    let three = four .before .before .before .before in
-    let two = three .before .before .before .before in
-    let one = two .before .before .before .before in
-    let bits = one .before .before in
-    let kind = bits .before in
-    let told = kind .before .before .before .before in
-    let found = told .before in
-    block-large _ _ _ (found .read-mode-record .ensures) (told .read-strength .ensures) _ _ (kind .luma .ensures) (bits .bit .ensures) _ _ _ _ _ _
-    (one .count .ensures) (two .count2 .ensures) (three .count3 .ensures) (four .count4 .ensures) (five .count5 .ensures) (c .if1 .left)
+    let p = c .before .before .before in
+    let q = three (four p) in
+    let bits = one (two q) .before .before in
+    let told = bits .before .before .before .before .before in
+    block-large _ _ _ (told .before .read-mode-record .ensures) (told .read-strength .ensures) _ _ (bits .before .luma .ensures) (bits .bit .ensures) _ _ _ _ _ _
+    (one (two q) .count .ensures) (two q .count2 .ensures) (q .count3 .ensures) (four p .count4 .ensures) (p .count5 .ensures) (c .if1 .left)
 
 pub block-spec : {M : Type 1} → statement M
 block-spec =

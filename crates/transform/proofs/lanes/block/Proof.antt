@@ -8,9 +8,10 @@ use Rattle.numbers.specs.Hand.{any}
 use Rattle.numbers.specs.In.{In}
 use Rattle.numbers.specs.Know.{Know, round, fit, rounded, inside}
 use Rattle.numbers.specs.Lists.{Filled, filled-none, filled-next, filled-all}
+use Rattle.transform.specs.Pieces.{laneOf}
 use Rattle.transform.specs.Transform.{at}
 use Rattle.transform.specs.TransformLaws.{below-next}
-use Rattle.transform.specs.LanesLaws.{laneOf, lane-below, lane-fits}
+use Rattle.transform.specs.LanesLaws.{lane-below, lane-fits}
 use Rattle.transform.proofs.lanes.block.Statement.{statement}
 use Rattle.transform.proofs.lanes.block.Tie as tie
 

@@ -6,7 +6,7 @@ use native.Mathlib.Omega.{arith}
 use lib.ListN.{length}
 use Rattle.numbers.specs.Tables.{allBelow}
 use Rattle.transform.specs.Transform.{at}
-use Rattle.transform.specs.LanesLaws.{Blocks, isSmall}
+use Rattle.transform.specs.Pieces.{Blocks, isSmall}
 use Rattle.transform.proofs.lanes.each_small.Statement.{statement}
 use Rattle.transform.proofs.lanes.each_small.Tie as tie
 

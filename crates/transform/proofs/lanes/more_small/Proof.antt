@@ -7,8 +7,9 @@ use lib.IntN.{pos, negsuc}
 use mir.Syntax.{w16}
 use Rattle.numbers.specs.Hand.{back}
 use Rattle.numbers.specs.Tables.{allBelow}
+use Rattle.transform.specs.Pieces.{isSmall}
 use Rattle.transform.specs.Transform.{at}
-use Rattle.transform.specs.LanesLaws.{isSmall, within-next}
+use Rattle.transform.specs.LanesLaws.{within-next}
 use Rattle.transform.proofs.lanes.more_small.Statement.{statement}
 use Rattle.transform.proofs.lanes.more_small.Tie as tie
 

@@ -11,9 +11,10 @@ use Rattle.numbers.specs.Clamp.{signedTo}
 use Rattle.numbers.specs.ClampLaws.{clamp-in}
 use Rattle.numbers.specs.Hand.{back, answered}
 use Rattle.numbers.specs.Tests.{never}
+use Rattle.transform.specs.Pieces.{laneOf, aloneAt}
 use Rattle.transform.specs.Transform.{at, samplesOf}
 use Rattle.transform.specs.Lanes.{laned}
-use Rattle.transform.specs.LanesLaws.{laneOf, aloneAt, laned-none, laned-next}
+use Rattle.transform.specs.LanesLaws.{laned-none, laned-next}
 use Rattle.transform.proofs.lanes.put_alone.Statement.{statement}
 use Rattle.transform.proofs.lanes.put_alone.Tie as tie
 

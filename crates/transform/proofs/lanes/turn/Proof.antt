@@ -2,9 +2,10 @@
 use mathlib.Core.Path.{_≡_, sym, _∙_}
 use Prim.Native.Nat.{_-_, _≤_}
 use native.Mathlib.Omega.{arith}
+use Rattle.transform.specs.Pieces.{laneOf, turnedAt}
 use Rattle.transform.specs.TransformLaws.{SmallIn, first-asks, second-asks}
 use Rattle.transform.specs.Lanes.{turnedTo}
-use Rattle.transform.specs.LanesLaws.{laneOf, turnedAt, turned-none, turned-stages, lane-small}
+use Rattle.transform.specs.LanesLaws.{turned-none, turned-stages, lane-small}
 use Rattle.transform.proofs.lanes.turn.Statement.{statement}
 use Rattle.transform.proofs.lanes.turn.Tie as tie
 

@@ -2,8 +2,9 @@
 use mathlib.Core.Path.{_≡_, sym, _∙_}
 use Prim.Native.Nat.{_-_, _≤_}
 use native.Mathlib.Omega.{arith}
+use Rattle.transform.specs.Pieces.{aloneAt}
 use Rattle.transform.specs.Lanes.{turnedTo}
-use Rattle.transform.specs.LanesLaws.{aloneAt, turned-none, turned-next}
+use Rattle.transform.specs.LanesLaws.{turned-none, turned-next}
 use Rattle.transform.proofs.lanes.turn_alone.Statement.{statement}
 use Rattle.transform.proofs.lanes.turn_alone.Tie as tie
 

@@ -1,0 +1,4 @@
+pub mod Witness
+pub mod WitnessCost
+pub mod WitnessCalls
+pub mod WitnessFrame
