@@ -61,4 +61,5 @@ done
 [ ! -t 2 ] || printf '\r\033[K' >&2
 rm -f target/staticlib.began
 wait $running || { grep -E ': error|NOT PROVED|^rt: FAILED' $log | cut -c 1-300 | head -n 10 >&2; echo "not proved: see $log" >&2; exit 1; }
+tools/axioms.py $log || { rm -f $archive; exit 1; }
 echo "$archive: proved and built in $(($(date +%s) - began)) s" >&2

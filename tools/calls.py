@@ -1,7 +1,7 @@
 #!/usr/bin/env python3
 """One set of calls, with the same arguments, wherever they are named: tools/calls.py ARCHIVE [NM].
 
-  archive   the global functions hookbarley_* that NM (nm) finds in ARCHIVE
+  archive   all that NM (nm) finds defined for others in ARCHIVE; what it lacks itself may be memcpy and memset alone
   header    the prototypes of include/hookbarley.h that are not inline
   crates    `#[no_mangle] pub extern "C" fn` in crates/hookbarley/src
   promises  the lines `-- hookbarley::..` of crates/promises/specs/Determined.antt: what is proved of a call
@@ -15,6 +15,8 @@ import re
 import subprocess
 import sys
 
+# What the compiler may ask of the C library, as docs/PROMISES.md says under "What you trust".
+IMPORTS = {"memcpy", "memset"}
 SCALARS = {"u8": "uint8_t", "u32": "uint32_t", "u64": "uint64_t", "usize": "size_t", "i32": "int32_t"}
 
 
@@ -31,9 +33,20 @@ def split(arguments):
     return [a.strip() for a in arguments.split(",") if a.strip()]
 
 
+def symbols(nm, which, archive):
+    listed = subprocess.run([nm, "-g", which, archive], capture_output=True, text=True, check=True).stdout
+    return set(re.findall(r"^[0-9a-f ]+ [A-Za-z] (\S+)$", listed, re.M))
+
+
 def in_archive(archive, nm):
-    listed = subprocess.run([nm, "-g", "--defined-only", archive], capture_output=True, text=True, check=True).stdout
-    return {name: None for name in re.findall(r"^[0-9a-f]+ T (hookbarley_\w+)$", listed, re.M)}
+    """What the archive has for others. One of bench/unproved.sh has each call a second time, in the module, as `unproved_..`."""
+    defined = symbols(nm, "--defined-only", archive)
+    return dict.fromkeys(defined - {"unproved_" + name for name in defined})
+
+
+def lacking(archive, nm):
+    """What the archive asks of others."""
+    return symbols(nm, "--undefined-only", archive) - symbols(nm, "--defined-only", archive)
 
 
 def in_header():
@@ -42,7 +55,7 @@ def in_header():
     text = re.sub(r"static inline[^\n]*", "", text)
     return {
         name: ([re.sub(r"\s*(\*?)\w+$", r"\1", a) for a in split(arguments)], answer)
-        for answer, name, arguments in re.findall(r"^(\w+) (hookbarley_\w+)\(([^)]*)\);", text, re.M)
+        for answer, name, arguments in re.findall(r"^(\w+) (\w+)\(([^)]*)\);", text, re.M)
     }
 
 
@@ -106,6 +119,9 @@ def main():
             print(f"{name}: other arguments:")
             for place, (arguments, answer) in typed.items():
                 print(f"  {place}: {answer} ({', '.join(arguments)})")
+    for name in sorted(lacking(archive, nm) - IMPORTS):
+        bad += 1
+        print(f"{name}: the archive asks for it; only {', '.join(sorted(IMPORTS))} are told")
     if not every:
         sys.exit("no call found")
     if bad:

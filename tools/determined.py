@@ -8,20 +8,25 @@ For every public function of every library crate (`pub fn` and `pub extern "C" f
 - Determined has a line for each equation, in their order, under a comment with the function's path (`-- modes::large::main_mode`);
 - the right side, where `now (x .entry)` is the argument x, is the line's right side: the same definitions, each by its full name, of the
   same arguments.
-And every line of Determined is some function's. A function whose promise leaves part of its answer free is named, with the reason, under "What is
-not determined" in docs/PROMISES.md: it has no `requires` and one `ensures`, and no line. What differs is printed, and the status is 1.
+And every line of Determined is some function's. The functions of FREE leave part of their answer free: they are named, with the reason, under "What
+is not determined" in docs/PROMISES.md, and have no `requires`, one `ensures` and no line. What differs is printed, and the status is 1.
+tools/plain.py sees that the sources have the form in which this script reads them.
 """
 import re
 import sys
-from pathlib import Path
 
-ROOT = Path(__file__).resolve().parent.parent
+from sources import ROOT, Fault, functions, modules
+
 DETERMINED = ROOT / "crates/promises/specs/Determined.antt"
 PROMISES = ROOT / "docs/PROMISES.md"
-
-
-class Fault(Exception):
-    pass
+# The functions without a line: these and no other.
+FREE = {"coefficients::fast::coded_block", "wide::extra::extra_bits"}
+# What a line of Determined says, word by word.
+ONE = """pub record One {A : Type 0} (Promise : A → Type 0) : Type 0 where
+  pub answer : A
+  pub meets : Promise answer
+  pub only : (x y : A) → Promise x → Promise y → x ≡ y
+"""
 
 
 # ---- terms: ("name", path), ("number", n), ("apply", f, x), ("field", x, f), ("record", ((field, term), ..))
@@ -136,6 +141,12 @@ def scope(text, opening="use"):
     return names, modules
 
 
+def equality(scoped):
+    """`≡` is mathlib's. (`×` is the language's own and can be no other.)"""
+    if scoped[0].get("_≡_") != "mathlib.Core.Path._≡_":
+        raise Fault(f"≡ is not that of mathlib.Core.Path: {scoped[0].get('_≡_')}")
+
+
 def resolver(scoped, variables):
     names, modules = scoped
 
@@ -154,61 +165,10 @@ def resolver(scoped, variables):
     return name
 
 
-# ---- the public functions
-def public_files(crate):
-    """Every file that another crate sees, with its module path."""
-    todo, out = [(crate / "src/lib.rt", [crate.name], crate / "src")], []
-    while todo:
-        file, path, folder = todo.pop(0)
-        text = re.sub(r"//[^\n]*", "", file.read_text())
-        if re.search(r"^\s*pub use\b", text, re.M) or re.search(r"^\s*(pub )?(mod \w+\s*\{|trait\b)", text, re.M):
-            raise Fault(f"{file.relative_to(ROOT)}: `pub use`, a module in a file or a trait: this script does not follow them")
-        out.append((file, path, text))
-        for module in re.findall(r"^pub mod (\w+);", text, re.M):
-            inner = folder / f"{module}.rt"
-            todo.append((inner if inner.exists() else folder / module / "mod.rt", path + [module], folder / module))
-    return out
-
-
-FUNCTION = re.compile(r"^(?P<indent> *)pub (?:extern \"C\" )?(?:const )?fn (?P<name>\w+)", re.M)
-
-
-def closing(text, at):
-    """Where the bracket at `at` is closed."""
-    pairs, depth = {"(": ")", "{": "}", "[": "]"}, []
-    for i in range(at, len(text)):
-        if text[i] in pairs:
-            depth.append(pairs[text[i]])
-        elif depth and text[i] == depth[-1]:
-            depth.pop()
-            if not depth:
-                return i
-    raise Fault("a bracket is not closed")
-
-
-def functions(text, path):
-    """(path, arguments, result, head) of every public function; the head is what stands between its result and its body."""
-    implementations = [(m.start(), closing(text, m.end() - 1), m.group(1)) for m in re.finditer(r"^impl (\w+) \{", text, re.M)]
-    for m in FUNCTION.finditer(text):
-        owner = [name for start, end, name in implementations if start < m.start() < end]
-        first = text.index("(", m.end())
-        last = closing(text, first)
-        body = re.compile(r"^" + m.group("indent") + r"(?:\{|where)", re.M).search(text, last)
-        one_line = re.compile(r"\{[^\n]*\}\s*$", re.M)
-        head = text[last + 1:body.start()] if body else text[last + 1:one_line.search(text, last).start()]
-        result = re.match(r"\s*->\s*(.*?)\s*(?=\b(?:requires|ensures)\b|$)", head, re.S)
-        arguments = []
-        for part in re.split(r",(?![^\[(<]*[\])>])", text[first + 1:last]):
-            part = part.strip()
-            if part in ("self", "&self", "&mut self", "mut self"):
-                arguments.append(("self", part))
-            elif part:
-                name, kind = part.split(":", 1)
-                arguments.append((name.replace("mut ", "").strip(), kind.strip()))
-        yield "::".join(path + owner + [m.group("name")]), arguments, result.group(1) if result else "", head
-
-
+# ---- the contract of a public function
 def contract(head):
+    if "//" in head:
+        raise Fault("has a comment in its contract")
     if re.search(r"\brequires\b", head):
         raise Fault("has a `requires`")
     clauses = re.findall(r"\bensures\s*\{\s*λ\s*(\S+?)\.\s*⌜(.*?)⌝\s*\}", head, re.S)
@@ -226,7 +186,8 @@ def definition(full):
         return None
     text = file.read_text()
     found = re.findall(rf"^{re.escape(m.group(3))}((?: \w+)*) =\s+(.*(?:\n[ \t].*|\n\}}.*)*)", text, re.M)
-    if len(found) != 1:
+    clauses = re.findall(rf"^{re.escape(m.group(3))}(?= )(?! :)", text, re.M)
+    if len(found) != 1 or len(clauses) != 1:
         return None
     variables = found[0][0].split()
     names, modules = scope(text)
@@ -333,6 +294,9 @@ LINE = re.compile(r"^-- (?P<path>\w+(?:::\w+)+)\npub (?P<name>\S+) : (?P<type>.*
 def lines():
     text = DETERMINED.read_text()
     scoped, out = scope(text), {}
+    equality(scoped)
+    if text.count(ONE) != 1:
+        raise Fault("Determined: `One` is not the record that this script knows")
     for m in LINE.finditer(text):
         kind = re.sub(r"\s+", " ", m.group("type"))
         whole = re.fullmatch(r"(?P<variables>(?:\([^()]*\) ?)*)(?:→ )?One \(λ o\. o ≡ (?P<right>.*)\)", kind)
@@ -342,6 +306,8 @@ def lines():
         if "o" in variables:
             raise Fault(f"Determined: {m.group('name')} has an argument o")
         right = Parser(whole.group("right"), resolver(scoped, variables)).term()
+        if {"$" + v for v in variables} - words(right):
+            raise Fault(f"Determined: {m.group('name')} takes what it does not speak of")
         if not re.match(r"Rattle·", str(head_of(right)[1])):
             raise Fault(f"Determined: {m.group('name')} does not name a definition")
         out.setdefault(m.group("path"), []).append((m.group("name"), right))
@@ -372,39 +338,42 @@ def check(path, arguments, result, head, file, scoped, determined):
             raise Fault(f"ensures {show(right)}\n    {name} has {show(line)}")
 
 
-def exceptions():
+def told_free():
     """The functions that docs/PROMISES.md names as not determined."""
     m = re.search(r"^## What is not determined\n(.*?)(?=^## |\Z)", PROMISES.read_text(), re.M | re.S)
     return set(re.findall(r"^- `(\w+(?:::\w+)+)`", m.group(1), re.M)) if m else set()
 
 
 def main():
-    faults, seen, free = [], set(), exceptions()
+    faults, seen = [], set()
     try:
         determined = lines()
         crates = [c for c in sorted((ROOT / "crates").iterdir()) if (c / "src/lib.rt").exists()]
-        for crate in crates:
-            for file, path, text in public_files(crate):
-                scoped = scope(text, "ghost use")
-                for function in functions(text, path):
-                    seen.add(function[0])
-                    try:
-                        if function[0] in free:
-                            contract(function[3])
-                        else:
-                            check(*function, file, scoped, determined)
-                    except Fault as fault:
-                        faults.append(f"{function[0]}: {fault}")
+        for file, path in [(f, p) for crate in crates for f, p, public in modules(crate) if public]:
+            text = file.read_text()
+            scoped = scope(text, "ghost use")
+            for function in functions(text, path):
+                seen.add(function[0])
+                try:
+                    equality(scoped)
+                    if function[0] in FREE:
+                        contract(function[3])
+                    else:
+                        check(*function, file, scoped, determined)
+                except Fault as fault:
+                    faults.append(f"{function[0]}: {fault}")
     except Fault as fault:
         faults.append(str(fault))
         determined = {}
     faults += [f"Determined: {path} is no public function" for path in determined if path not in seen]
-    faults += [f"docs/PROMISES.md: {path} is no public function, or has a line in Determined" for path in free if path not in seen or path in determined]
+    faults += [f"{path} is no public function, or has a line in Determined" for path in FREE if seen and path not in seen or path in determined]
+    if told_free() != FREE:
+        faults.append(f"docs/PROMISES.md: not determined are {', '.join(sorted(FREE))}, and no other")
     for fault in faults:
         print(fault)
     if faults:
         sys.exit(1)
-    print(f"determined: {len(seen) - len(free)} public functions, each with the contract that Determined has; {len(free)} not determined")
+    print(f"determined: {len(seen) - len(FREE)} public functions, each with the contract that Determined has; {len(FREE)} not determined")
 
 
 main()

@@ -1,12 +1,21 @@
 #!/usr/bin/env bash
-# No product of the transforms leaves 32 bits: tests/outside/products.sh [ARCHIVE]. Reads the machine code of the functions of
+# No product of the transforms leaves 32 bits: tests/outside/products.sh [ARCHIVE | --sources]. Reads the machine code of the functions of
 # crate `transform` in the archive and fails where one multiplies 64 bits, calls a routine that does, or where none is found.
 # A multiplication of 64 bits names a 64-bit register (%rax, %r8, not %eax, %r8d) outside an address, or ends in q; an `lea` is an
 # address or a sum and no multiplication. The vector forms that give products of 64 bits count too; they are looked for in crate `planes`
-# as well, into whose `paint` the compiler draws the transform of a whole square (there, 64 bits beside no vector are places in a plane).
+# as well, into whose `paint` the compiler draws the transform of a whole square (there, 64 bits beside no vector are places in a plane);
+# and the sources of `transform` have no integer of 64 bits but places, `usize`, into which nothing is cast.
 # In an archive of bench/unproved.sh the crates are called crate_transform and crate_planes.
 set -u
 cd "$(dirname "$0")/../.." || exit 1
+
+# The sources, comments left out: no type of 64 bits, no number made a place, and not the one call of `numbers` that takes 64 bits.
+if grep -nE '([iu]64|isize|f64|as usize|wrap16)' <(cat crates/transform/src/*.rt | sed 's,//.*,,' | grep -v '^ghost use') >&2; then
+    echo "a type of 64 bits in the transform's sources" >&2
+    exit 1
+fi
+[ "${1:-}" != --sources ] || exit 0
+
 ARCHIVE=${1:-${ARCHIVE:-}}
 . tools/outside-env.sh
 dump=${X86CC%gcc}objdump
