@@ -1,17 +1,15 @@
 /* The loop filter replayed and told: explain.h. */
 #include "explain.h"
 #include "colour.h"
+#include "explain_words.h"
 #include "hookbarley.h"
 #include <stdlib.h>
 #include <string.h>
 
 /* ---- the replay */
 
-/* What is told of one sample of a line: it is called for each of the eight, in the order of the filter. */
-typedef void seen(void *to, size_t x, size_t y, const struct explain_touch *touch);
-
 /* A plane being filtered; a macroblock is `side` samples wide and high in it. */
-struct replay { uint8_t *p; size_t width, height, side; int simple; seen *tell; void *to; };
+struct replay { uint8_t *p; size_t width, height, side; int simple; explain_seen *tell; void *to; };
 
 /* Filters one line of eight samples, whose p3 lies at (x, y), across the edge `t`. */
 static void filter_line(struct replay *r, size_t x, size_t y, struct explain_touch *t) {
@@ -70,8 +68,7 @@ static const uint8_t *given(const struct explain_tile *t, enum explain_plane pla
     return plane == EXPLAIN_Y ? t->y : plane == EXPLAIN_U ? t->u : t->v;
 }
 
-/* Filters a plane and tells every sample of every line; what comes out must be hookbarley_deblock's. */
-static int replayed(const struct explain_tile *t, enum explain_plane plane, seen *tell, void *to) {
+int explain_each(const struct explain_tile *t, enum explain_plane plane, explain_seen *tell, void *to) {
     size_t width, height;
     const uint8_t *before = given(t, plane, &width, &height), *want;
     uint8_t *p = malloc(width * height + 1), *all = malloc(2 * t->width * t->height + 1);
@@ -112,92 +109,77 @@ int explain_samples(const struct explain_tile *t, enum explain_plane plane, size
         out[i].touches = 0;
     }
     struct rectangle r = {x, y, w, h, out};
-    return replayed(t, plane, keep, &r);
+    return explain_each(t, plane, keep, &r);
 }
 
 /* ---- in words */
 
-static const char *const plane_names[] = {"luma", "U", "V"};
-static const char *const place_names[] = {"p3", "p2", "p1", "p0", "q0", "q1", "q2", "q3"};
-
 static int apart(const struct explain_touch *t, int i, int j) { return abs(t->samples[i] - t->samples[j]); }
 
-static void say_edge(FILE *out, const struct explain_touch *t, size_t side) {
-    static const char *const nth[] = {"fourth", "third", "second", "first"};
+/* The places of the pair that is not smooth. */
+static const unsigned char *pair_of(const struct explain_touch *t) { return explain_pairs[t->pair <= 6 ? t->pair : 0]; }
+
+int explain_counted(const struct explain_touch *t) {
+    int before = apart(t, 2, 3), behind = apart(t, 5, 4);
+    if (t->rule == HOOKBARLEY_EDGE_FAILED) return 2 * apart(t, 3, 4) + apart(t, 2, 5) / 2;
+    if (t->rule == HOOKBARLEY_ROUGH) return apart(t, pair_of(t)[0], pair_of(t)[1]);
+    return t->rule != HOOKBARLEY_HIGH_VARIANCE ? 0 : before > behind ? before : behind;
+}
+
+static void say_edge(FILE *out, int which, const struct explain_touch *t, size_t side) {
     size_t at = (t->horizontal ? t->row : t->column) * side + t->offset;
-    const char *lines = t->horizontal ? "rows" : "columns";
-    const char *where = t->place < 4 ? (t->horizontal ? "above" : "left of") : (t->horizontal ? "below" : "right of");
-    if (t->offset)
-        fprintf(out, "inner %s edge of the macroblock in column %zu, row %zu", t->horizontal ? "horizontal" : "vertical", t->column,
-                t->row);
-    else
-        fprintf(out, "%s edge of the macroblock in column %zu, row %zu", t->horizontal ? "top" : "left", t->column, t->row);
-    fprintf(out, ",\n     between %s %zu and %zu of samples; this one is %s, the %s %s it\n", lines, at - 1, at, place_names[t->place],
-            nth[t->place < 4 ? t->place : 7 - t->place], where);
     const uint8_t *s = t->samples;
-    fprintf(out, "     p3..p0 %d %d %d %d | q0..q3 %d %d %d %d; limit %d, inner %d, threshold %d\n", s[0], s[1], s[2], s[3], s[4], s[5],
-            s[6], s[7], t->limit, t->inner, t->threshold);
+    fprintf(out, SAY_EDGE, which, explain_kinds[2 * (t->offset != 0) + t->horizontal], t->column, t->row, explain_lines[t->horizontal],
+            at - 1, at, explain_places[t->place], explain_nths[t->place], explain_sides[2 * t->horizontal + (t->place >= 4)]);
+    fprintf(out, SAY_LINE, s[0], s[1], s[2], s[3], s[4], s[5], s[6], s[7], t->limit, t->inner, t->threshold);
 }
 
 static void say_rule(FILE *out, const struct explain_touch *t) {
-    static const int pairs[][2] = {{0, 0}, {0, 1}, {1, 2}, {2, 3}, {7, 6}, {6, 5}, {5, 4}};
-    const int *pair = pairs[t->pair <= 6 ? t->pair : 0];
-    int beside = apart(t, 2, 3) > apart(t, 5, 4) ? apart(t, 2, 3) : apart(t, 5, 4);
-    fprintf(out, "     ");
+    int counted = explain_counted(t);
     switch (t->rule) {
     case HOOKBARLEY_EDGE_FAILED:
-        fprintf(out, "edge test failed: the jump across the edge counts %d, more than the limit %d: it is taken for an outline",
-                2 * apart(t, 3, 4) + apart(t, 2, 5) / 2, t->limit);
+        fprintf(out, SAY_EDGE_FAILED, counted, t->limit);
         break;
     case HOOKBARLEY_ROUGH:
-        fprintf(out, "smoothness failed: %s and %s differ by %d, more than the inner limit %d: they are taken for texture",
-                place_names[pair[0]], place_names[pair[1]], apart(t, pair[0], pair[1]), t->inner);
+        fprintf(out, SAY_ROUGH, explain_places[pair_of(t)[0]], explain_places[pair_of(t)[1]], counted, t->inner);
         break;
     case HOOKBARLEY_SIMPLE:
-        fprintf(out, "simple filter: the two samples at the edge move toward each other");
+        fputs(SAY_SIMPLE, out);
         break;
     case HOOKBARLEY_HIGH_VARIANCE:
-        fprintf(out, "high variance: neighbours at the edge differ by %d, more than the threshold %d: only the two at the edge move",
-                beside, t->threshold);
+        fprintf(out, SAY_HIGH_VARIANCE, counted, t->threshold);
         break;
     case HOOKBARLEY_MACROBLOCK_EDGE:
-        fprintf(out, "macroblock edge: both sides are smooth: three samples on each side are blended");
+        fputs(SAY_MACROBLOCK_EDGE, out);
         break;
     default:
-        fprintf(out, "inner edge: both sides are smooth: two samples on each side are blended");
+        fputs(SAY_INNER_EDGE, out);
     }
-    fprintf(out, "\n");
-}
-
-/* How many samples on each side a rule moves. */
-static int reach(uint32_t rule) {
-    return rule == HOOKBARLEY_MACROBLOCK_EDGE ? 3 : rule == HOOKBARLEY_INNER_EDGE ? 2 : rule >= HOOKBARLEY_SIMPLE ? 1 : 0;
 }
 
 static void say_move(FILE *out, const struct explain_touch *t) {
-    int before = t->samples[t->place], from = t->place < 4 ? 4 - t->place : t->place - 3;
-    if (reach(t->rule) == 0)
-        fprintf(out, "     stays %d\n", before);
-    else if (from > reach(t->rule))
-        fprintf(out, "     stays %d: the rule does not reach this far\n", before);
+    int before = t->samples[t->place], from = t->place < 4 ? 4 - t->place : t->place - 3, reach = t->rule <= 6 ? explain_reach[t->rule] : 0;
+    if (reach == 0)
+        fprintf(out, SAY_STAYS, before);
+    else if (from > reach)
+        fprintf(out, SAY_BEYOND, before);
     else if (before + t->step != t->after)
-        fprintf(out, "     %d becomes %d: the step is %+d, stopped at %d\n", before, t->after, (int)t->step, t->after);
+        fprintf(out, SAY_STOPPED, before, t->after, (int)t->step, t->after);
     else
-        fprintf(out, "     %d becomes %d: the step is %+d\n", before, t->after, (int)t->step);
+        fprintf(out, SAY_MOVED, before, t->after, (int)t->step);
 }
 
 static int say_sample(FILE *out, const struct explain_tile *t, enum explain_plane plane, size_t x, size_t y) {
     struct explain_sample s;
     int answer = explain_samples(t, plane, x, y, 1, 1, &s);
     if (answer) return answer;
-    fprintf(out, "%s at %zu %zu: %d before the loop filter, %d after it\n", plane_names[plane], x, y, s.before, s.after);
+    fprintf(out, SAY_SAMPLE, explain_planes[plane], x, y, s.before, s.after);
     if (plane != EXPLAIN_Y && t->simple)
-        fprintf(out, "  the simple filter leaves U and V alone\n");
+        fputs(SAY_CHROMA_ALONE, out);
     else if (!s.touches)
-        fprintf(out, "  no filtered edge lies within four samples\n");
+        fputs(SAY_NO_EDGE, out);
     for (int i = 0; i < s.touches; i++) {
-        fprintf(out, "  %d. ", i + 1);
-        say_edge(out, &s.touch[i], plane == EXPLAIN_Y ? 16 : 8);
+        say_edge(out, i + 1, &s.touch[i], plane == EXPLAIN_Y ? 16 : 8);
         say_rule(out, &s.touch[i]);
         say_move(out, &s.touch[i]);
     }
@@ -215,9 +197,11 @@ int explain_pixel(FILE *out, const struct explain_tile *t, size_t x, size_t y) {
 /* ---- in colours */
 
 /* By hookbarley_rule; 0 is a sample that did not move. */
-static const struct colour colours[] = {
+static const struct colour colours[EXPLAIN_RULES] = {
     {{190, 190, 190}, "did not move"}, {{0, 0, 0}, ""}, {{0, 0, 0}, ""}, {{235, 185, 45}, "simple filter"},
     {{215, 70, 70}, "high variance"},  {{50, 120, 215}, "macroblock edge"}, {{60, 165, 90}, "inner edge"}};
+
+const struct colour *explain_colour(uint32_t rule) { return &colours[rule < EXPLAIN_RULES ? rule : 0]; }
 
 /* The rule that last moved each sample, and the sample after the filter, in the true size. */
 struct coloured { size_t w, h; uint8_t *rules, *luma; };
@@ -236,7 +220,7 @@ static int colours_of(const struct explain_tile *t, struct coloured *c) {
     if (c->w > t->width || c->h > t->height) return EXPLAIN_OUTSIDE;
     if (!c->rules || !c->luma) return EXPLAIN_MEMORY;
     for (size_t y = 0; y < c->h; y++) memcpy(c->luma + y * c->w, t->y + y * t->width, c->w);
-    return replayed(t, EXPLAIN_Y, colour, c);
+    return explain_each(t, EXPLAIN_Y, colour, c);
 }
 
 static int freed(struct coloured *c, FILE *out, int answer) {

@@ -9,6 +9,7 @@
 #ifndef EXPLAIN_H
 #define EXPLAIN_H
 
+#include "colour.h"
 #include <stddef.h>
 #include <stdint.h>
 #include <stdio.h>
@@ -39,6 +40,10 @@ int explain_pixel(FILE *out, const struct explain_tile *tile, size_t x, size_t y
 int explain_ppm(FILE *out, const struct explain_tile *tile);
 int explain_svg(FILE *out, const struct explain_tile *tile);
 
+/* The colour of a rule, of enum hookbarley_rule, in both; 0 is that of a sample that did not move. */
+enum { EXPLAIN_RULES = 7 };
+const struct colour *explain_colour(uint32_t rule);
+
 /* ---- the same as numbers */
 enum explain_plane { EXPLAIN_Y, EXPLAIN_U, EXPLAIN_V };
 
@@ -54,6 +59,15 @@ struct explain_touch {
     int32_t step;        /* what the rule added to it, before clipping */
     uint32_t rule, pair; /* of hookbarley_explain */
 };
+
+/* What a rule's sentence counts: the jump across the edge, or how far apart the pair that is not smooth or the neighbours at the edge are;
+ * else 0. */
+int explain_counted(const struct explain_touch *touch);
+
+/* Filters a plane and tells every sample of every line: `tell` is called for each of the eight, p3 first, in the order of the filter, with
+ * the sample's place in the plane. */
+typedef void explain_seen(void *to, size_t x, size_t y, const struct explain_touch *touch);
+int explain_each(const struct explain_tile *tile, enum explain_plane plane, explain_seen *tell, void *to);
 
 /* What happened to one sample. It lies between two vertical and two horizontal edges, and no others look at it. */
 enum { EXPLAIN_MOST = 4 };

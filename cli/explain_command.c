@@ -1,7 +1,8 @@
 /* hookbarley explain: why the loop filter moved a sample, in words for a pixel or in colours for the picture. */
 #include "answers.h"
 #include "commands.h"
-#include "explain.h"
+#include "explain_command.h"
+#include "explain_words.h"
 #include <stdlib.h>
 #include <string.h>
 
@@ -13,14 +14,14 @@ static int number_of(const char *word, size_t *number) {
     return 1;
 }
 
-static int complain(int answer, const char *out) {
+int explain_complain(int answer, const char *of) {
     static const char *const words[] = {
         [EXPLAIN_OUTSIDE] = "no such pixel",
         [EXPLAIN_REFUSED] = "the planes are refused",
         [EXPLAIN_MEMORY] = "no memory, or it cannot be written",
         [EXPLAIN_DIFFERS] = "the replay differs from what was deblocked: an error in this program",
     };
-    fprintf(stderr, "hookbarley: %s: %s\n", out, words[answer]);
+    fprintf(stderr, "hookbarley: %s: %s\n", of, words[answer]);
     return STATUS_USAGE;
 }
 
@@ -30,12 +31,12 @@ static int paint(const struct explain_tile *tile, const char *path, int svg) {
     if (!out) return cannot_write(path);
     int answer = svg ? explain_svg(out, tile) : explain_ppm(out, tile);
     if (fclose(out) && !answer) return cannot_write(path);
-    if (answer) return complain(answer, path);
+    if (answer) return explain_complain(answer, path);
     printf("%s: %zu x %zu, coloured by the rule that last moved each sample\n", path, tile->true_width, tile->true_height);
     return STATUS_WHOLE;
 }
 
-static struct explain_tile tile_of(const struct picture *p) {
+struct explain_tile explain_tile_of(const struct picture *p) {
     const struct hookbarley_tile *t = &p->tile;
     const struct hookbarley_memory *m = &p->memory;
     return (struct explain_tile){t->width, t->height, t->true_width, t->true_height,
@@ -43,7 +44,7 @@ static struct explain_tile tile_of(const struct picture *p) {
 }
 
 static int tell(const struct options *o, const struct picture *p) {
-    const struct explain_tile tile = tile_of(p);
+    const struct explain_tile tile = explain_tile_of(p);
     const char *dot = strrchr(o->names[1], '.');
     int svg = dot && !strcmp(dot, ".svg");
     size_t x = 0, y = 0;
@@ -51,26 +52,25 @@ static int tell(const struct options *o, const struct picture *p) {
     if (o->count == 3 && (!number_of(o->names[1], &x) || !number_of(o->names[2], &y)))
         return usage("X and Y are a pixel's column and row, from 0", "");
     if (!p->level) {
-        printf("nothing is filtered: the frame's level is 0\n");
+        fputs(SAY_UNFILTERED, stdout);
         return STATUS_WHOLE;
     }
     if (o->count == 2) return paint(&tile, o->names[1], svg);
     int answer = explain_pixel(stdout, &tile, x, y);
-    return answer ? complain(answer, o->names[0]) : STATUS_WHOLE;
+    return answer ? explain_complain(answer, o->names[0]) : STATUS_WHOLE;
 }
 
-int explain(const struct options *o) {
+int explain_first(const struct options *o, int (*tell)(const struct options *, const struct picture *)) {
     struct file file;
     struct frame frame;
     struct picture picture;
-    struct tally tally = {0};
+    struct tally tally = {.rescue = o->rescue};
     uint32_t number;
     int status;
-    if (o->count != 2 && o->count != 3) return usage("explain takes an IN and X Y, or an IN and an OUT.ppm or OUT.svg", "");
     if (!file_open(o->names[0], &file)) return STATUS_USAGE;
+    file.rescue = o->rescue;
     if (file_next(&file, &frame, &number)) {
-        picture_decode(&picture, frame, FILTER_NONE);
-        if (o->filter == FILTER_SIMPLE || o->filter == FILTER_NORMAL) picture.tile.simple = o->filter == FILTER_SIMPLE;
+        picture_unfiltered(&picture, frame, o->filter, o->rescue);
         status = take_answer(&tally, o->names[0], &file, picture.number, &picture);
         if (has_picture(picture.number)) status = worse(status, tell(o, &picture));
         picture_free(&picture);
@@ -78,4 +78,9 @@ int explain(const struct options *o) {
         status = take_end(&tally, o->names[0], &file, number);
     file_close(&file);
     return status;
+}
+
+int explain(const struct options *o) {
+    if (o->count != 2 && o->count != 3) return usage("explain takes an IN and X Y, or an IN and an OUT.ppm or OUT.svg", "");
+    return explain_first(o, tell);
 }

@@ -1,14 +1,10 @@
-/* The page of a survey, and how it comes to its place whole. */
-#define _XOPEN_SOURCE 700 /* realpath */
+/* The page of a survey. */
 #include "page.h"
-#include <errno.h>
-#include <fcntl.h>
+#include "html.h"
+#include "save.h"
 #include <inttypes.h>
-#include <signal.h>
 #include <stdlib.h>
 #include <string.h>
-#include <sys/stat.h>
-#include <unistd.h>
 
 static const char style[] =
     ":root{color-scheme:light dark;--ink:#1a1a1a;--paper:#fff;--soft:#595959;--rule:#d0d0d0;--track:#ececec;--bar:#0072b2}\n"
@@ -52,30 +48,6 @@ void page_free(struct page_lines *said) {
     for (size_t i = 0; i < said->count && i < PAGE_LINES; i++) free(said->lines[i]);
 }
 
-/* How many bytes the UTF-8 character at p has, 0 where there is none that HTML may hold. */
-static int character(const unsigned char *p) {
-    int more = *p < 0x80 ? 0 : *p >= 0xC2 && *p < 0xE0 ? 1 : *p >= 0xE0 && *p < 0xF0 ? 2 : *p >= 0xF0 && *p < 0xF5 ? 3 : -1;
-    if (more < 0 || *p < 0x20 || *p == 0x7F) return 0;
-    for (int i = 1; i <= more; i++)
-        if ((p[i] & 0xC0) != 0x80) return 0;
-    if ((*p == 0xE0 && p[1] < 0xA0) || (*p == 0xED && p[1] > 0x9F) || (*p == 0xF0 && p[1] < 0x90) || (*p == 0xF4 && p[1] > 0x8F)) return 0;
-    if (*p == 0xC2 && p[1] < 0xA0) return 0;                     /* controls */
-    if (*p == 0xEF && p[1] == 0xBF && p[2] > 0xBD) return 0;     /* U+FFFE, U+FFFF */
-    return 1 + more;
-}
-
-/* A file's name may hold any bytes. */
-static void escape(FILE *out, const char *text) {
-    for (const unsigned char *p = (const unsigned char *)text; *p;) {
-        int length = character(p);
-        if (!length) fputs("\xEF\xBF\xBD", out), p++;
-        else if (*p == '&') fputs("&amp;", out), p++;
-        else if (*p == '<') fputs("&lt;", out), p++;
-        else if (*p == '>') fputs("&gt;", out), p++;
-        else fwrite(p, 1, (size_t)length, out), p += length;
-    }
-}
-
 /* 1234567 as 1,234,567 */
 static void number(FILE *out, uint64_t n) {
     char digits[24];
@@ -92,7 +64,7 @@ static void row(FILE *out, const char *name, uint64_t count, uint64_t total) {
     fprintf(out, "<tr><th scope=\"row\">%s</th><td>", name);
     number(out, count);
     fputs("</td><td>", out);
-    escape(out, share);
+    html_text(out, share);
     fputs("</td><td class=\"bar\"><svg viewBox=\"0 0 100 10\" preserveAspectRatio=\"none\" aria-hidden=\"true\" focusable=\"false\">", out);
     fputs("<rect class=\"track\" width=\"100\" height=\"10\"/>", out);
     fprintf(out, "<rect class=\"share\" width=\"%.2f\" height=\"10\"/></svg></td></tr>\n", width);
@@ -134,7 +106,7 @@ static void lines(FILE *out, const struct page_lines *said) {
     fputs("<section aria-labelledby=\"said\">\n<h2 id=\"said\">files that are not whole</h2>\n<ul>\n", out);
     for (size_t i = 0; i < said->count && i < PAGE_LINES; i++) {
         fputs("<li>", out);
-        escape(out, said->lines[i]);
+        html_text(out, said->lines[i]);
         fputs("</li>\n", out);
     }
     fputs("</ul>\n", out);
@@ -142,7 +114,14 @@ static void lines(FILE *out, const struct page_lines *said) {
     fputs("</section>\n", out);
 }
 
-static void page(FILE *out, const struct survey *s, const struct page_lines *said) {
+/* What the page is made of. */
+struct made_of {
+    const struct survey *survey;
+    const struct page_lines *said;
+};
+
+static void page(FILE *out, const void *of) {
+    const struct survey *s = ((const struct made_of *)of)->survey;
     fputs("<!DOCTYPE html>\n<html lang=\"en\">\n<head>\n<meta charset=\"utf-8\"/>\n"
           "<meta name=\"viewport\" content=\"width=device-width, initial-scale=1\"/>\n<title>Survey: ", out);
     survey_headline(out, s);
@@ -152,74 +131,11 @@ static void page(FILE *out, const struct survey *s, const struct page_lines *sai
     for (int i = 0; i < SURVEY_TABLES; i++) table(out, s, &survey_tables[i]);
     apart(out, s);
     fputs("</div>\n", out);
-    lines(out, said);
+    lines(out, ((const struct made_of *)of)->said);
     fputs("<p>Made by hookbarley " HOOKBARLEY_VERSION ".</p>\n</main>\n</body>\n</html>\n", out);
 }
 
-/* ---- the file. It is written beside its place and then moved there; what is no plain file (a pipe) is written as it is. */
-static int is_plain(const char *path) {
-    struct stat s;
-    return stat(path, &s) || S_ISREG(s.st_mode);
-}
-
-/* Where the file really stands, links followed; to be freed. */
-static char *target_of(const char *path) {
-    char *real = realpath(path, NULL);
-    return real ? real : strcpy(memory(strlen(path) + 1), path);
-}
-
-static char *beside(const char *path) {
-    size_t room = strlen(path) + 32;
-    char *name = memory(room);
-    snprintf(name, room, "%s.%ld.part", path, (long)getpid());
-    return name;
-}
-
-/* Ctrl-C and the like wait until the file is in its place. */
-static void hold_signals(sigset_t *before) {
-    sigset_t held;
-    sigemptyset(&held);
-    sigaddset(&held, SIGINT), sigaddset(&held, SIGTERM), sigaddset(&held, SIGHUP), sigaddset(&held, SIGQUIT);
-    sigprocmask(SIG_BLOCK, &held, before);
-}
-
-/* Makes the file that will be moved; NULL where that is not possible. */
-static FILE *make(const char *name, int plain) {
-    int to = open(name, plain ? O_WRONLY | O_CREAT | O_EXCL : O_WRONLY, 0666);
-    return to < 0 ? NULL : fdopen(to, "wb");
-}
-
-int page_check(const char *path) {
-    if (!is_plain(path)) return access(path, W_OK) ? cannot_write(path) : STATUS_WHOLE;
-    char *target = target_of(path), *name = beside(target);
-    sigset_t before;
-    hold_signals(&before);
-    FILE *out = make(name, 1);
-    int why = errno;
-    if (out) fclose(out), remove(name);
-    sigprocmask(SIG_SETMASK, &before, NULL);
-    free(name);
-    free(target);
-    errno = why;
-    return out ? STATUS_WHOLE : cannot_write(path);
-}
-
 int page_save(const char *path, const struct survey *survey, const struct page_lines *said) {
-    int plain = is_plain(path), why;
-    char *target = target_of(path), *name = plain ? beside(target) : target;
-    sigset_t before;
-    hold_signals(&before);
-    FILE *out = make(name, plain);
-    int good = out != NULL;
-    if (out) page(out, survey, said);
-    if (out && (fflush(out) || ferror(out))) good = 0;
-    why = errno;
-    if (out && fclose(out) && good) good = 0, why = errno;
-    if (good && plain && rename(name, target)) good = 0, why = errno;
-    if (!good && out && plain) remove(name);
-    sigprocmask(SIG_SETMASK, &before, NULL);
-    if (plain) free(name);
-    free(target);
-    errno = why;
-    return good ? STATUS_WHOLE : cannot_write(path);
+    struct made_of of = {survey, said};
+    return save(path, page, &of);
 }

@@ -15,10 +15,7 @@ struct page_lines {
 void page_keep(struct page_lines *said, const char *text);
 void page_free(struct page_lines *said);
 
-/* Whether the page can be written there: 0, or STATUS_USAGE and why on standard error. */
-int page_check(const char *path);
-
-/* Writes it, whole or not at all: also where the program is ended meanwhile no part of it is left. 0 or STATUS_USAGE. */
+/* Writes it, as save() does. */
 int page_save(const char *path, const struct survey *survey, const struct page_lines *said);
 
 #endif

@@ -74,6 +74,12 @@ void picture_rescue(struct picture *p, struct frame frame, enum filter filter) {
     deblock(p, filter);
 }
 
+void picture_unfiltered(struct picture *p, struct frame frame, enum filter filter, int rescue) {
+    if (rescue) picture_rescue(p, frame, FILTER_NONE);
+    else picture_decode(p, frame, FILTER_NONE);
+    if (filter == FILTER_SIMPLE || filter == FILTER_NORMAL) p->tile.simple = filter == FILTER_SIMPLE;
+}
+
 void picture_profile(struct picture *p, struct frame frame, uint32_t *rule, size_t *macroblock) {
     *rule = HOOKBARLEY_PROFILE_FITS, *macroblock = 0;
     if (prepare(p, frame, FILTER_NONE)) return;

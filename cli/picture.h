@@ -39,6 +39,9 @@ void picture_survey(struct picture *picture, struct frame frame, uint64_t record
 /* As picture_decode, where tokens run out going on from the modes alone. */
 void picture_rescue(struct picture *picture, struct frame frame, enum filter filter);
 
+/* By one of these two, before any filter; the tile's `simple` is the kind that would follow. */
+void picture_unfiltered(struct picture *picture, struct frame frame, enum filter filter, int rescue);
+
 /* Whether a frame fits the cockpit profile: the rule that fails and the macroblock that it names. Only number, header and tile stand. */
 void picture_profile(struct picture *picture, struct frame frame, uint32_t *rule, size_t *macroblock);
 

@@ -2,6 +2,7 @@
 #include "commands.h"
 #include "page.h"
 #include "record.h"
+#include "save.h"
 #include "survey.h"
 #include "walk.h"
 #include "workers.h"
@@ -142,7 +143,7 @@ static int tell(const struct delivery *d, const struct options *o) {
 
 int survey(const struct options *o) {
     if (o->count < 1) return usage(o->add ? "survey --add takes records" : "survey takes files and folders", "");
-    if (o->html && page_check(o->html)) return STATUS_USAGE;
+    if (o->html && save_check(o->html)) return STATUS_USAGE;
     struct delivery *d = memory(sizeof *d);
     memset(d, 0, sizeof *d);
     int status = STATUS_WHOLE;

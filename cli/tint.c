@@ -16,8 +16,9 @@ static uint8_t small_of(const struct picture *p, size_t block) {
     return p->memory.strengths[HOOKBARLEY_STRENGTH_BYTES * block + HOOKBARLEY_STRENGTH_SMALL];
 }
 
+/* Without marks what is kept is whole. */
 static uint8_t mark_of(const struct picture *p, size_t block) {
-    return p->marks[block];
+    return p->marks ? p->marks[block] : HOOKBARLEY_MARK_WHOLE;
 }
 
 /* The byte of a macroblock that decides, and what each of its values says; value k has colour k. */
@@ -40,10 +41,18 @@ enum tint tint_of(const char *name) {
     return TINT_NONE;
 }
 
+size_t tint_values(enum tint tint) { return kinds[tint].values; }
+
+const char *tint_words(enum tint tint, size_t value) { return kinds[tint].words[value]; }
+
+const uint8_t *tint_colour(size_t value) { return palette[value].rgb; }
+
 /* The value of a kept macroblock. That it is one of the kind's is proved; the remainder keeps any byte inside the palette. */
 static size_t value_of(const struct tint_kind *kind, const struct picture *p, size_t block) {
     return kind->byte_of(p, block) % kind->values;
 }
+
+size_t tint_value(enum tint tint, const struct picture *p, size_t block) { return value_of(&kinds[tint], p, block); }
 
 static void tint_row(uint8_t *row, const struct tint_kind *kind, const struct picture *p, size_t y) {
     const uint8_t *luma = p->memory.y + y * p->tile.width;

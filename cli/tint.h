@@ -13,7 +13,13 @@ enum tint { TINT_NONE, TINT_SEGMENTS, TINT_MODES, TINT_MARKS };
 /* By its name, "segments"; TINT_NONE where there is no such kind. */
 enum tint tint_of(const char *name);
 
-/* Writes a .ppm of the true size. A macroblock that is not kept has no record, and stays grey. TINT_MARKS is for a picture that has marks.
+/* How many values a kind has, what each says, red, green and blue of each; and the value of a macroblock that is kept. */
+size_t tint_values(enum tint tint);
+const char *tint_words(enum tint tint, size_t value);
+const uint8_t *tint_colour(size_t value);
+size_t tint_value(enum tint tint, const struct picture *picture, size_t block);
+
+/* Writes a .ppm of the true size. A macroblock that is not kept has no record, and stays grey.
  * Returns 0 where it could not be written. */
 int tint_write(FILE *out, enum tint tint, const struct picture *picture);
 

@@ -34,13 +34,18 @@ static void colour(uint8_t *rgb, int y, int u, int v) {
 }
 
 /* Each U and V serves a square of four samples. */
+void write_colours(uint8_t *row, const struct picture *p, size_t y) {
+    size_t stride = p->tile.width;
+    const uint8_t *u = p->memory.u + y / 2 * (stride / 2), *v = p->memory.v + y / 2 * (stride / 2);
+    for (size_t x = 0; x < p->tile.true_width; x++) colour(row + 3 * x, p->memory.y[y * stride + x], u[x / 2], v[x / 2]);
+}
+
 static int colours(FILE *out, const struct picture *p) {
-    size_t width = p->tile.true_width, stride = p->tile.width;
+    size_t width = p->tile.true_width;
     uint8_t *row = memory(3 * width);
     int good = 1;
     for (size_t y = 0; good && y < p->tile.true_height; y++) {
-        const uint8_t *u = p->memory.u + y / 2 * (stride / 2), *v = p->memory.v + y / 2 * (stride / 2);
-        for (size_t x = 0; x < width; x++) colour(row + 3 * x, p->memory.y[y * stride + x], u[x / 2], v[x / 2]);
+        write_colours(row, p, y);
         good = fwrite(row, 3, width, out) == width;
     }
     free(row);

@@ -16,6 +16,9 @@ enum form {
 enum form form_of(const char *ending);
 const char *ending_of(enum form form);
 
+/* One row of the colours that FORM_PPM has, red, green and blue of each pixel. */
+void write_colours(uint8_t *row, const struct picture *picture, size_t y);
+
 /* Returns 0 where it could not be written. */
 int write_picture(FILE *out, enum form form, const struct picture *picture);
 

@@ -1,8 +1,9 @@
 #!/usr/bin/env python3
 """The program on cut and damaged files: damaged.py ROOM N SEED CHECKED PLAIN FILE.. where CHECKED is the program built with sanitizers and
 PLAIN the one that valgrind runs. Every cut of each FILE and N damaged copies go, one by one, through `decode`, `decode --rescue`, `info`,
-`fits` and `survey` of CHECKED: the exit status is 0 or 1, standard error says what happened where it is 1 and nothing where it is 0, and
-there is a picture exactly where it is whole, cut or rescued. `info` and `survey` say what `decode` says. `fits` refuses what `decode`
+`fits`, `page --rescue` and `survey` of CHECKED: the exit status is 0 or 1, standard error says what happened where it is 1 and nothing where it is 0, and
+there is a picture exactly where it is whole, cut or rescued. `info` and `survey` say what `decode` says, `page --rescue` what
+`decode --rescue` says of the first picture, and there is a page exactly where that has one. `fits` refuses what `decode`
 refuses and says a line of every other picture. `decode --rescue` stops where `decode` does, except in a WebP file that `decode` refuses
 for its sizes. The surveys of each, added, are the survey of all; N damaged records are joined or refused. Then all files, a hundred at a
 time, go through `decode` under valgrind, with and without --rescue, and through `survey`, in one process and in two; it must find no
@@ -93,10 +94,27 @@ def judge(path, plainly):
     judged_of.update(rules)
 
 
+def paged(path, rescue):
+    """What `page --rescue` says beside what `decode --rescue` said of the first picture."""
+    out = f"{room}/page.html"
+    if os.path.exists(out):
+        os.remove(out)
+    result = run(checked, "page", "--rescue", path, out)
+    if result.returncode == 2 and b"macroblocks, and page takes at most" in result.stderr:
+        return
+    later = rb"\S+: (frame [1-9]|refused: the IVF)" if rescue.stdout or b": frame 0: " in rescue.stderr else rb"\S+: frame [1-9]"
+    first = [line for line in rescue.stderr.splitlines(keepends=True) if not re.match(later, line)]
+    if result.returncode != bool(first) or result.stderr != b"".join(first):
+        fail(path, "page and decode differ", result)
+    if os.path.exists(out) != bool(result.stdout):
+        fail(path, "a page that should not be there, or none", result)
+
+
 def one(path):
-    """Runs the four commands and counts what was said."""
+    """Runs the commands and counts what was said."""
     plainly, rescue, info = decoded(path), decoded(path, "--rescue"), run(checked, "info", path)
     judge(path, plainly)
+    paged(path, rescue)
     if plainly.returncode != info.returncode or plainly.stderr != info.stderr:
         fail(path, "decode and info differ", info)
     survey = run(checked, "survey", "--json", path)

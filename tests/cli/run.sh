@@ -38,7 +38,7 @@ common() { # common A B RUNS: which macroblocks of 256 by 256 samples both have
 
 # Usage: status 2.
 hb 0 --help && said 'hookbarley decode' && said 'hookbarley info' && said 'hookbarley fits' && said 'hookbarley wrap' && said '--rescue' && said 'Exit status' && quiet
-said 'hookbarley survey' && said '--html OUT'
+said 'hookbarley survey' && said '--html OUT' && said 'hookbarley page'
 hb 0 --version && said "hookbarley $(sed -n 's/^#define HOOKBARLEY_VERSION "\(.*\)"$/\1/p' include/hookbarley.h)"
 hb 2 && warned 'no command'
 hb 2 paint && warned 'what is paint'
@@ -200,6 +200,38 @@ hb 1 explain tests/outside/webp/lossless.webp 1 1 && warned 'refused: 19'
 hb 2 explain bench/tile-q50.webp 256 0 && warned 'no such pixel'
 hb 2 explain bench/tile-q50.webp -- -1 0 && warned 'X and Y'
 hb 2 explain bench/tile-q50.webp $out/e.png && warned '.ppm or .svg' && none e.png
+hb 1 explain --rescue $out/cut.vp8 200 200 && said 'luma at 200 200' && warned 'rescued: 7'
+
+# The page of pixels (tests/page opens it in a browser): one file that is whole, names nothing outside of itself and has the sentences.
+page_of() { # page_of STATUS WORDS [OPTION] IN
+    local status=$1 words=$2
+    shift 2
+    rm -f $out/p.html
+    hb "$status" page "$@" $out/p.html && said "$words"
+    { tail -n 1 $out/p.html | grep -q '</html>' && grep -q '^"edge":"  %d. %s edge of' $out/p.html; } || bad "$what: no whole page"
+    grep -qE 'https?:|src=|href=' $out/p.html && bad "$what: the page names something outside of itself"
+    [ "$(wc -c <$out/p.html)" -lt 3000000 ] || bad "$what: a page of $(wc -c <$out/p.html) bytes"
+}
+page_of 0 '256 x 256, whole' bench/tile-q50.webp && quiet
+page_of 0 '256 x 256, whole' --simple bench/tile-q50.webp && quiet
+page_of 0 whole $kept/fine.webp && quiet
+page_of 0 whole $kept/one-sample.webp && quiet
+page_of 0 whole $kept/two-partitions.ivf && quiet
+page_of 1 '256 x 256, cut' $out/cut.vp8 && warned 'cut: 7'
+page_of 1 '256 x 256, rescued' --rescue $out/cut.vp8 && warned 'rescued: 7'
+page_of 1 '256 x 256, rescued' --rescue $out/disk.webp && warned 'rescued: 7'
+cp $out/tile.vp8 "$out/<b>&\"é.vp8" # a name that HTML must escape
+page_of 0 whole "$out/<b>&\"é.vp8" && grep -qF '<h1>&lt;b&gt;&amp;"é.vp8</h1>' $out/p.html || bad "$what: its name is not escaped"
+rm -f $out/p.html
+hb 1 page tests/outside/webp/lossless.webp $out/p.html && warned 'refused: 19' && none p.html
+hb 1 page $out/disk.webp $out/p.html && warned 'refused: 18' && none p.html
+hb 1 page $out/none.ivf $out/p.html && warned 'refused: the IVF file' && none p.html
+{ head -c 6 $out/tile.vp8 && printf '\001\004\000\004' && tail -c +11 $out/tile.vp8; } >$out/wide.vp8 # 1025 by 1024 samples
+hb 2 page $out/wide.vp8 $out/p.html && warned '4160 macroblocks, and page takes at most 4096' && none p.html
+hb 2 page bench/tile-q50.webp && warned 'page takes an IN and an OUT.html'
+hb 2 page bench/tile-q50.webp $out/p.svg && warned 'OUT ends in .html' && none p.svg
+hb 2 page $out/absent.webp $out/p.html && warned 'No such file' && none p.html
+hb 2 page bench/tile-q50.webp $out/absent/p.html && warned 'No such file'
 
 # Tinted: each macroblock's colour over the luma that decode shows otherwise. How many have each is what info counts in mode memory.
 rescue=
@@ -366,6 +398,6 @@ else
     tail -n 5 $out/install.log
     bad "tools/install.sh"
 fi
-[ $tried -ge 176 ] || bad "only $tried runs of the program"
+[ $tried -ge 195 ] || bad "only $tried runs of the program"
 [ $failed -eq 0 ] && echo "cli: passed, $tried runs of the program"
 exit $failed
