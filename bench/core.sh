@@ -1,6 +1,6 @@
 #!/usr/bin/env bash
 # Cycles a luma sample by a model of an x86-64 core (core.c), and branches that its predictor missed, before and after the loop filter: bench/core.sh [ARCHIVE].
-# Ours beside libwebp's code without SIMD and with SSE4.1. For where no x86-64 machine is at hand (on one, bench/time.sh); a minute or two.
+# Ours beside the others (bench/decoders.sh). For where no x86-64 machine is at hand (on one, bench/time.sh); a minute or two.
 set -eu
 cd "$(dirname "$0")/.."
 ARCHIVE=${1:-${ARCHIVE:-}}
@@ -11,11 +11,8 @@ need gcc gcc libc6-dev
 need python3 python3
 [ -f /usr/include/capstone/capstone.h ] || packages libcapstone-dev >target/bench/capstone.log 2>&1 || { cat target/bench/capstone.log >&2; exit 1; }
 out=target/bench
-. bench/libwebp.sh
-libwebp webp "$X86CC" ''
-libwebp webp-sse "$X86CC" '#define WEBP_HAVE_SSE2 1\n#define WEBP_HAVE_SSE41 1\n' -msse4.1
+. bench/decoders.sh
 gcc -shared -fPIC -O2 -Wall -Wextra -o $out/core.so bench/core.c -lcapstone
-$X86CC -O2 -Iinclude -o $out/bench examples/c/bench.c "$ARCHIVE"
 qemu="qemu-x86_64"
 [ "$(uname -m)" = x86_64 ] || qemu="$qemu -L /usr/x86_64-linux-gnu"
 told() { $qemu -plugin $out/core.so "$@" 2>&1 >/dev/null | grep '^cycles'; }
@@ -24,11 +21,10 @@ for kind in '' deblock; do
     echo
     echo "| | q50 | q75 | q90 |"
     echo "|---|---|---|---|"
-    for program in bench webp webp-sse; do
+    for program in hookbarley $OTHERS; do
         row="| $program |"
         for q in 50 75 90; do
-            file=bench/tile-q$q.case
-            [ $program = bench ] || file=bench/tile-q$q.webp
+            file=$(given $program $q $kind)
             # shellcheck disable=SC2086
             row="$row $(python3 -c "
 a, b = '$(told $out/$program $file 2 $kind)'.split(), '$(told $out/$program $file 5 $kind)'.split()

@@ -28,5 +28,5 @@ libwebp() {
         case $f in *_neon.c | *_mips*.c | *_msa.c) continue ;; esac
         $2 -O3 -DHAVE_CONFIG_H ${4:+"$4"} -I"$o" -I$out/$webp -c -o "$o/$(basename "$f" .c).o" "$f"
     done
-    $2 -O2 -I$out/$webp -o $out/"$1" bench/webp.c "$o"/*.o -lm -lpthread
+    $2 -O2 -I$out/$webp -Ibench -o $out/"$1" bench/webp.c "$o"/*.o -lm -lpthread
 }

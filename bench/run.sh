@@ -1,7 +1,7 @@
 #!/usr/bin/env bash
-# Counts instructions a luma sample: bench/run.sh [ARCHIVE]. Prints markdown tables: the three bench tiles beside libwebp 1.2.4
-# (scalar and SSE4.1, its loop filter bypassed and on, all in this run), the rescue, survey and recode calls beside the picture call, and
-# the growth with macroblocks and with bytes.
+# Counts instructions a luma sample: bench/run.sh [ARCHIVE]. Prints markdown tables: the three bench tiles beside libwebp, ffmpeg and libvpx
+# (bench/decoders.sh; without their loop filters and with them, all in this run), the rescue, survey and recode calls beside the picture call,
+# and the growth with macroblocks and with bytes.
 # Counted by qemu's plugin insncount.c, which counts the same everywhere. A count is of some decodes more less that of one,
 # so starting the program and reading the file is not in it.
 set -eu
@@ -17,12 +17,7 @@ qemu="qemu-x86_64"
 [ "$(uname -m)" = x86_64 ] || qemu="$qemu -L /usr/x86_64-linux-gnu"
 
 gcc -shared -fPIC -O2 -o $out/insncount.so bench/insncount.c
-$X86CC -O2 -Iinclude -o $out/bench examples/c/bench.c "$ARCHIVE"
-
-# libwebp twice: without SIMD and with its SSE2 and SSE4.1 code.
-. bench/libwebp.sh
-libwebp webp "$X86CC" ''
-libwebp webp-sse "$X86CC" '#define WEBP_HAVE_SSE2 1\n#define WEBP_HAVE_SSE41 1\n' -msse4.1
+. bench/decoders.sh
 
 # count PROGRAM FILE TIMES [deblock]: instructions of so many decodes
 count() {
@@ -35,31 +30,34 @@ count() {
 # a FIXED-POINT quotient: div A B DIGITS
 div() { python3 -c "print(f'{$1 / $2:.$3f}')"; }
 
-# beside HEADING [deblock]: the three tiles, ours and libwebp's
+# beside HEADING [deblock]: the three tiles, ours and the others'
 beside() {
-    local heading=$1
+    local heading=$1 program ours line a b
     shift
     echo "$heading"
     echo
-    echo "| tile | bytes | hookbarley | libwebp 1.2.4 scalar | ratio | libwebp 1.2.4 SSE4.1 | ratio |"
-    echo "|---|---|---|---|---|---|---|"
+    echo "| tile | bytes | hookbarley |$(for program in $OTHERS; do printf ' %s | ratio |' "$program"; done)"
+    echo "|---|---|---|$(for program in $OTHERS; do printf -- '---|---|'; done)"
     for q in 50 75 90; do
-        f=bench/tile-q$q
-        ours=$($qemu $out/bench $f.case 1 "$@")
-        for theirs in webp webp-sse; do
-            line=$($qemu $out/$theirs $f.webp 1 "$@")
-            [ "$ours" = "$line" ] || { echo "tile-q$q: $ours, $theirs $line" >&2; exit 1; }
+        ours=$($qemu $out/hookbarley "$(given hookbarley $q)" 1 "$@")
+        a=$(count $out/hookbarley "$(given hookbarley $q)" 10 "$@")
+        printf '| tile-q%s | %s | %s |' $q $(($(stat -c %s bench/tile-q$q.case) - 2210)) "$(div "$a" 655360 1)"
+        for program in $OTHERS; do
+            line=$($qemu $out/$program "$(given $program $q "$@")" 1 "$@")
+            [ "$ours" = "$line" ] || { echo "tile-q$q: $ours, $program $line" >&2; exit 1; }
+            b=$(count $out/$program "$(given $program $q "$@")" 10 "$@")
+            printf ' %s | %s |' "$(div "$b" 655360 1)" "$(div "$a" "$b" 2)"
         done
-        a=$(count $out/bench $f.case 10 "$@")
-        b=$(count $out/webp $f.webp 10 "$@")
-        c=$(count $out/webp-sse $f.webp 10 "$@")
-        echo "| tile-q$q | $(($(stat -c %s $f.case) - 2210)) | $(div "$a" 655360 1) | $(div "$b" 655360 1) | $(div "$a" "$b" 2) | $(div "$c" 655360 1) | $(div "$a" "$c" 2) |"
+        echo
     done
     echo
 }
 
 beside "Instructions a luma sample, 256 by 256 samples, before the loop filter:"
 beside "The same with the loop filter (the picture call, then deblocking, the normal kind):" deblock
+
+echo "From the frame's bytes to filtered planes by one call: $(for q in 50 75 90; do div "$(count $out/show bench/tile-q$q.webp 10)" 655360 1; done | paste -sd ' ')"
+echo
 
 # call NAME WHAT LINES DIGITS: another call on whole tiles beside the picture call. LINES are what bench/NAME.c prints of the three.
 call() {
@@ -72,7 +70,7 @@ call() {
     while read -r q line; do
         f=bench/tile-q$q.case
         [ "$line" = "$($qemu $out/"$1" $f 1)" ] || { echo "tile-q$q, $1: not $line" >&2; exit 1; }
-        a=$(count $out/bench $f 10)
+        a=$(count $out/hookbarley $f 10)
         b=$(count $out/"$1" $f 10)
         echo "| tile-q$q | $(div "$a" 655360 1) | $(div "$b" 655360 1) | $(div "$b" "$a" "$4") |"
     done <<<"$3"
@@ -93,8 +91,8 @@ echo "| tile | symbols, first partition | symbols, token partitions | instructio
 echo "|---|---|---|---|---|---|"
 for f in $out/dearest.case bench/tile-q50.case bench/tile-q75.case bench/tile-q90.case; do
     read -r _ _ first tokens < <($qemu $out/symbols -c "$f")
-    a=$(count $out/bench "$f" 10)
-    b=$(count $out/bench "$f" 10 deblock)
+    a=$(count $out/hookbarley "$f" 10)
+    b=$(count $out/hookbarley "$f" 10 deblock)
     echo "| $(basename "$f" .case) | $(div "$first" 256 1) | $(div "$tokens" 256 1) | $(div "$a" 2560 0) | $(div "$b" 2560 0) | $(div "$a" "(10*($first+$tokens))" 1) |"
 done
 echo
@@ -108,7 +106,7 @@ $X86CC -O2 -Iinclude -o $out/needed bench/needed.c "$ARCHIVE"
 rm -rf $out/grow
 python3 bench/grow.py make $out/grow
 for f in $out/grow/*.case; do
-    echo "$(basename "$f" .case) $($qemu $out/needed "$f") $(($(count $out/bench "$f" 2) / 2))"
+    echo "$(basename "$f" .case) $($qemu $out/needed "$f") $(($(count $out/hookbarley "$f" 2) / 2))"
 done >$out/grow.txt
 echo "Growth with macroblocks and with bytes, instructions of one decode:"
 echo
