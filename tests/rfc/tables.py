@@ -208,7 +208,7 @@ class Comparison:
         bt, btn = self.pair("bmode_tree", "b_mode_tree", 18)
         ct, ctn = self.rfc("coeff_tree", 22, self.prose)
         assert yt[0] == ("leaf", NAMES["B_PRED"]) and yt[1] == 2
-        large, small, token = "crates/modes/src/large.rt", "crates/modes/src/counts.rt", "crates/reader/src/counts.rt"
+        large, small, token = "crates/modes/src/large.rt", "crates/modes/src/small.rt", "crates/reader/src/token.rt"
         for what, t, name, spec, source in (
                 ("mb_segment_tree", tree(seg, [0, 1, 2, 3]), sn, (MODES, "segTree"), (large, "SEG_TREE")),
                 ("kf_ymode_tree below the root", below_root(tree(yt, LARGE + [None])), ytn, (MODES, "yTree"), (large, "Y_TREE")),

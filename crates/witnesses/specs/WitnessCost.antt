@@ -44,7 +44,7 @@ use Rattle.filter.specs.Strengths.{slowed, innerOf, thresholdOf, strengthOf, st
 use Rattle.survey.specs.Survey.{surveyOf, addOf, fitsTo, sumOf, talliedOf, sumTo, same, lumaOf, subBlocks, toldOf}
 use Rattle.witnesses.specs.Witness.{witnessTile, heldOf, plain, zeros, whole}
 
--- a header with a map of segments and skip flags: entries 3, 1094 and 1095
+-- a header with a map of segments and skip flags: entry 3 and entries 1094 and 1095
 abbrev pub announcing : List ℤ
 announcing = replicate 3 (pos 0) ++ pos 1 ∷ replicate 1090 (pos 0) ++ pos 1 ∷ pos 255 ∷ []
 
