@@ -32,22 +32,22 @@ ghost use Rattle.coefficients.specs.Block.{blockOf, sixteenBits, blockAr
 ghost use Rattle.coefficients.specs.Block.{blockByHeaderOf, tableOf, block, blockReads, blockByHeaderReads};
 
 // The band of a position, and where its number stands in the block.
-const BANDS: [u8; 16] = [0, 1, 2, 3, 6, 4, 5, 6, 6, 6, 6, 6, 6, 6, 6, 7];
+pub const BANDS: [u8; 16] = [0, 1, 2, 3, 6, 4, 5, 6, 6, 6, 6, 6, 6, 6, 6, 7];
 
 pub(crate) const ZIGZAG: [u8; 16] = [0, 1, 4, 8, 5, 2, 3, 6, 9, 12, 13, 10, 7, 11, 14, 15];
 
 // The probabilities of a category's extra bits: the RFC's Pcat1 to Pcat6.
-pub(crate) const CAT1: [u8; 1] = [159];
+pub const CAT1: [u8; 1] = [159];
 
-pub(crate) const CAT2: [u8; 2] = [165, 145];
+pub const CAT2: [u8; 2] = [165, 145];
 
-pub(crate) const CAT3: [u8; 3] = [173, 148, 140];
+pub const CAT3: [u8; 3] = [173, 148, 140];
 
-pub(crate) const CAT4: [u8; 4] = [176, 155, 140, 135];
+pub const CAT4: [u8; 4] = [176, 155, 140, 135];
 
-pub(crate) const CAT5: [u8; 5] = [180, 157, 141, 134, 130];
+pub const CAT5: [u8; 5] = [180, 157, 141, 134, 130];
 
-pub(crate) const CAT6: [u8; 11] = [254, 254, 243, 230, 196, 177, 153, 140, 133, 130, 129];
+pub const CAT6: [u8; 11] = [254, 254, 243, 230, 196, 177, 153, 140, 133, 130, 129];
 
 // A coefficient and the reader after it; Missing where a byte was; Refused where the reader or the token is out of range.
 pub enum Signed {

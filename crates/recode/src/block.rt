@@ -3,6 +3,7 @@ use crate::pipe::Pipe;
 use crate::token::LEADS;
 use crate::token::copy_rest;
 use crate::token::copy_token;
+use coefficients::block::BANDS;
 ghost use mathlib.Core.Path.{_≡_};
 ghost use mathlib.Core.Bool.{false};
 ghost use Prim.Native.Nat.{ℕ, _+_, _<_, _≤_};
@@ -15,9 +16,6 @@ ghost use Rattle.coefficients.specs.Block.{bands, probabilityPlace};
 ghost use Rattle.residual.specs.Quick.{kindAt, placeAt};
 ghost use Rattle.residual.specs.Residual.{cleared};
 ghost use Rattle.recode.specs.BlockCopies.{nearOf, BlockCopies, PartCopies, ResidualCopies};
-
-// coeff_bands
-const BANDS: [u8; 16] = [0, 1, 2, 3, 6, 4, 5, 6, 6, 6, 6, 6, 6, 6, 6, 7];
 
 // Where a block ended, and the pipe after it.
 pub(crate) struct BlockCopied {

@@ -1,6 +1,12 @@
 // The tokens of a block, read and written again (RFC 6386, section 13.2).
 use crate::pipe::Pipe;
 use crate::pipe::ask;
+use coefficients::block::CAT1;
+use coefficients::block::CAT2;
+use coefficients::block::CAT3;
+use coefficients::block::CAT4;
+use coefficients::block::CAT5;
+use coefficients::block::CAT6;
 ghost use mathlib.Core.Path.{_≡_};
 ghost use Prim.Native.Nat.{ℕ, _+_, _<_, _≤_};
 ghost use lib.ListN.{length};
@@ -36,19 +42,6 @@ pub(crate) const LEADS: [u8; 22] = [
     21,
     22,
 ];
-
-// Pcat1 to Pcat6.
-const CAT1: [u8; 1] = [159];
-
-const CAT2: [u8; 2] = [165, 145];
-
-const CAT3: [u8; 3] = [173, 148, 140];
-
-const CAT4: [u8; 4] = [176, 155, 140, 135];
-
-const CAT5: [u8; 5] = [180, 157, 141, 134, 130];
-
-const CAT6: [u8; 11] = [254, 254, 243, 230, 196, 177, 153, 140, 133, 130, 129];
 
 // A token, and the pipe after it.
 pub(crate) struct TokenCopied {
