@@ -374,15 +374,15 @@ module _ (table : List ℕ) (kind q0 q1 left n : ℕ) (values : List ℤ) where
   abbrev signOn : ℕ → ℕ → Reading Coefficients
   signOn ctx v = symbol 128 >>= (λ negative. blockFrom table kind q0 q1 left (n + 1) ctx false (set values (getD zigzag n 0) (wrapZ (signOf negative (v * quantizerAt n q0 q1)))))
 
-  block-asks : (ctx : ℕ) (z : Bool) → blockFrom table kind q0 q1 (suc left) n ctx z values ≡ (token (probabilitiesAt table kind n ctx) z >>= restOf)
+  pub block-asks : (ctx : ℕ) (z : Bool) → blockFrom table kind q0 q1 (suc left) n ctx z values ≡ (token (probabilitiesAt table kind n ctx) z >>= restOf)
   unfolding blockFrom restOf
   block-asks ctx z = refl
 
-  rest-ends : restOf 0 ≡ done (record { end = n; values = values })
+  pub rest-ends : restOf 0 ≡ done (record { end = n; values = values })
   unfolding restOf
   rest-ends = refl
 
-  rest-zero : restOf 1 ≡ blockFrom table kind q0 q1 left (n + 1) 0 true values
+  pub rest-zero : restOf 1 ≡ blockFrom table kind q0 q1 left (n + 1) 0 true values
   unfolding restOf
   rest-zero = refl
 
@@ -392,7 +392,7 @@ module _ (table : List ℕ) (kind q0 q1 left n : ℕ) (values : List ℤ) where
       rw (ne-eqb t 0 (λ g. omega arith), ne-eqb t 1 (λ g. omega arith), restOf)
       (then-then (magnitude t) (λ v. symbol 128 >>= (λ negative. done (wrapZ (signOf negative (v * quantizerAt n q0 q1))))) (λ v. blockFrom table kind q0 q1 left (n + 1) (contextAfter t) false (set values (getD zigzag n 0) v)))
 
-block-none : (table : List ℕ) (kind q0 q1 n ctx : ℕ) (z : Bool) (values : List ℤ) → blockFrom table kind q0 q1 0 n ctx z values ≡ done (record { end = n; values = values })
+pub block-none : (table : List ℕ) (kind q0 q1 n ctx : ℕ) (z : Bool) (values : List ℤ) → blockFrom table kind q0 q1 0 n ctx z values ≡ done (record { end = n; values = values })
 unfolding blockFrom
 block-none table kind q0 q1 n ctx z values = refl
 

@@ -1,14 +1,14 @@
 -- The blocks of a macroblock, read and written again: the steps of the proofs.
-use Prim.Native.Nat.{ℕ, zero, suc, _+_, _-_, _*_, _≤_, _<_}
+use Prim.Native.Nat.{ℕ, zero, suc, _+_, _-_, _≤_, _<_}
 use native.Mathlib.Numerals.{add-one}
 use native.Mathlib.Omega.{arith}
 use mathlib.Core.Path.{_≡_, refl, sym, _∙_, ap, subst}
-use mathlib.Core.Bool.{Bool, true, false, _&&_}
+use mathlib.Core.Bool.{Bool, true, false}
 use mathlib.Core.List.{List}
 use mathlib.Core.Logic.{⊎-elim}
 use lib.Dec.{ltb, eqb}
-use lib.IntN.{ℤ, pos}
-use lib.ListN.{length, getD, set, replicate}
+use lib.IntN.{ℤ}
+use lib.ListN.{length, getD, set}
 use borrow.Author.Tests.{eq-eqb, ne-eqb}
 use Rattle.numbers.specs.Flags.{bitOf}
 use Rattle.numbers.specs.Tests.{lt-or, eq-or}
@@ -16,12 +16,11 @@ use Rattle.header.specs.declared.quantizers.Factors.{Factors}
 use Rattle.reader.specs.declared.boolean.Reader.{Reader}
 use Rattle.reader.specs.Reading.{Reading, done, _>>=_}
 use Rattle.reader.specs.Token.{token, elevenAt}
-use Rattle.coefficients.specs.Block.{Coefficients, block, blockFrom, probabilityPlace, probabilitiesAt, signedValue, quantizerAt, contextAfter, zigzag}
-use Rattle.coefficients.specs.FastLaws.{restOf}
-use Rattle.transform.specs.Transform.{samplesOf}
-use Rattle.residual.specs.Residual.{Model, Flags, initial, cleared, coordinates, secondKind, lumaKind, flagged, secondPlace, spread, second, emptyOf, advance, blocksFrom, residualOf, sixteenAt, stored}
-use Rattle.residual.specs.Quick.{kindAt, placeAt, quickPart}
-use Rattle.residual.specs.QuickLaws.{kind-later}
+use Rattle.coefficients.specs.Block.{Coefficients, block, blockFrom, probabilityPlace, signedValue, quantizerAt, contextAfter, zigzag}
+use Rattle.coefficients.specs.FastLaws.{restOf, block-asks, block-none, rest-ends, rest-zero}
+use Rattle.residual.specs.Residual.{Model, Flags, initial, cleared, lumaKind, residualOf, coded}
+use Rattle.residual.specs.Quick.{kindAt, placeAt, quickPart, partsFrom}
+use Rattle.residual.specs.QuickLaws.{residual-parts, oldAt, afterAt, part-coded, kind-later}
 use Rattle.residual.specs.ResidualLaws.{kind-luma, kind-chroma, flags-flagged}
 use Rattle.writer.specs.Encoder.{Encoder}
 use Rattle.recode.specs.declared.pipe.Pipe.{Pipe}
@@ -49,27 +48,10 @@ ends c = c .end
 abbrev pub BlockCopies : (table : List ℕ) (kind ctx first : ℕ) → (s : List ℕ) → Pipe → List ℕ → ℕ → Pipe → List ℕ → Type 0
 BlockCopies table kind ctx first s p room end q new = (q0 q1 : ℕ) (values : List ℤ) → Copies ends (block table kind q0 q1 ctx first values) s p room end q new
 
--- what follows a token
-module _ (table : List ℕ) (kind q0 q1 left n : ℕ) (values : List ℤ) where
-  block-asks : (ctx : ℕ) (z : Bool) → blockFrom table kind q0 q1 (suc left) n ctx z values ≡ (token (probabilitiesAt table kind n ctx) z >>= restOf table kind q0 q1 left n values)
-  unfolding blockFrom restOf
-  block-asks ctx z = refl
-
-  rest-ends : (t : ℕ) → t ≡ 0 → restOf table kind q0 q1 left n values t ≡ done (record { end = n; values = values })
-  unfolding restOf
-  rest-ends t e = rw (eq-eqb _ _ e, restOf)
-
-  rest-zero : (t : ℕ) → t ≡ 1 → restOf table kind q0 q1 left n values t ≡ blockFrom table kind q0 q1 left (n + 1) 0 true values
-  unfolding restOf
-  rest-zero t e = ap (restOf table kind q0 q1 left n values) e
-
-  rest-number : (t : ℕ) → (t ≡ 0 → ⊥) → (t ≡ 1 → ⊥) → restOf table kind q0 q1 left n values t ≡ (signedValue t (quantizerAt n q0 q1) >>= (λ v. blockFrom table kind q0 q1 left (n + 1) (contextAfter t) false (set values (getD zigzag n 0) v)))
-  unfolding restOf
-  rest-number t e f = rw (ne-eqb _ _ e, restOf, ne-eqb _ _ f, restOf)
-
-block-none : (table : List ℕ) (kind q0 q1 n ctx : ℕ) (z : Bool) (values : List ℤ) → blockFrom table kind q0 q1 0 n ctx z values ≡ done (record { end = n; values = values })
-unfolding blockFrom
-block-none table kind q0 q1 n ctx z values = refl
+-- what follows a number's token
+rest-number : (table : List ℕ) (kind q0 q1 left n : ℕ) (values : List ℤ) (t : ℕ) → (t ≡ 0 → ⊥) → (t ≡ 1 → ⊥) → restOf table kind q0 q1 left n values t ≡ (signedValue t (quantizerAt n q0 q1) >>= (λ v. blockFrom table kind q0 q1 left (n + 1) (contextAfter t) false (set values (getD zigzag n 0) v)))
+unfolding restOf
+rest-number table kind q0 q1 left n values t e f = rw (ne-eqb _ _ e, restOf, ne-eqb _ _ f, restOf)
 
 -- the loop over its positions
 pub record Spot (table : List ℕ) (kind q0 q1 : ℕ) (s : List ℕ) (a : Coefficients) (r2 : Reader) (F : Encoder) (old : List ℕ) (p : Pipe) (n ctx : ℕ) (z : Bool) (room : List ℕ) : Type 0 where
@@ -106,7 +88,7 @@ module _ {table : List ℕ} {kind ctx₀ first : ℕ} {s : List ℕ} {p₀ : Pip
     pub blocking-over : t ≡ 0 → BlockCopies table kind ctx₀ first s p₀ room₀ n q mid
     blocking-over f q0 q1 values a r2 F old g =
         let x = w .way q0 q1 values a r2 F old g in
-        going-done (going-as (rest-ends table kind q0 q1 (15 - n) n (x .values) t f) (read q0 q1 (x .values) (x .going))) refl
+        going-done (going-as (ap (restOf table kind q0 q1 (15 - n) n (x .values)) f ∙ rest-ends table kind q0 q1 (15 - n) n (x .values)) (read q0 q1 (x .values) (x .going))) refl
 
     pub blocking-next : (t ≡ 0 → ⊥) → {u : Pipe} {new : List ℕ} → Rest s q mid t u new → {near : ℕ} {on : Bool} → near ≡ nearOf t → near < 3 → on ≡ eqb t 1 → length mid ≡ length room → length new ≡ length mid
         → Blocking table kind ctx₀ first s p₀ room₀ u (n + 1) near on new
@@ -127,7 +109,8 @@ module _ {table : List ℕ} {kind ctx₀ first : ℕ} {s : List ℕ} {p₀ : Pip
         after-zero : (q0 q1 : ℕ) {x : Coefficients} {r2 : Reader} {F : Encoder} {old : List ℕ} (values : List ℤ) → Going s x r2 F old (restOf table kind q0 q1 (15 - n) n values t) q mid → t ≡ 1 → Spot table kind q0 q1 s x r2 F old u (n + 1) near on new
         after-zero q0 q1 {x} {r2} {F} {old} values i h =
             let m : restOf table kind q0 q1 (15 - n) n values t ≡ blockFrom table kind q0 q1 (16 - (n + 1)) (n + 1) near on values =
-            rest-zero table kind q0 q1 (15 - n) n values t h
+            ap (restOf table kind q0 q1 (15 - n) n values) h
+            ∙ rest-zero table kind q0 q1 (15 - n) n values
             ∙ (λ j. blockFrom table kind q0 q1 (left j) (n + 1) ((near-zero t h ∙ sym a) j) ((sym (eq-eqb t 1 h) ∙ sym o) j) values) in
             let v = r .after-zero h in
             record { values = values; going = subst (λ (y : Pipe). Going s x r2 F old (blockFrom table kind q0 q1 (16 - (n + 1)) (n + 1) near on values) y new) (sym (v .0)) (subst (Going s x r2 F old (blockFrom table kind q0 q1 (16 - (n + 1)) (n + 1) near on values) q) (sym (v .1)) (going-as m i)) }
@@ -171,39 +154,30 @@ kind-starts f small (suc i) =
     (λ (h : 16 ≤ i). (λ j. kind-chroma f small i h j .first) ∙ (λ j. bitOf (eqb (sym (kind-chroma f small i h) j .kind) 0)))
     (lt-or i 16)
 
+after-edges : (table : List ℕ) (f : Factors) (small : Bool) (j : ℕ) (m : Model) (c : Coefficients) → edges (afterAt table f small j m c) ≡ (set (m .top) (placeAt j .x) (bitOf (ltb (kindAt f small j .first) (c .end))), set (m .left) (placeAt j .y) (bitOf (ltb (kindAt f small j .first) (c .end))))
+after-edges table f small zero m c = refl
+after-edges table f small (suc i) m c = refl
+
 module _ (table : List ℕ) (small : Bool) (s : List ℕ) (m : Flow) (room : List ℕ) (kind ctx first x y end : ℕ) (q : Pipe) (new : List ℕ) (b : BlockCopies table kind ctx first s (m .pipe) room end q new)
     (c : getD (m .top) x 0 ≤ 1 → getD (m .left) y 0 ≤ 1 → ctx ≡ getD (m .top) x 0 + getD (m .left) y 0) (top left : List ℕ) (t : top ≡ set (m .top) x (bitOf (ltb first end))) (l : left ≡ set (m .left) y (bitOf (ltb first end))) where
-  -- any grammar that reads this block, and leaves its flags
-  block-part : (kind′ q0 q1 first′ x′ y′ : ℕ) (old : List ℤ) (n : Model) (on : Coefficients → Model) → kind′ ≡ kind → first′ ≡ first → x′ ≡ x → y′ ≡ y
-      → ((v : Coefficients) → edges (on v) ≡ (set (n .top) x′ (bitOf (ltb first′ (v .end))), set (n .left) y′ (bitOf (ltb first′ (v .end)))))
-      → n .top ≡ m .top → n .left ≡ m .left → Flags (m .top) → Flags (m .left)
-      → Copies edges (block table kind′ q0 q1 (getD (n .top) x′ 0 + getD (n .left) y′ 0) first′ old >>= (λ v. done (on v))) s (m .pipe) room (top, left) q new
-  block-part kind′ q0 q1 first′ x′ y′ old n on e f g h see a d u v r s₂ F o i =
-      let ctx-is : getD (n .top) x′ 0 + getD (n .left) y′ 0 ≡ ctx =
-      (λ j. getD (a j) (g j) 0 + getD (d j) (h j) 0) ∙ sym (c (u .each x) (v .each y)) in
-      let is : block table kind′ q0 q1 (getD (n .top) x′ 0 + getD (n .left) y′ 0) first′ old ≡ block table kind q0 q1 ctx first old = λ j. block table (e j) q0 q1 (ctx-is j) (f j) old in
-      let z = going-call (block table kind q0 q1 ctx first old) (λ v. done (on v)) (going-as (ap (λ (G : Reading Coefficients). G >>= (λ v. done (on v))) is) i) (b q0 q1 old) in
-      going-done (z .going)
-      ((λ j. (t j, l j))
-      ∙ (λ j. (set (sym a j) (sym g j) (bitOf (ltb (sym f j) (z .seen j))), set (sym d j) (sym h j) (bitOf (ltb (sym f j) (z .seen j)))))
-      ∙ sym (see (z .d)))
-
-  starts : (f : Factors) (j : ℕ) → ((f : Factors) → kind ≡ kindAt f small j .kind) → first ≡ bitOf (eqb kind 0) → kindAt f small j .first ≡ first
-  starts f j e g = kind-starts f small j ∙ ap (λ (n : ℕ). bitOf (eqb n 0)) (sym (e f)) ∙ sym g
-
-  part-flags : (j : ℕ) → ((f : Factors) (n : Model) → n .top ≡ m .top → n .left ≡ m .left → Flags (m .top) → Flags (m .left) → Copies edges (quickPart table f small j n) s (m .pipe) room (top, left) q new)
-      → PartCopies table small j s m room (record { pipe = q; top = top; left = left }) new
-  part-flags j g = record { top = λ h. rw t (flags-flagged h x (ltb first end)); left = λ h. rw l (flags-flagged h y (ltb first end)); copies = g }
-
   pub part-copies : (j : ℕ) → ((f : Factors) → kind ≡ kindAt f small j .kind) → first ≡ bitOf (eqb kind 0) → x ≡ placeAt j .x → y ≡ placeAt j .y → PartCopies table small j s m room (record { pipe = q; top = top; left = left }) new
-  unfolding quickPart second advance
-  part-copies zero e f g h =
-      part-flags 0 (λ F n. block-part 1 (F .y2dc) (F .y2ac) 0 8 8 (replicate 16 (pos 0)) n (λ v. flagged (secondKind F) secondPlace (v .end) (spread (n .coefficients) (samplesOf true (v .values)) 16) (n .empty) n) (sym (e F)) (starts F 0 e f) (sym g) (sym h) (λ v. refl))
-  part-copies (suc i) e f g h =
-      part-flags (suc i) (λ F n.
-      let K = kindAt F small (suc i) in
-      block-part (K .kind) (K .q0) (K .q1) (K .first) (coordinates i .x) (coordinates i .y) (sixteenAt (n .coefficients) (16 * i)) n (λ v. flagged K (coordinates i) (v .end) (stored (n .coefficients) (16 * i) (v .values)) (n .empty && emptyOf v) n)
-      (sym (e F)) (starts F (suc i) e f) (sym g) (sym h) (λ v. refl))
+  part-copies j e f g h =
+      record {
+        top = λ k. rw t (flags-flagged k x (ltb first end));
+        left = λ k. rw l (flags-flagged k y (ltb first end));
+        copies = λ F n a d u v r r2 E o i.
+            let K = kindAt F small j in
+            let old : List ℤ = oldAt table F small j n in
+            let on : Coefficients → Reading Model = λ w. done (afterAt table F small j n w) in
+            let starts : first ≡ K .first = f ∙ ap (λ (k : ℕ). bitOf (eqb k 0)) (e F) ∙ sym (kind-starts F small j) in
+            let ctx-is : ctx ≡ getD (n .top) (placeAt j .x) 0 + getD (n .left) (placeAt j .y) 0 = c (u .each x) (v .each y) ∙ (λ p. getD (sym a p) (g p) 0 + getD (sym d p) (h p) 0) in
+            let is : coded table K (placeAt j) (n .top) (n .left) old ≡ block table kind (K .q0) (K .q1) ctx first old = λ p. block table (sym (e F) p) (K .q0) (K .q1) (sym ctx-is p) (sym starts p) old in
+            let z = going-call (block table kind (K .q0) (K .q1) ctx first old) on (going-as (part-coded table F small j n ∙ ap (λ (G : Reading Coefficients). G >>= on) is) i) (b (K .q0) (K .q1) old) in
+            going-done (z .going)
+            ((λ p. (t p, l p))
+            ∙ (λ p. (set (sym a p) (g p) (bitOf (ltb (starts p) (z .seen p))), set (sym d p) (h p) (bitOf (ltb (starts p) (z .seen p)))))
+            ∙ sym (after-edges table F small j n (z .d)));
+      }
 
 -- ---- all parts
 abbrev pub ResidualCopies : (table : List ℕ) (small skip : Bool) → (s : List ℕ) → Flow → List ℕ → Flow → List ℕ → Type 0
@@ -218,34 +192,13 @@ residual-skipped table small m e t l f h k a r2 F old g =
 pub residual-read : (table : List ℕ) (small : Bool) {skip : Bool} {s : List ℕ} {m : Flow} {room : List ℕ} {q : Flow} {new : List ℕ} → skip ≡ false → ResidualCopies table small false s m room q new → ResidualCopies table small skip s m room q new
 residual-read table small {s = s} {m} {room} {q} {new} e c = subst (λ (b : Bool). ResidualCopies table small b s m room q new) (sym e) c
 
--- from part j on
-unfoldable pub fromPart : List ℕ → Factors → Bool → ℕ → Model → Reading Model
-fromPart table f small zero m = second table f m >>= blocksFrom table f small 24 0
-fromPart table f small (suc i) m = blocksFrom table f small (24 - i) i m
-
-parts-start : (table : List ℕ) (f : Factors) (small : Bool) (top left : List ℕ) → residualOf table f small false top left ≡ fromPart table f small (bitOf small) (initial top left)
-unfolding residualOf fromPart
-parts-start table f true top left = refl
-parts-start table f false top left = refl
-
-parts-next : (table : List ℕ) (f : Factors) (small : Bool) (j : ℕ) (m : Model) → j < 25 → fromPart table f small j m ≡ (quickPart table f small j m >>= (λ n. fromPart table f small (suc j) n))
-unfolding fromPart blocksFrom quickPart
-parts-next table f small zero m h = refl
-parts-next table f small (suc i) m h =
-    let e : 24 - i ≡ suc (24 - suc i) = omega arith in
-    ap (λ (n : ℕ). blocksFrom table f small n i m) e ∙ ap (λ (k : ℕ). advance table f small i m >>= (λ n. blocksFrom table f small (24 - suc i) k n)) (add-one i)
-
-parts-end : (table : List ℕ) (f : Factors) (small : Bool) (j : ℕ) (m : Model) → j ≡ 25 → fromPart table f small j m ≡ done m
-unfolding fromPart blocksFrom
-parts-end table f small j m e = ap (λ (n : ℕ). fromPart table f small n m) e
-
 pub record Between (table : List ℕ) (small : Bool) (s : List ℕ) (f : Factors) (a : Model) (r2 : Reader) (F : Encoder) (old : List ℕ) (m : Flow) (j : ℕ) (room : List ℕ) : Type 0 where
   pub x : Model
   pub top : x .top ≡ m .top
   pub left : x .left ≡ m .left
   pub above : Flags (m .top)
   pub beside : Flags (m .left)
-  pub going : Going s a r2 F old (fromPart table f small j x) (m .pipe) room
+  pub going : Going s a r2 F old (partsFrom table f small (25 - j) j x) (m .pipe) room
 
 pub record Parting (table : List ℕ) (small : Bool) (s : List ℕ) (m₀ : Flow) (room₀ : List ℕ) (m : Flow) (j : ℕ) (room : List ℕ) : Type 0 where
   pub most : j ≤ 25
@@ -261,23 +214,26 @@ parting-start table small s m room {j} e =
     record {
       most = rw e (bit-most small);
       long = refl;
-      way = λ f t l a r2 F old g. record { x = initial (m .top) (m .left); top = refl; left = refl; above = t; beside = l; going = going-as (parts-start table f small (m .top) (m .left) ∙ ap (λ (n : ℕ). fromPart table f small n (initial (m .top) (m .left))) (sym e)) g };
+      way = λ f t l a r2 F old g. record { x = initial (m .top) (m .left); top = refl; left = refl; above = t; beside = l; going = going-as (residual-parts table f small (m .top) (m .left) ∙ ap (λ (n : ℕ). partsFrom table f small (25 - n) n (initial (m .top) (m .left))) (sym e)) g };
     }
 
 module _ {table : List ℕ} {small : Bool} {s : List ℕ} {m₀ : Flow} {room₀ : List ℕ} {m : Flow} {j : ℕ} {room : List ℕ} (w : Parting table small s m₀ room₀ m j room) where
   pub parting-next : j < 25 → {q : Flow} {new : List ℕ} → PartCopies table small j s m room q new → length new ≡ length room → Parting table small s m₀ room₀ q (j + 1) new
+  unfolding partsFrom
   parting-next h {q} c k =
       record {
         most = omega arith;
         long = k ∙ w .long;
         way = λ f t l a r2 F old g.
             let y = w .way f t l a r2 F old g in
-            let d = going-call (quickPart table f small j (y .x)) (λ n. fromPart table f small (suc j) n) (going-as (parts-next table f small j (y .x) h) (y .going)) (c .copies f (y .x) (y .top) (y .left) (y .above) (y .beside)) in
-            record { x = d .d; top = ap (λ (e : List ℕ × List ℕ). e .0) (sym (d .seen)); left = ap (λ (e : List ℕ × List ℕ). e .1) (sym (d .seen)); above = c .top (y .above); beside = c .left (y .beside); going = going-as (ap (λ (k : ℕ). fromPart table f small k (d .d)) (sym (add-one j))) (d .going) };
+            let n : 25 - j ≡ suc (25 - (j + 1)) = omega arith in
+            let d = going-call (quickPart table f small j (y .x)) (partsFrom table f small (25 - (j + 1)) (suc j)) (going-as (ap (λ (k : ℕ). partsFrom table f small k j (y .x)) n) (y .going)) (c .copies f (y .x) (y .top) (y .left) (y .above) (y .beside)) in
+            record { x = d .d; top = ap (λ (e : List ℕ × List ℕ). e .0) (sym (d .seen)); left = ap (λ (e : List ℕ × List ℕ). e .1) (sym (d .seen)); above = c .top (y .above); beside = c .left (y .beside); going = going-as (ap (λ (k : ℕ). partsFrom table f small (25 - (j + 1)) k (d .d)) (sym (add-one j))) (d .going) };
       }
 
   pub parting-end : 25 ≤ j → ResidualCopies table small false s m₀ room₀ m room
+  unfolding partsFrom
   parting-end h f t l a r2 F old g =
       let y = w .way f t l a r2 F old g in
-      let e : j ≡ 25 = omega (arith, w .most) in
-      going-done (going-as (parts-end table f small j (y .x) e) (y .going)) (λ i. (sym (y .top) i, sym (y .left) i))
+      let e : 25 - j ≡ 0 = omega arith in
+      going-done (going-as (ap (λ (n : ℕ). partsFrom table f small n j (y .x)) e) (y .going)) (λ i. (sym (y .top) i, sym (y .left) i))

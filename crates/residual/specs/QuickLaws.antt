@@ -56,22 +56,22 @@ unfolding blocksFrom partsFrom quickPart
 parts-blocks table f small zero i m = refl
 parts-blocks table f small (suc n) i m = λ p. advance table f small i m >>= (λ x. (ap (λ (k : ℕ). blocksFrom table f small n k x) (add-one i) ∙ parts-blocks table f small n (suc i) x) p)
 
-residual-parts : (table : List ℕ) (f : Factors) (small : Bool) (top left : List ℕ) → residualOf table f small false top left ≡ partsFrom table f small (25 - bitOf small) (bitOf small) (initial top left)
+pub residual-parts : (table : List ℕ) (f : Factors) (small : Bool) (top left : List ℕ) → residualOf table f small false top left ≡ partsFrom table f small (25 - bitOf small) (bitOf small) (initial top left)
 unfolding residualOf partsFrom quickPart
 residual-parts table f true top left = parts-blocks table f true 24 0 (initial top left)
 residual-parts table f false top left = λ p. second table f (initial top left) >>= (λ x. parts-blocks table f false 24 0 x p)
 
 module _ (table : List ℕ) (f : Factors) (small : Bool) where
   -- what a part is read from, and what it makes of the model
-  abbrev oldAt : (j : ℕ) → Model → List ℤ
+  abbrev pub oldAt : (j : ℕ) → Model → List ℤ
   oldAt zero m = replicate 16 (pos 0)
   oldAt (suc i) m = sixteenAt (m .coefficients) (16 * i)
 
-  abbrev afterAt : (j : ℕ) → Model → Coefficients → Model
+  abbrev pub afterAt : (j : ℕ) → Model → Coefficients → Model
   afterAt zero m c = flagged (secondKind f) secondPlace (c .end) (spread (m .coefficients) (samplesOf true (c .values)) 16) (m .empty) m
   afterAt (suc i) m c = flagged (kindOf f small i) (coordinates i) (c .end) (stored (m .coefficients) (16 * i) (c .values)) (m .empty && emptyOf c) m
 
-  part-coded : (j : ℕ) (m : Model) → quickPart table f small j m ≡ (coded table (kindAt f small j) (placeAt j) (m .top) (m .left) (oldAt j m) >>= (λ c. done (afterAt j m c)))
+  pub part-coded : (j : ℕ) (m : Model) → quickPart table f small j m ≡ (coded table (kindAt f small j) (placeAt j) (m .top) (m .left) (oldAt j m) >>= (λ c. done (afterAt j m c)))
   unfolding quickPart second advance
   part-coded zero m = refl
   part-coded (suc i) m = refl
