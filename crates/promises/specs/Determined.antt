@@ -356,6 +356,10 @@ residual-decode-header s r h segment small skip top left out = determined (Resid
 pub residual-decode-header-reads : (s : List ℕ) (r : Reader) (h : List ℤ) (segment : ℕ) (small skip : Bool) (top left : List ℕ) (out : List ℤ) → One (λ o. o ≡ Residual.residualByHeaderReads s r h segment small skip top left out)
 residual-decode-header-reads s r h segment small skip top left out = determined (Residual.residualByHeaderReads s r h segment small skip top left out)
 
+-- residual::contexts::cleared
+pub residual-cleared : (flags : List ℕ) (small : Bool) → One (λ o. o ≡ Residual.cleared small flags)
+residual-cleared flags small = determined (Residual.cleared small flags)
+
 -- ---- planes
 -- planes::paint
 pub planes-paint : (plane : List ℕ) (stride column row size : ℕ) (small : Bool) (mode : ℕ) (modes : List ℕ) (coefficients : List ℤ) (from : ℕ) → One (λ o. o ≡ paintOf plane stride column row size small mode modes (squareBlocks size from coefficients))

@@ -4,6 +4,7 @@ use crate::token::LEADS;
 use crate::token::copy_rest;
 use crate::token::copy_token;
 use coefficients::block::BANDS;
+use residual::contexts::cleared;
 ghost use mathlib.Core.Path.{_≡_};
 ghost use mathlib.Core.Bool.{false};
 ghost use Prim.Native.Nat.{ℕ, _+_, _<_, _≤_};
@@ -14,7 +15,6 @@ ghost use Rattle.header.specs.declared.quantizers.Factors.{Factors};
 ghost use Rattle.numbers.specs.Flags.{bitOf};
 ghost use Rattle.coefficients.specs.Block.{bands, probabilityPlace};
 ghost use Rattle.residual.specs.Quick.{kindAt, placeAt};
-ghost use Rattle.residual.specs.Residual.{cleared};
 ghost use Rattle.recode.specs.BlockCopies.{nearOf, BlockCopies, PartCopies, ResidualCopies};
 
 // Where a block ended, and the pipe after it.
@@ -192,17 +192,6 @@ fn copy_part(s: &[u8], m: Flow, out: &mut [u8], table: &[u8], small: bool, j: us
         top: above,
         left: beside,
     }
-}
-
-// The flags after a skipped macroblock: where its modes are small it has no second-order block, and that flag stays.
-fn cleared(flags: [u8; 9], small: bool) -> [u8; 9]
-    ensures { λ r. ⌜ r ≡ cleared small flags ⌝ }
-{
-    let mut next = [0; 9];
-    if small {
-        next[8] = flags[8];
-    }
-    next
 }
 
 // All blocks of a macroblock that is not skipped.

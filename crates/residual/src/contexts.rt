@@ -45,7 +45,7 @@ pub(crate) fn flagged(flags: [u8; 9], x: usize, on: bool) -> [u8; 9]
 }
 
 // The flags after a skipped macroblock: where its modes are small it has no second-order block, and that flag stays.
-pub(crate) fn cleared(flags: [u8; 9], small: bool) -> [u8; 9]
+pub fn cleared(flags: [u8; 9], small: bool) -> [u8; 9]
     ensures { λ r. ⌜ r ≡ cleared small flags ⌝ }
 {
     let mut next = [0; 9];

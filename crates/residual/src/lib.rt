@@ -25,7 +25,7 @@ ghost use Rattle.residual.specs.Residual.{residualReads, residualByHeade
 
 pub mod answers;
 mod blocks;
-mod contexts;
+pub mod contexts;
 mod flat;
 mod quick;
 
