@@ -5,7 +5,7 @@
 # and program OUT, which builds the program, and need COMMAND PACKAGE.., which installs Debian packages where the command is missing and
 # shows what apt says where that fails.
 
-packages() { DEBIAN_FRONTEND=noninteractive apt-get install -y -q --no-install-recommends "$@"; }
+packages() { DEBIAN_FRONTEND=noninteractive apt-get install -y -q -o DPkg::Lock::Timeout=300 --no-install-recommends "$@"; }
 
 need() {
     local command=$1 log
