@@ -6,7 +6,7 @@ use mathlib.Core.List.{List}
 use lib.Dec.{leb, ltb, eqb}
 use lib.IntN.{ℤ, pos, _-ℤ_}
 use lib.ListN.{length, getD}
-use Rattle.numbers.specs.Lists.{build}
+use Rattle.numbers.specs.Lists.{byteAt, build}
 use Rattle.reader.specs.Boolean.{firstReader}
 use Rattle.tile.specs.declared.Span.{Span}
 use Rattle.tile.specs.declared.Tile.{Tile}
@@ -14,9 +14,6 @@ use Rattle.tile.specs.Partitions.{contentsOf, noSpan}
 use Rattle.picture.specs.Checks.{Call, callOf}
 
 -- ---- numbers of one, two and four bytes
-abbrev pub byteAt : List ℕ → ℕ → ℕ
-byteAt s i = getD s i 0
-
 -- two bytes, the higher first
 unfoldable pub halfAt : List ℕ → ℕ → ℕ
 halfAt s i = byteAt s i * 256 + byteAt s (i + 1)

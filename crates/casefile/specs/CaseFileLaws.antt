@@ -11,6 +11,7 @@ use lib.Dec.{leb, eqb}
 use lib.IntN.{ℤ, pos, negsuc, _-ℤ_}
 use mir.Syntax.{w32}
 use lib.ListN.{length}
+use Rattle.numbers.specs.Lists.{byteAt}
 use Rattle.numbers.specs.Tests.{lt-or, both-left, both-right}
 use Rattle.numbers.specs.In.{In}
 use Rattle.numbers.specs.Know.{Know, num, plainly, round, wider, know-sub}
@@ -20,7 +21,7 @@ use Rattle.reader.specs.Boolean.{firstReader}
 use Rattle.tile.specs.declared.Span.{Span}
 use Rattle.tile.specs.declared.Tile.{Tile}
 use Rattle.tile.specs.Partitions.{contentsOf, noSpan}
-use Rattle.casefile.specs.CaseFile.{byteAt, halfAt, wordAt, caseSigned, caseWidth, caseHeight, caseCount, caseVersion, restOf, entryAt, lengthAt, startAt, partitionAt, slotOf, caseSpans, caseWhole, wellFormed, caseTile}
+use Rattle.casefile.specs.CaseFile.{halfAt, wordAt, caseSigned, caseWidth, caseHeight, caseCount, caseVersion, restOf, entryAt, lengthAt, startAt, partitionAt, slotOf, caseSpans, caseWhole, wellFormed, caseTile}
 
 pub record Formed (s : List ℕ) : Type 0 where
   pub long : 2206 ≤ length s

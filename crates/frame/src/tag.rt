@@ -1,4 +1,5 @@
 // What stands before the first partition, as plain bytes (RFC 6386, sections 9.1 and 19.1).
+use numbers::byte_or_zero;
 ghost use mathlib.Core.Path.{_≡_};
 ghost use Prim.Native.Nat.{_<_, _+_};
 ghost use lib.ListN.{getD};
@@ -14,10 +15,7 @@ fn wide(x: u8) -> usize
 fn byte(b: &[u8], i: usize) -> usize
     ensures { λ r. ⌜ (r ≡ getD (now (b .entry)) i 0) × (r < 256) ⌝ }
 {
-    if b.len() <= i {
-        return 0;
-    }
-    wide(b[i])
+    wide(byte_or_zero(b, i))
 }
 
 // Two bytes, and three, the lowest first.

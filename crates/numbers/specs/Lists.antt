@@ -99,6 +99,10 @@ module _ {ℓ} {A : Type ℓ} where
   pub build-constant : (n : ℕ) (v : A) → build n (λ i. v) ≡ replicate n v
   build-constant n v = constant (build n (λ i. v)) n v (length-build n (λ i. v)) (λ i h. getD-build n (λ i. v) i v h)
 
--- ---- every element is a byte
+-- ---- the byte at a place; past the end it is zero
+abbrev pub byteAt : List ℕ → ℕ → ℕ
+byteAt s i = getD s i 0
+
+-- every element is a byte
 abbrev pub Bytes : List ℕ → Type 0
 Bytes s = (i : ℕ) → getD s i 0 < 256

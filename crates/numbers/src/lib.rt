@@ -1,6 +1,7 @@
 // Small functions on numbers that several crates need, and the laws that their proofs cite. All laws stand in specs/, one topic a file;
 // another crate's specs and proofs cite them as `Rattle.numbers.specs.FILE.{NAMES}`.
 ghost use mathlib.Core.Path.{_≡_};
+ghost use Rattle.numbers.specs.Lists.{byteAt};
 ghost use Rattle.numbers.specs.Clamp.{clampZ, upTo};
 ghost use Rattle.numbers.specs.Wrap.{wrap16Of};
 
@@ -50,4 +51,14 @@ pub fn clamp_to(v: i32, top: u8) -> u8
     ensures { λ r. ⌜ r ≡ upTo top v ⌝ }
 {
     clamp(v, 0, top as i32) as u8
+}
+
+// The byte at a place; past the end it is zero.
+pub fn byte_or_zero(s: &[u8], i: usize) -> u8
+    ensures { λ r. ⌜ r ≡ byteAt (now (s .entry)) i ⌝ }
+{
+    if s.len() <= i {
+        return 0;
+    }
+    s[i]
 }

@@ -5,6 +5,7 @@ use mathlib.Core.Path.{_≡_, refl, sym, _∙_}
 use Prim.Native.Nat.{ℕ}
 use mathlib.Core.Bool.{Bool}
 use mathlib.Core.List.{List}
+use Rattle.numbers.specs.Lists.{byteAt}
 use lib.IntN.{ℤ}
 use Rattle.numbers.specs.Clamp.{upTo}
 use Rattle.numbers.specs.Wrap.{wrap16Of}
@@ -103,6 +104,10 @@ determined d = record { answer = d; meets = refl; only = λ x y e f. e ∙ sym f
 -- numbers::wrap16
 pub numbers-wrap16 : (v : ℤ) → One (λ o. o ≡ wrap16Of v)
 numbers-wrap16 v = determined (wrap16Of v)
+
+-- numbers::byte_or_zero
+pub numbers-byte-or-zero : (s : List ℕ) (i : ℕ) → One (λ o. o ≡ byteAt s i)
+numbers-byte-or-zero s i = determined (byteAt s i)
 
 -- numbers::clamp_to
 pub numbers-clamp-to : (v : ℤ) (top : ℕ) → One (λ o. o ≡ upTo top v)

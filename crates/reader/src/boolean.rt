@@ -1,4 +1,5 @@
 // The boolean decoder (RFC 6386, section 7.3). A reader is four numbers by value; the partition's bytes stand beside it.
+use numbers::byte_or_zero;
 ghost use mathlib.Core.Path.{_≡_};
 ghost use Prim.Native.Nat.{_<_, _≤_, _*_, _%_, _^_};
 ghost use lib.Dec.{eqb, leb};
@@ -57,10 +58,7 @@ fn times(x: u32, k: u32) -> u32
 fn byte_at(s: &[u8], at: usize) -> u32
     ensures { λ r. ⌜ (r ≡ getD (now (s .entry)) at 0) × (r < 256) ⌝ }
 {
-    if s.len() <= at {
-        return 0;
-    }
-    wide(s[at])
+    wide(byte_or_zero(s, at))
 }
 
 // Whether the eight bits that decide a symbol lie in s, for a reader whose place is past the end: only right after the first load that

@@ -5,6 +5,7 @@ use mathlib.Core.Bool.{Bool, true, false, _&&_, _||_}
 use mathlib.Core.List.{List, [], _∷_, _++_}
 use lib.Dec.{leb, eqb}
 use lib.ListN.{length, getD, drop, replicate}
+use Rattle.numbers.specs.Lists.{byteAt}
 use Rattle.webp.specs.declared.read.Found.{Found}
 use Rattle.webp.specs.declared.write.WrapAnswer.{WrapAnswer}
 use Rattle.webp.specs.declared.read.Found.the-variants as F
@@ -12,10 +13,6 @@ use Rattle.webp.specs.declared.write.WrapAnswer.the-variants as W
 
 -- ---- terminology and basics, before 2.3 RIFF file format: uint32, FourCC; then 2.3, the chunk
 -- uint32: a 32-bit, little-endian, unsigned integer
-abbrev pub byteAt : List ℕ → ℕ → ℕ
-byteAt s i = getD s i 0
-
--- four bytes, the lowest first
 unfoldable pub uint32At : List ℕ → ℕ → ℕ
 uint32At s i = byteAt s i + 256 * byteAt s (i + 1) + 65536 * byteAt s (i + 2) + 16777216 * byteAt s (i + 3)
 

@@ -12,9 +12,9 @@ use lib.Seq.{take-append-seam, drop-drop, getD-take, getD-drop, getD-append-add,
 use borrow.Author.Tests.{eqb-true, eq-eqb}
 pub use Rattle.numbers.specs.Lists.{Bytes}
 use Rattle.numbers.specs.Tests.{eq-or, both-left, both-right, both-true}
-use Rattle.numbers.specs.Lists.{build-listed, built, constant, getD-constant, _∷≡_}
+use Rattle.numbers.specs.Lists.{byteAt, build-listed, built, constant, getD-constant, _∷≡_}
 use Rattle.webp.specs.declared.read.Found.the-variants as F
-use Rattle.webp.specs.Webp.{byteAt, uint32At, uint32Of, riff, webp, vp8, fourCCAt, padOf, riffSize, fileOf, markedOf, sizedOf, lossyOf, chunkSize, filledOf, foundRefusal, findOf}
+use Rattle.webp.specs.Webp.{uint32At, uint32Of, riff, webp, vp8, fourCCAt, padOf, riffSize, fileOf, markedOf, sizedOf, lossyOf, chunkSize, filledOf, foundRefusal, findOf}
 use Rattle.webp.specs.ReadLaws.{Fits, fits, fourCC-long, sized-long, filled-even, filled-pad, refusal-none, find-good, find-bad}
 use Rattle.webp.specs.WriteLaws.{headOf, head-length, file-parts, file-length}
 

@@ -2,7 +2,8 @@
 ghost use mathlib.Core.Path.{_≡_};
 ghost use Prim.Native.Nat.{_+_, _<_, _≤_};
 ghost use lib.ListN.{length};
-ghost use Rattle.webp.specs.Webp.{byteAt, uint32At, fourCCAt, markedOf, sizedOf, lossyOf, filledOf, findRefusal, findOf};
+ghost use Rattle.numbers.specs.Lists.{byteAt};
+ghost use Rattle.webp.specs.Webp.{uint32At, fourCCAt, markedOf, sizedOf, lossyOf, filledOf, findRefusal, findOf};
 
 // Where the frame stands in the file.
 pub enum Found {

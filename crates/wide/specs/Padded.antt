@@ -1,4 +1,4 @@
--- A grammar over bytes that zeros follow: each symbol by the rule of `symbolOf` without its refusal, so every run ends in a value.
+-- A grammar over bytes with zero padding: each symbol by the rule of `symbolOf` without its refusal, so every run ends in a value.
 use Prim.Native.Nat.{ℕ, _+_, _-_, _*_}
 use mathlib.Core.List.{List}
 use mathlib.Core.Bool.{Bool}

@@ -1,4 +1,6 @@
-// The boolean decoder with a window of 64 bits over bytes that zeros follow. Every call is total: WideLaws has what it says of a `Reader`.
+// The boolean decoder with a 64-bit window and zero padding. It never fails: the caller checks once whether it ran past the end. WideLaws
+// relates it to a `Reader`.
+use numbers::byte_or_zero;
 use reader::boolean::Reader;
 use std::num::wrapping_add_u64;
 use std::num::wrapping_add_usize;
@@ -36,10 +38,7 @@ fn widest(x: u8) -> u64
 fn byte(s: &[u8], i: usize) -> u64
     ensures { λ r. ⌜ (r ≡ getD (now (s .entry)) i 0) × (r < 256) ⌝ }
 {
-    if s.len() <= i {
-        return 0;
-    }
-    widest(s[i])
+    widest(byte_or_zero(s, i))
 }
 
 // Four bytes as a number, the first the highest.
