@@ -15,7 +15,7 @@ CHAPTERS = [
     ("Tokens and coefficients", "section 13", ["reader/Token", "coefficients", "residual"]),
     ("The inverse transforms", "section 14", ["transform"]),
     ("The loop filter", "section 15", ["filter/Strengths", "filter/Kernel", "filter", "deblock"]),
-    ("Lent memory", "", ["lent"]),
+    ("Lent memory", "", ["column", "lent"]),
     ("One macroblock, all of them, the picture call", "sections 2 and 19.3", ["macroblock", "picture"]),
     ("From a frame's bytes to the screen", "sections 9 to 15", ["key_frame"]),
     ("What a cut tile still tells", "request M-108", ["macroblock/Rebuilt", "picture/Halt", "rescue"]),
@@ -25,7 +25,7 @@ CHAPTERS = [
     ("The WebP file", "RFC 9649; request M-113", ["webp"]),
     ("The fast way", "section 7.3", ["wide"]),
     ("Case files", "", ["casefile"]),
-    ("The calls as C sees them", "", ["boundary", "hookbarley"]),
+    ("The calls as C sees them", "", ["boundary", "samples", "files", "hookbarley"]),
 ]
 
 # The crate whose public functions C and Rust link: its contracts are roots of docs/DEFINITIONS.md.

@@ -1,10 +1,4 @@
-pub mod ExplainCalls
-pub mod ExplainCallsLaws
-pub mod FilterCalls
-pub mod FilterCallsLaws
 pub mod FrameCalls
 pub mod FrameCallsLaws
 pub mod TileNumbers
 pub mod TileNumbersLaws
-pub mod WebpCalls
-pub mod WebpCallsLaws

@@ -2,8 +2,8 @@
 use crate::tile_numbers::TILE_NUMBERS;
 use crate::tile_numbers::numbers;
 use crate::tile_numbers::put_numbers;
-use frame::into::take_into;
 use frame::take::Answer;
+use take::take_into;
 ghost use mathlib.Core.Path.{_≡_};
 ghost use Rattle.numbers.specs.Flags.{bitOf};
 ghost use Rattle.boundary.specs.FrameCalls.{numbersOf, tileAfter, FrameCalled, frameCalledOf};

@@ -19,7 +19,7 @@ use Rattle.tile.specs.Partitions.{contentsOf}
 use Rattle.frame.specs.declared.take.Answer.{Answer}
 use Rattle.frame.specs.declared.take.Taken.{Taken}
 use Rattle.frame.specs.Header.{header}
-use Rattle.frame.specs.Tag.{firstSize, widthOf, heightOf, roundedOf, tagFine}
+use Rattle.frame.specs.Tag.{threeAt, firstSize, widthOf, heightOf, roundedOf, tagFine}
 use Rattle.frame.specs.Places.{partitionCount, partitionStart, tokenSpans, tokensInside}
 use Rattle.frame.specs.Fine.{FineTaken}
 use Rattle.frame.specs.HeaderLaws.{header-within}
@@ -27,6 +27,11 @@ use Rattle.frame.specs.Entries.{entries}
 use Rattle.reader.specs.Reads.{Reads}
 use Rattle.frame.specs.PlacesLaws.{inside-all, inside-not}
 use Rattle.frame.specs.Take.{refusedAnswer, nothingTaken, firstOf, sizesPlace, wholeOf, partitionsPlaced, codedOf, givenHeader, takenOf, storedOf, intoOf}
+
+-- nineteen bits
+pub first-small : (b : List ℕ) → Bytes b → firstSize b < 524288
+unfolding threeAt
+first-small b y = omega (arith, y 0, y (0 + 1), y (0 + 2))
 
 module _ (b : List ℕ) where
   pub take-tag : tagFine b ≡ false → nothingTaken 12 ≡ takenOf b

@@ -40,6 +40,12 @@ pub(crate) fn size(b: &[u8]) -> usize
     three(b, 0) / 32
 }
 
+pub fn first_size(b: &[u8]) -> usize
+    ensures { λ r. ⌜ r ≡ firstSize (now (b .entry)) ⌝ }
+{
+    size(b)
+}
+
 pub(crate) fn width(b: &[u8]) -> usize
     ensures { λ r. ⌜ (r ≡ widthOf (now (b .entry))) × (r < 16384) ⌝ }
 {
@@ -53,7 +59,7 @@ pub(crate) fn height(b: &[u8]) -> usize
 }
 
 // A key frame's tag, start code and sizes: what 12 refuses.
-pub(crate) fn good(b: &[u8]) -> bool
+pub fn good(b: &[u8]) -> bool
     ensures { λ r. ⌜ r ≡ tagFine (now (b .entry)) ⌝ }
 {
     let tag = three(b, 0);

@@ -1,11 +1,10 @@
-// THE call: a key frame's own header, made into what the picture call takes.
+// What is taken of a key frame: the coded header, read in the first partition, and behind it the token partitions.
 use crate::coded::coded;
 use crate::entries::entries;
 use crate::fields::Header;
 use crate::literal::nowhere;
 use crate::places::count;
 use crate::places::places;
-use crate::tag::good;
 use crate::tag::height;
 use crate::tag::rounded;
 use crate::tag::size;
@@ -15,13 +14,12 @@ use reader::boolean::open;
 use reader::boolean::valid;
 use tile::Span;
 use tile::Tile;
-use tile::partitions::part;
 ghost use mathlib.Core.Path.{_≡_};
 ghost use Rattle.reader.specs.Boolean.{firstReader};
 ghost use Rattle.reader.specs.Reading.{run};
 ghost use Rattle.frame.specs.Header.{header};
 ghost use Rattle.frame.specs.Fine.{FineTaken};
-ghost use Rattle.frame.specs.Take.{refusedAnswer, nothingTaken, partitionsPlaced, codedOf, takenOf};
+ghost use Rattle.frame.specs.Take.{refusedAnswer, nothingTaken, partitionsPlaced, codedOf};
 
 // A picture's true width and height, in pixels.
 pub struct ShownSize {
@@ -65,7 +63,7 @@ pub fn refused(number: u32) -> Answer
     }
 }
 
-fn nothing(number: u32) -> Taken
+pub fn nothing(number: u32) -> Taken
     ensures { λ r. ⌜ r ≡ nothingTaken number ⌝ }
 {
     Taken {
@@ -114,7 +112,7 @@ fn placed(b: &[u8], h: Header, reader: Reader) -> Taken
 }
 
 // In the first partition: the coded header.
-fn read(b: &[u8], s: &[u8]) -> Taken
+pub fn read(b: &[u8], s: &[u8]) -> Taken
     ensures { λ r. ⌜ r ≡ codedOf (now (b .entry)) (run header (now (s .entry)) (firstReader (now (s .entry)))) ⌝ }
 {
     let q = coded(s, open(s));
@@ -124,27 +122,4 @@ fn read(b: &[u8], s: &[u8]) -> Taken
         return nothing(14);
     }
     placed(b, h, reader)
-}
-
-// A key frame's own header.
-pub fn take(bytes: &[u8]) -> Taken
-    ensures { λ r. ⌜ r ≡ takenOf (now (bytes .entry)) ⌝ }
-{
-    let size = size(bytes);
-    let key = good(bytes);
-    let inside = 10 + size <= bytes.len();
-    if !key {
-        return nothing(12);
-    }
-    if !inside {
-        return nothing(13);
-    }
-    if size < 2 {
-        return nothing(14);
-    }
-    let first = Span {
-        start: 10,
-        len: size,
-    };
-    read(bytes, part(bytes, first))
 }

@@ -1,8 +1,8 @@
 // The deblocking call.
-use boundary::deblocking::deblocked;
+use samples::deblocking::deblocked;
 ghost use mathlib.Core.Path.{_≡_};
 ghost use Rattle.macroblock.specs.Macroblock.{planesOf};
-ghost use Rattle.boundary.specs.FilterCalls.{DeblockCalled, deblockCalledOf};
+ghost use Rattle.samples.specs.FilterCalls.{DeblockCalled, deblockCalledOf};
 
 // Deblocks the planes in place by the strengths that the picture call left. `simple` is true where it is not 0.
 #[no_mangle]

@@ -1,7 +1,7 @@
 // Why an edge filter moved eight samples.
-use boundary::explaining::explained;
+use samples::explaining::explained;
 ghost use mathlib.Core.Path.{_≡_};
-ghost use Rattle.boundary.specs.ExplainCalls.{ExplainCalled, explainCalledOf};
+ghost use Rattle.samples.specs.ExplainCalls.{ExplainCalled, explainCalledOf};
 
 // What `hookbarley_filter` would do to the samples, and why: rule 1..6 and pair 1..6 by number, the samples after the filter, the steps
 // before clipping. 9, both numbers 0, nothing else changed, where one of the three is not eight long.

@@ -1,7 +1,7 @@
 // The edge kernel's call.
-use boundary::filtering::filtered;
+use samples::filtering::filtered;
 ghost use mathlib.Core.Path.{_≡_};
-ghost use Rattle.boundary.specs.FilterCalls.{Filtered, filteredOf};
+ghost use Rattle.samples.specs.FilterCalls.{Filtered, filteredOf};
 
 // The edge kernel on eight samples across an edge, p3 to p0 and q0 to q3, in place; 9 where there are not eight. `simple` and
 // `edge` (a macroblock edge) are true where they are not 0.

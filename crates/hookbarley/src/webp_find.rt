@@ -1,7 +1,7 @@
 // The key frame of a simple lossy WebP file (RFC 9649).
-use boundary::webp_find::webp_found;
+use files::webp_find::webp_found;
 ghost use mathlib.Core.Path.{_≡_};
-ghost use Rattle.boundary.specs.WebpCalls.{WebpFound, webpFoundOf};
+ghost use Rattle.files.specs.WebpCalls.{WebpFound, webpFoundOf};
 
 // The frame's place and length go through `start` and `len`; both are 0 after a refusal.
 #[no_mangle]

@@ -1,7 +1,7 @@
 // A simple lossy WebP file (RFC 9649) written around a key frame.
-use boundary::webp_wrap::webp_wrapped;
+use files::webp_wrap::webp_wrapped;
 ghost use mathlib.Core.Path.{_≡_};
-ghost use Rattle.boundary.specs.WebpCalls.{WebpWrapped, webpWrappedOf};
+ghost use Rattle.files.specs.WebpCalls.{WebpWrapped, webpWrappedOf};
 
 // The file's length goes through `written`; it is 0 after a refusal, and then `out` is as it was.
 #[no_mangle]

@@ -1,5 +1,5 @@
 -- Lent memory as records: those of macroblock columns, the modes of macroblocks, their strengths. Nothing else says what stands where.
-use Prim.Native.Nat.{ℕ, zero, suc, _+_, _*_, _/_, _%_, _<_}
+use Prim.Native.Nat.{ℕ, _+_, _*_, _/_, _<_}
 use mathlib.Core.Path.{_≡_}
 use mathlib.Core.List.{List, [], _∷_, _++_}
 use mathlib.Core.Bool.{Bool, true, false, not, _&&_}
@@ -16,6 +16,7 @@ use Rattle.modes.specs.Answers.{eachBelow}
 use Rattle.modes.specs.Contexts.{contextFine}
 use Rattle.numbers.specs.declared.Checked.{Checked}
 use Rattle.numbers.specs.declared.Checked.the-variants as K
+use Rattle.column.specs.Column.{packedBytes, contextUnpacked}
 use Rattle.lent.specs.declared.columns.ColumnRecord.{ColumnRecord}
 use Rattle.lent.specs.declared.macroblocks.ModeRecord.{ModeRecord}
 use Rattle.lent.specs.declared.macroblocks.StrengthRecord.{StrengthRecord}
@@ -64,25 +65,6 @@ recordFound width mem i =
       | false ↦ record { answer = K.Refused; bytes = replicate width 0 }
     ]
 
--- ---- numbers packed into one
--- numbers below `size` as the digits of one, the first lowest
-unfoldable pub packedOf : (size : ℕ) → List ℕ → ℕ
-packedOf size [] = 0
-packedOf size (x ∷ l) = x + packedOf size l * size
-
--- the n lowest digits of a number, the lowest first
-unfoldable pub digitsOf : (size n : ℕ) → ℕ → List ℕ
-digitsOf size zero v = []
-digitsOf size (suc n) v = v % size ∷ digitsOf size n (v / size)
-
--- a 16-bit number, big-endian
-abbrev pub halfBytes : ℕ → List ℕ
-halfBytes v = v / 256 % 256 ∷ v % 256 ∷ []
-
--- the number that the bytes at two places hold
-abbrev pub halfOf : (high low : ℕ) → ℕ
-halfOf high low = high * 256 + low
-
 -- ---- a macroblock column: the context that the macroblock above leaves, four modes and nine flags, in one of two forms
 -- the form of the call since request M-107, and the one before it
 pub data Form : Type 0 where
@@ -94,15 +76,14 @@ abbrev pub formWidth : Form → ℕ
 formWidth packed = 4
 formWidth old = 13
 
--- the bytes of a context. Packed: four modes of four bits, the first lowest, in a 16-bit number; then nine flags of one bit, the first
--- lowest, in another, the bits above them 0. Before: four modes, then nine flags, a byte each
+-- the bytes of a context: packed, or before that four modes, then nine flags, a byte each
 abbrev pub columnBytes : Form → Context → List ℕ
-columnBytes packed c = halfBytes (packedOf 16 (c .modes)) ++ halfBytes (packedOf 2 (c .flags))
+columnBytes packed c = packedBytes c
 columnBytes old c = c .modes ++ c .flags
 
 -- the context that a column's bytes hold
 abbrev pub contextIn : Form → List ℕ → Context
-contextIn packed b = record { modes = digitsOf 16 4 (halfOf (getD b 0 0) (getD b 1 0)); flags = digitsOf 2 9 (halfOf (getD b 2 0) (getD b 3 0)) }
+contextIn packed b = contextUnpacked b
 contextIn old b = record { modes = bytesOf 0 4 b; flags = bytesOf 4 9 b }
 
 -- the context of column x

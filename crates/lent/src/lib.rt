@@ -2,6 +2,5 @@
 // of macroblock columns (columns) and those of macroblocks, modes and strengths (macroblocks).
 pub mod columns;
 pub mod macroblocks;
-pub mod memory;
 pub mod records;
 pub mod sizes;

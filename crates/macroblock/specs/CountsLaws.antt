@@ -23,7 +23,7 @@ use Rattle.macroblock.specs.declared.arguments.Readers.{Readers}
 use Rattle.macroblock.specs.declared.arguments.SymbolCounts.{SymbolCounts}
 use Rattle.macroblock.specs.declared.arguments.Around.{Around}
 use Rattle.macroblock.specs.Macroblock.{Planes, readyOf, placeFine}
-use Rattle.macroblock.specs.MacroblockLaws.{Ready, Laid}
+use Rattle.macroblock.specs.Asked.{Ready, Laid}
 use Rattle.macroblock.specs.DecodeLaws.{ready-test, laid-test}
 use Rattle.macroblock.specs.Counts.{noReads, macroblockTokenReads, readsOf, decodeReads, AtMost}
 

@@ -6,6 +6,8 @@ use mathlib.Core.List.{List}
 use native.Mathlib.Nat.{mul-div-cancel}
 use native.Mathlib.Omega.{arith}
 use borrow.Author.Tests.{eqb-true, ltb-true, leb-true, lt-ltb, le-ltb, le-leb, lt-leb, eq-eqb}
+use mir.Syntax.{w8}
+use mir.Val.{Fits}
 use lib.Dec.{ltb, leb, eqb}
 use lib.ListN.{length, getD, List·getD-eq-default}
 use Rattle.header.specs.Entries.{probabilityCount}
@@ -19,15 +21,14 @@ use Rattle.modes.specs.Contexts.{contextFine}
 use Rattle.modes.specs.ContextsLaws.{contexts-fine}
 use Rattle.residual.specs.Residual.{Flags}
 use Rattle.header.specs.declared.frame.Frame.{Frame}
-use Rattle.header.specs.FrameLaws.{Probabilities, Sound}
 use Rattle.macroblock.specs.declared.arguments.Place.{Place}
 use Rattle.macroblock.specs.declared.arguments.Readers.{Readers}
 use Rattle.macroblock.specs.declared.arguments.Around.{Around}
-use Rattle.macroblock.specs.declared.whole.Outcome.{Outcome}
-use Rattle.macroblock.specs.declared.whole.Finish.the-variants as F
+use Rattle.macroblock.specs.declared.ending.Outcome.{Outcome}
+use Rattle.macroblock.specs.declared.ending.Finish.the-variants as F
 use Rattle.header.specs.Frame.{levelAt}
 use Rattle.macroblock.specs.Macroblock.{Planes, Step, finished, no-modes, no-tokens, MacroblockCalled, toMacroblockCalled, levelsFine, readyOf, placeFine, stepOf, macroblockCallOf, noOutcome, finishNumberOf}
-use Rattle.macroblock.specs.MacroblockLaws.{Laid, Ready}
+use Rattle.macroblock.specs.Asked.{Laid, Ready, FrameSizes, AroundSizes}
 
 -- ---- levels
 pub levels-fact : (l : List ℕ) → length l ≡ 4 → levelsFine l ≡ true → (i : ℕ) → getD l i 0 ≤ 63
@@ -64,15 +65,9 @@ pub context-test : (c : Context) → eachBelow 10 (c .modes) ≡ true → Flags 
 context-test c e f = both-true e (each-all 2 (c .flags) (λ i h. omega (arith, f .each i)))
 
 -- ---- what is read
--- what the types of a frame and of two contexts say: the arrays' lengths, and that a byte is one
-pub record FrameSizes (f : Frame) : Type 0 where
-  pub large : length (f .large) ≡ 4
-  pub small : length (f .small) ≡ 4
-  pub probabilities : Probabilities (f .announced)
-
-pub record AroundSizes (around : Around) : Type 0 where
-  pub top : length (around .top .flags) ≡ 9
-  pub left : length (around .left .flags) ≡ 9
+-- what the type of a frame says
+pub frame-sized : (f : Frame) → length (f .large) ≡ 4 → length (f .small) ≡ 4 → ((i : ℕ) → Fits w8 (getD (f .announced .«map_probabilities») i 0)) → Fits w8 (f .announced .«skip_probability») → FrameSizes f
+frame-sized f e g h k = record { large = e; small = g; probabilities = record { map = λ i. h i .fits; skip = k .fits } }
 
 module _ (first tokens : List ℕ) (readers : Readers) (f : Frame) (table : List ℕ) (around : Around) where
   pub ready-out : FrameSizes f → AroundSizes around → readyOf first tokens readers f (length table) around ≡ true → Ready first tokens readers f table around

@@ -1,4 +1,6 @@
 pub mod Macroblock
+pub mod Ending
+pub mod Asked
 pub mod Source
 pub mod MacroblockLaws
 pub mod DecodeLaws

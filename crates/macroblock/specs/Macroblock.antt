@@ -23,9 +23,9 @@ use Rattle.filter.specs.Strengths.{strengthOf, noStrength}
 use Rattle.macroblock.specs.declared.arguments.Place.{Place}
 use Rattle.macroblock.specs.declared.arguments.Readers.{Readers}
 use Rattle.macroblock.specs.declared.arguments.Around.{Around}
-use Rattle.macroblock.specs.declared.whole.Outcome.{Outcome}
-use Rattle.macroblock.specs.declared.whole.Finish.{Finish}
-use Rattle.macroblock.specs.declared.whole.Finish.the-variants as F
+use Rattle.macroblock.specs.declared.ending.Outcome.{Outcome}
+use Rattle.macroblock.specs.declared.ending.Finish.{Finish}
+use Rattle.macroblock.specs.declared.ending.Finish.the-variants as F
 
 -- ---- the three planes, before a macroblock and after it
 pub record Planes : Type 0 where
@@ -152,13 +152,19 @@ toMacroblockCalled old no-tokens = record { answer = noOutcome F.NoTokens; plane
 abbrev pub levelsFine : List ℕ → Bool
 levelsFine l = (leb (getD l 0 0) 63 && leb (getD l 1 0) 63) && (leb (getD l 2 0) 63 && leb (getD l 3 0) 63)
 
+-- of either kind of modes
+abbrev pub frameFine : Frame → Bool
+frameFine f = levelsFine (f .large) && levelsFine (f .small)
+
+-- the contexts above and to the left
+abbrev pub aroundFine : Around → Bool
+aroundFine around = contextFine (around .top) && contextFine (around .left)
+
 -- all that is read is in range
 unfoldable pub readyOf : (first tokens : List ℕ) → Readers → Frame → (size : ℕ) → Around → Bool
 readyOf first tokens readers f size around =
     (validOf first (readers .first) && validOf tokens (readers .token))
-    && (eqb size probabilityCount
-    && ((contextFine (around .top) && contextFine (around .left))
-    && (levelsFine (f .large) && levelsFine (f .small))))
+    && (eqb size probabilityCount && (aroundFine around && frameFine f))
 
 -- where it is painted: planes of whole macroblocks, by their lengths, at most 16384 samples wide and high, and this one among them
 unfoldable pub placeFine : (y u v : ℕ) → Place → Bool

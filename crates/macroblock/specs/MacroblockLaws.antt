@@ -1,84 +1,46 @@
 -- The laws of one macroblock: what its inner functions ask, and what its three squares and its two grammars give.
-use Prim.Native.Nat.{ℕ, _+_, _*_, _/_, _≤_, _<_}
+use Prim.Native.Nat.{ℕ, _+_, _*_, _/_, _≤_}
 use mathlib.Core.Path.{_≡_, refl, sym, _∙_, ap}
 use mathlib.Core.Logic.{⊎-elim, inl, inr}
-use mathlib.Core.Bool.{Bool, true, false}
+use mathlib.Core.Bool.{Bool, true, false, not, _||_}
 use mathlib.Core.List.{List}
 use native.Mathlib.Omega.{arith}
 use lib.IntN.{ℤ, pos, negsuc}
 use lib.ListN.{length, getD, take, drop, length-take, length-drop, replicate, List·getD-eq-default}
 use lib.Seq.{getD-take, getD-drop, length-take-le, take-all, drop-drop}
-use Rattle.header.specs.Entries.{probabilityCount}
 use Rattle.numbers.specs.Tests.{lt-or, never}
 use Rattle.numbers.specs.In.{In, Each}
 use Rattle.numbers.specs.Parts.{of-le}
 use Rattle.reader.specs.declared.boolean.Reader.{Reader}
 use Rattle.reader.specs.Boolean.{Given, given, missing}
-use Rattle.reader.specs.BooleanLaws.{Valid}
 use Rattle.reader.specs.Reading.{run}
 use Rattle.header.specs.declared.frame.Frame.{Frame}
-use Rattle.header.specs.Frame.{factorsAt}
+use Rattle.header.specs.Frame.{factorsAt, levelAt}
 use Rattle.header.specs.FrameLaws.{Sound}
 use Rattle.modes.specs.declared.contexts.Context.{Context}
 use Rattle.modes.specs.Modes.{Macroblock, modesOf, bottomOf, rightOf}
 use Rattle.modes.specs.ModesLaws.{InRange}
-use Rattle.modes.specs.Answers.{kindsOf, contextsOf}
+use Rattle.modes.specs.Answers.{kindsOf}
 use Rattle.modes.specs.Contexts.{emptyContext}
 use Rattle.transform.specs.Lanes.{byBlocks, macroblockBlocks}
 use Rattle.transform.specs.LanesLaws.{length-by-blocks, blocks-luma, blocks-chroma}
-use Rattle.residual.specs.Residual.{Model, ModelInRange, Flags, residualOf}
+use Rattle.residual.specs.Residual.{Model, ModelInRange, residualOf}
 use Rattle.numbers.specs.declared.Checked.{Checked}
 use Rattle.planes.specs.Paint.{PaintedPlane, paintOf, squareBlocks}
 use Rattle.planes.specs.PaintLaws.{Proper, paint-good, square-taken}
 use Rattle.filter.specs.declared.strengths.Strength.{Strength}
-use Rattle.filter.specs.Strengths.{noStrength}
+use Rattle.filter.specs.Strengths.{noStrength, strengthsValuesOf}
+use Rattle.filter.specs.StrengthsLaws.{strength-good}
 use Rattle.macroblock.specs.declared.arguments.Place.{Place}
 use Rattle.macroblock.specs.declared.arguments.Readers.{Readers}
 use Rattle.macroblock.specs.declared.arguments.Around.{Around}
-use Rattle.macroblock.specs.declared.whole.Finish.{Finish}
-use Rattle.macroblock.specs.declared.whole.Finish.the-variants as F
-use Rattle.macroblock.specs.declared.whole.Outcome.{Outcome}
-use Rattle.macroblock.specs.Macroblock.{Planes, paintedPlanes, strengthMade, below, beside, endOf, afterTokens, afterModes, tokenStep, stepOf, MacroblockCalled, toMacroblockCalled, noOutcome}
-
--- ---- what the inner functions ask
--- the planes hold whole macroblocks, and the one at this place is among them
-pub record Laid (place : Place) (p : Planes) : Type 0 where
-  pub columns : ℕ
-  pub rows : ℕ
-  pub width : place .width ≡ columns * 16
-  pub wide : place .width ≤ 16384
-  pub high : rows * 16 ≤ 16384
-  pub across : place .column < columns
-  pub down : place .row < rows
-  pub luma : length (p .y) ≡ rows * 16 * place .width
-  pub blue : length (p .u) ≡ rows * 8 * (place .width / 2)
-  pub red : length (p .v) ≡ rows * 8 * (place .width / 2)
-
--- what can be painted: modes and coefficients in range
-pub record Painting (m : Macroblock) (c : List ℤ) : Type 0 where
-  pub chroma : m .chroma < 4
-  pub large : m .small ≡ false → getD (m .modes) 0 0 < 4
-  pub small : m .small ≡ true → (k : ℕ) → k < 16 → getD (m .modes) k 0 < 10
-  pub long : length c ≡ 384
-  pub each : Each (negsuc 32767) (pos 32767) c
-
--- what is read, and what it is read by
-pub record Ready (first tokens : List ℕ) (readers : Readers) (f : Frame) (table : List ℕ) (around : Around) : Type 0 where
-  pub reader : Valid first (readers .first)
-  pub token : Valid tokens (readers .token)
-  pub size : length table ≡ probabilityCount
-  pub contexts : contextsOf (around .top .modes) (around .left .modes) ≡ true
-  pub top : Flags (around .top .flags)
-  pub left : Flags (around .left .flags)
-  pub sound : Sound f
-
--- of these, what the tokens ask
-pub record Tokens (tokens : List ℕ) (t : Reader) (f : Frame) (table : List ℕ) (around : Around) : Type 0 where
-  pub token : Valid tokens t
-  pub size : length table ≡ probabilityCount
-  pub top : Flags (around .top .flags)
-  pub left : Flags (around .left .flags)
-  pub sound : Sound f
+use Rattle.macroblock.specs.declared.ending.Finish.{Finish}
+use Rattle.macroblock.specs.declared.ending.Finish.the-variants as F
+use Rattle.macroblock.specs.declared.ending.Outcome.{Outcome}
+use Rattle.macroblock.specs.declared.ending.Residue.{Residue}
+use Rattle.macroblock.specs.Macroblock.{Planes, finished, paintedPlanes, below, beside, endOf, afterTokens, afterModes, tokenStep, stepOf, toMacroblockCalled, noOutcome}
+use Rattle.macroblock.specs.Ending.{squaresOf, residueOf, endOutcome, macroblockEnded}
+use Rattle.macroblock.specs.Asked.{Laid, Painting, tokensCalled}
 
 -- ---- the three squares
 -- a part of numbers in range
@@ -138,19 +100,13 @@ module _ {place : Place} {p : Planes} {m : Macroblock} {c : List ℤ} (g : Laid 
         fit = each-part c 64 k (h .each);
       }
 
-  -- what the three calls answer
-  plane-is : {a : Checked} {q : List ℕ} {o r : PaintedPlane} → record { answer = a; plane = q } ≡ o → o ≡ r → q ≡ r .plane
-  plane-is e f = ap (λ (x : PaintedPlane). x .plane) (e ∙ f)
-
-  pub planes-painted : {a b d : Checked} {y u v : List ℕ}
-      → record { answer = a; plane = y } ≡ paintOf (p .y) w column row 16 (m .small) (getD (m .modes) 0 0) (m .modes) (take 256 c)
-      → record { answer = b; plane = u } ≡ paintOf (p .u) (w / 2) column row 8 false (m .chroma) (m .modes) (take 64 (drop 256 c))
-      → record { answer = d; plane = v } ≡ paintOf (p .v) (w / 2) column row 8 false (m .chroma) (m .modes) (take 64 (drop 320 c))
-      → _≡_ {A = Planes} (record { y = y; u = u; v = v }) (paintedPlanes place m c p)
-  planes-painted e f k =
-      let a = plane-is e (paint-good (p .y) w column row 16 (m .small) (getD (m .modes) 0 0) (m .modes) (take 256 c) luma-proper) in
-      let b = plane-is f (paint-good (p .u) (w / 2) column row 8 false (m .chroma) (m .modes) (take 64 (drop 256 c)) (chroma-proper (p .u) (g .blue) 256 (omega arith))) in
-      let d = plane-is k (paint-good (p .v) (w / 2) column row 8 false (m .chroma) (m .modes) (take 64 (drop 320 c)) (chroma-proper (p .v) (g .red) 320 (omega arith))) in
+  -- where all is in range, each is painted
+  pub squares-good : squaresOf place m c p ≡ paintedPlanes place m c p
+  squares-good =
+      let plane : PaintedPlane → List ℕ = λ x. x .plane in
+      let a = ap plane (paint-good (p .y) w column row 16 (m .small) (getD (m .modes) 0 0) (m .modes) (take 256 c) luma-proper) in
+      let b = ap plane (paint-good (p .u) (w / 2) column row 8 false (m .chroma) (m .modes) (take 64 (drop 256 c)) (chroma-proper (p .u) (g .blue) 256 (omega arith))) in
+      let d = ap plane (paint-good (p .v) (w / 2) column row 8 false (m .chroma) (m .modes) (take 64 (drop 320 c)) (chroma-proper (p .v) (g .red) 320 (omega arith))) in
       λ i. record { y = a i; u = b i; v = d i }
 
 -- ---- their coefficients, of those by lanes
@@ -167,44 +123,50 @@ module _ (l : List ℤ) (long : length l ≡ 384) where
       ∙ square-taken 8 from (drop 256 l) (inl refl) e
       ∙ ap (λ (x : List ℤ). take 64 (drop (16 * from) x)) (sym (blocks-chroma l)) ∙ ap (take 64) (drop-drop (16 * from) 256 (macroblockBlocks l))
 
-  module _ {place : Place} {p : Planes} {m : Macroblock} (g : Laid place p) (h : Painting m (macroblockBlocks l)) {a b d : Checked} {y u v : List ℕ} where
-    pub squares-painted : record { answer = a; plane = y } ≡ paintOf (p .y) (place .width) (place .column) (place .row) 16 (m .small) (getD (m .modes) 0 0) (m .modes) (squareBlocks 16 0 (take 256 l))
+  -- what the three calls answer
+  plane-is : {a : Checked} {q : List ℕ} {o r : PaintedPlane} → record { answer = a; plane = q } ≡ o → o ≡ r → q ≡ r .plane
+  plane-is e f = ap (λ (x : PaintedPlane). x .plane) (e ∙ f)
+
+  module _ (place : Place) (p : Planes) (m : Macroblock) {a b d : Checked} {y u v : List ℕ} where
+    pub squares-made : record { answer = a; plane = y } ≡ paintOf (p .y) (place .width) (place .column) (place .row) 16 (m .small) (getD (m .modes) 0 0) (m .modes) (squareBlocks 16 0 (take 256 l))
         → record { answer = b; plane = u } ≡ paintOf (p .u) (place .width / 2) (place .column) (place .row) 8 false (m .chroma) (m .modes) (squareBlocks 8 0 (take 128 (drop 256 l)))
         → record { answer = d; plane = v } ≡ paintOf (p .v) (place .width / 2) (place .column) (place .row) 8 false (m .chroma) (m .modes) (squareBlocks 8 4 (take 128 (drop 256 l)))
-        → _≡_ {A = Planes} (record { y = y; u = u; v = v }) (paintedPlanes place m (macroblockBlocks l) p)
-    squares-painted e f k =
-        planes-painted g h
-        (e ∙ ap (paintOf (p .y) (place .width) (place .column) (place .row) 16 (m .small) (getD (m .modes) 0 0) (m .modes)) luma-square)
-        (f ∙ ap (paintOf (p .u) (place .width / 2) (place .column) (place .row) 8 false (m .chroma) (m .modes)) (chroma-square 0))
-        (k ∙ ap (paintOf (p .v) (place .width / 2) (place .column) (place .row) 8 false (m .chroma) (m .modes)) (chroma-square 4))
+        → _≡_ {A = Planes} (record { y = y; u = u; v = v }) (squaresOf place m (macroblockBlocks l) p)
+    squares-made e f k =
+        let n = plane-is e (ap (paintOf (p .y) (place .width) (place .column) (place .row) 16 (m .small) (getD (m .modes) 0 0) (m .modes)) luma-square) in
+        let o = plane-is f (ap (paintOf (p .u) (place .width / 2) (place .column) (place .row) 8 false (m .chroma) (m .modes)) (chroma-square 0)) in
+        let q = plane-is k (ap (paintOf (p .v) (place .width / 2) (place .column) (place .row) 8 false (m .chroma) (m .modes)) (chroma-square 4)) in
+        λ i. record { y = n i; u = o i; v = q i }
 
 -- ---- the answers
 pub nothing-is : {a : Finish} {x y : Context} → x ≡ emptyContext → y ≡ emptyContext
     → _≡_ {A = Outcome} (record { answer = a; kinds = record { segment = 0; skip = false; small = false; chroma = 0 }; modes = replicate 16 0; strength = noStrength; top = x; left = y }) (noOutcome a)
 nothing-is e f = rw (e, f)
 
--- the answer of a finished macroblock, from its parts
-abbrev pub endOutcome : Frame → Macroblock → (next : Reader) → (top left : List ℕ) → (empty : Bool) → (after : Reader) → Outcome
-endOutcome f m next top left empty after = record {
-  answer = F.Done (record { first = next; token = after });
-  kinds = kindsOf m;
-  modes = m .modes;
-  strength = strengthMade f m empty;
-  top = below m top;
-  left = beside m left;
-}
-
-pub ended-is : (f : Frame) (m : Macroblock) (empty : Bool) {r t : Reader} {top left : List ℕ} {x : Strength} {a b : List ℕ}
-    → x ≡ strengthMade f m empty → a ≡ bottomOf (m .modes) → b ≡ rightOf (m .modes)
+pub ended-is : (f : Frame) (m : Macroblock) (d : Residue) {r : Reader} {x : Strength} {a b : List ℕ} → x ≡ endOutcome f m r d .strength → a ≡ bottomOf (m .modes) → b ≡ rightOf (m .modes)
     → _≡_ {A = Outcome}
-    (record { answer = F.Done (record { first = r; token = t }); kinds = kindsOf m; modes = m .modes; strength = x; top = record { modes = a; flags = top }; left = record { modes = b; flags = left } })
-    (endOutcome f m r top left empty t)
-ended-is f m empty e g h = rw (e, g, h)
+    (record { answer = F.Done (record { first = r; token = d .after }); kinds = kindsOf m; modes = m .modes; strength = x; top = record { modes = a; flags = d .top }; left = record { modes = b; flags = d .left } })
+    (endOutcome f m r d)
+ended-is f m d e g h = rw (e, g, h)
+
+-- no level, where there is no such segment
+pub level-none : (f : Frame) (small : Bool) {segment : ℕ} → length (f .large) ≡ 4 → length (f .small) ≡ 4 → 4 ≤ segment → 0 ≡ levelAt f small segment
+level-none f true {segment} e g h = sym (List·getD-eq-default (f .small) 0 {n = segment} (omega (arith, g)))
+level-none f false {segment} e g h = sym (List·getD-eq-default (f .large) 0 {n = segment} (omega (arith, e)))
+
+-- THE LAW of the end: where all is in range, it is the macroblock
+pub complete-good : (f : Frame) (place : Place) (p : Planes) (m : Macroblock) (next : Reader) (d : Model) (after : Reader) → Sound f → Laid place p → Painting m (d .coefficients)
+    → macroblockEnded f place m next (residueOf d after) (d .coefficients) p ≡ toMacroblockCalled p (finished (endOf f place p m next d after))
+unfolding endOf
+complete-good f place p m next d after s g h =
+    let e = ap strengthsValuesOf (strength-good (levelAt f (m .small) (m .segment)) (f .sharp) (m .small || not (d .empty)) (s .levels (m .small) (m .segment))) in
+    let k = squares-good g h in
+    λ i. record {
+      answer = record { answer = F.Done (record { first = next; token = after }); kinds = kindsOf m; modes = m .modes; strength = e i; top = below m (d .top); left = beside m (d .left) };
+      planes = k i;
+    }
 
 -- ---- from where the modes are read
-unfoldable pub tokensCalled : (tokens : List ℕ) → Reader → Frame → (table : List ℕ) → Around → Place → Macroblock → (next : Reader) → Planes → MacroblockCalled
-tokensCalled tokens t f table around place m next p = toMacroblockCalled p (tokenStep tokens t f table around place p m next)
-
 module _ (tokens : List ℕ) (t : Reader) (f : Frame) (table : List ℕ) (around : Around) (place : Place) (m : Macroblock) (next : Reader) (p : Planes) where
   abbrev given-tokens : Given Model
   given-tokens = run (residualOf table (factorsAt f (m .segment)) (m .small) (m .skip) (around .top .flags) (around .left .flags)) tokens t
@@ -213,11 +175,9 @@ module _ (tokens : List ℕ) (t : Reader) (f : Frame) (table : List ℕ) (around
   unfolding tokensCalled
   tokens-missing e g = rw g (sym (ap (λ (x : Given Model). toMacroblockCalled p (afterTokens (endOf f place p m next) x)) e))
 
-  pub tokens-done : {d : Model} {q : Reader} → given-tokens ≡ given d q
-      → {x : Outcome} → x ≡ endOutcome f m next (d .top) (d .left) (d .empty) q → {z : Planes} → z ≡ paintedPlanes place m (d .coefficients) p
-      → record { answer = x; planes = z } ≡ tokensCalled tokens t f table around place m next p
-  unfolding tokensCalled endOf
-  tokens-done e g h = rw (g, h) (sym (ap (λ (x : Given Model). toMacroblockCalled p (afterTokens (endOf f place p m next) x)) e))
+  pub tokens-done : {d : Model} {q : Reader} → given-tokens ≡ given d q → toMacroblockCalled p (finished (endOf f place p m next d q)) ≡ tokensCalled tokens t f table around place m next p
+  unfolding tokensCalled
+  tokens-done e = sym (ap (λ (x : Given Model). toMacroblockCalled p (afterTokens (endOf f place p m next) x)) e)
 
 -- modes and coefficients that were read can be painted
 pub painting : {m : Macroblock} {d : Model} → InRange m → ModelInRange d → Painting m (d .coefficients)

@@ -9,13 +9,12 @@ use Rattle.reader.specs.Reading.{run}
 use Rattle.reader.specs.declared.boolean.Reader.{Reader}
 use Rattle.header.specs.declared.frame.Frame.{Frame}
 use Rattle.modes.specs.Modes.{modesOf}
-use Rattle.modes.specs.Contexts.{contextFine}
 use Rattle.residual.specs.Residual.{Model, initial}
 use Rattle.macroblock.specs.declared.arguments.Place.{Place}
 use Rattle.macroblock.specs.declared.arguments.Readers.{Readers}
 use Rattle.macroblock.specs.declared.arguments.Around.{Around}
-use Rattle.macroblock.specs.declared.whole.Finish.the-variants as F
-use Rattle.macroblock.specs.Macroblock.{Planes, Step, finished, endOf, afterModes, MacroblockCalled, toMacroblockCalled, noOutcome, levelsFine, placeFine}
+use Rattle.macroblock.specs.declared.ending.Finish.the-variants as F
+use Rattle.macroblock.specs.Macroblock.{Planes, Step, finished, endOf, afterModes, MacroblockCalled, toMacroblockCalled, noOutcome, frameFine, aroundFine, placeFine}
 
 -- no residual: 384 coefficients of 0, empty, and all nine flags 0 on either side
 abbrev pub noResidual : Model
@@ -30,7 +29,7 @@ rebuiltOf first readers f around place p =
 -- ---- the call
 -- what is read is in range: the reader, contexts, levels of at most 63
 unfoldable pub legibleOf : (first : List ℕ) → Reader → Frame → Around → Bool
-legibleOf first r f around = validOf first r && ((contextFine (around .top) && contextFine (around .left)) && (levelsFine (f .large) && levelsFine (f .small)))
+legibleOf first r f around = validOf first r && (aroundFine around && frameFine f)
 
 -- `rebuild`: refused where that or its place is out of range, and then the planes stay
 unfoldable pub rebuildCallOf : (first : List ℕ) → Readers → Frame → Around → Place → Planes → MacroblockCalled

@@ -31,11 +31,13 @@ use Rattle.residual.specs.ResidualLaws.{initial-whole}
 use Rattle.macroblock.specs.declared.arguments.Place.{Place}
 use Rattle.macroblock.specs.declared.arguments.Readers.{Readers}
 use Rattle.macroblock.specs.declared.arguments.Around.{Around}
-use Rattle.macroblock.specs.declared.whole.Outcome.{Outcome}
-use Rattle.macroblock.specs.declared.whole.Finish.the-variants as F
-use Rattle.macroblock.specs.Macroblock.{Planes, Finished, Step, finished, no-modes, no-tokens, MacroblockCalled, toMacroblockCalled, strengthMade, paintedPlanes, endOf, afterModes, noOutcome, levelsFine, placeFine}
-use Rattle.macroblock.specs.MacroblockLaws.{Laid, Ready, Painting, endOutcome, painting}
-use Rattle.macroblock.specs.DecodeLaws.{FrameSizes, AroundSizes, flags-of, context-test, levels-fact, levels-test, levels-of, laid-test}
+use Rattle.macroblock.specs.declared.ending.Outcome.{Outcome}
+use Rattle.macroblock.specs.declared.ending.Finish.the-variants as F
+use Rattle.macroblock.specs.Macroblock.{Planes, Finished, Step, finished, no-modes, no-tokens, toMacroblockCalled, strengthMade, endOf, afterModes, noOutcome, levelsFine, placeFine}
+use Rattle.macroblock.specs.Ending.{residueOf, macroblockEnded}
+use Rattle.macroblock.specs.Asked.{Laid, Ready, Legible, FrameSizes, AroundSizes}
+use Rattle.macroblock.specs.MacroblockLaws.{painting, complete-good}
+use Rattle.macroblock.specs.DecodeLaws.{flags-of, context-test, levels-fact, levels-test, levels-of, laid-test}
 use Rattle.macroblock.specs.StepLaws.{Ends, Elsewhere, finished-is, apart, end-ends, end-outside}
 use Rattle.macroblock.specs.Rebuilt.{noResidual, rebuiltOf, legibleOf, rebuildCallOf}
 
@@ -50,17 +52,7 @@ no-residual = initial-whole no-flags no-flags
 pub no-lanes : macroblockBlocks (replicate 384 (pos 0)) ≡ replicate 384 (pos 0)
 no-lanes = ap macroblockBlocks (squares-zeros {l = replicate 384 (pos 0)} {c = replicate 384 (pos 0)} refl refl) ∙ blocks-of-squares (replicate 384 (pos 0)) (length-replicate 384 (pos 0))
 
-pub no-painting : {m : Macroblock} → InRange m → Painting m (macroblockBlocks (replicate 384 (pos 0)))
-no-painting {m} i = rw no-lanes (painting {d = noResidual} i no-residual)
-
 -- ---- what is read, and what it is read by
-pub record Legible (first : List ℕ) (r : Reader) (f : Frame) (around : Around) : Type 0 where
-  pub reader : Valid first r
-  pub contexts : contextsOf (around .top .modes) (around .left .modes) ≡ true
-  pub top : Flags (around .top .flags)
-  pub left : Flags (around .left .flags)
-  pub sound : Sound f
-
 -- whoever could decode it can rebuild it
 pub ready-legible : {first tokens : List ℕ} {readers : Readers} {f : Frame} {table : List ℕ} {around : Around} → Ready first tokens readers f table around → Legible first (readers .first) f around
 ready-legible g = record { reader = g .reader; contexts = g .contexts; top = g .top; left = g .left; sound = g .sound }
@@ -98,18 +90,11 @@ module _ (first : List ℕ) (r : Reader) (f : Frame) (around : Around) where
       (context-test (around .left) (both-right (eachBelow 10 (around .top .modes)) _ (g .contexts)) (g .left)))
       (both-true (levels-test (f .large) (g .sound .levels false)) (levels-test (f .small) (g .sound .levels true))))
 
--- ---- as the code makes it
--- from where the modes are read
-unfoldable pub bareCalled : Frame → Place → Macroblock → (next token : Reader) → Planes → MacroblockCalled
-bareCalled f place m next token p = toMacroblockCalled p (finished (endOf f place p m next noResidual token))
-
-pub bare-done : (f : Frame) (place : Place) (m : Macroblock) (next token : Reader) (p : Planes) {x : Outcome} {z : Planes}
-    → x ≡ endOutcome f m next (replicate 9 0) (replicate 9 0) true token → z ≡ paintedPlanes place m (macroblockBlocks (replicate 384 (pos 0))) p
-    → record { answer = x; planes = z } ≡ bareCalled f place m next token p
-unfolding bareCalled endOf
-bare-done f place m next token p {x} {z} g h =
-    let e : z ≡ paintedPlanes place m (replicate 384 (pos 0)) p = h ∙ ap (λ (c : List ℤ). paintedPlanes place m c p) no-lanes in
-    λ i. record { answer = g i; planes = e i }
+-- ---- as the code makes it: of coefficients that are zeros by lanes
+pub bare-done : (f : Frame) (place : Place) (p : Planes) (m : Macroblock) (next token : Reader) → Sound f → Laid place p → InRange m
+    → macroblockEnded f place m next (residueOf noResidual token) (macroblockBlocks (replicate 384 (pos 0))) p ≡ toMacroblockCalled p (finished (endOf f place p m next noResidual token))
+bare-done f place p m next token s g h =
+    ap (λ (c : List ℤ). macroblockEnded f place m next (residueOf noResidual token) c p) no-lanes ∙ complete-good f place p m next noResidual token s g (painting h no-residual)
 
 module _ (first : List ℕ) (readers : Readers) (f : Frame) (around : Around) (place : Place) (p : Planes) where
   -- what the grammar of the modes gives
@@ -134,8 +119,7 @@ module _ (first : List ℕ) (readers : Readers) (f : Frame) (around : Around) (p
   pub bare-missing : modesRun ≡ missing → {x : Outcome} → x ≡ noOutcome F.NoModes → record { answer = x; planes = p } ≡ toMacroblockCalled p call
   bare-missing e g = rw (g, rebuilt-no-modes e)
 
-  pub bare-given : {m : Macroblock} {q : Reader} → modesRun ≡ given m q → bareCalled f place m q (readers .token) p ≡ toMacroblockCalled p call
-  unfolding bareCalled
+  pub bare-given : {m : Macroblock} {q : Reader} → modesRun ≡ given m q → toMacroblockCalled p (finished (end m q)) ≡ toMacroblockCalled p call
   bare-given e = rw (rebuilt-done e)
 
   -- there is no other

@@ -24,9 +24,9 @@ use Rattle.planes.specs.Paint.{PaintedPlane, sampleAt, squarePainted, paintOf}
 use Rattle.planes.specs.PaintLaws.{length-paint, paint-bytes, paint-off, paint-good}
 use Rattle.planes.specs.Places.{Outside}
 use Rattle.header.specs.declared.frame.Frame.{Frame}
-use Rattle.macroblock.specs.declared.whole.Finish.{Finish}
-use Rattle.macroblock.specs.declared.whole.Finish.the-variants as F
-use Rattle.macroblock.specs.declared.whole.Outcome.{Outcome}
+use Rattle.macroblock.specs.declared.ending.Finish.{Finish}
+use Rattle.macroblock.specs.declared.ending.Finish.the-variants as F
+use Rattle.macroblock.specs.declared.ending.Outcome.{Outcome}
 use Rattle.macroblock.specs.declared.arguments.Place.{Place}
 use Rattle.macroblock.specs.declared.arguments.Readers.{Readers}
 use Rattle.macroblock.specs.declared.arguments.Around.{Around}
@@ -36,7 +36,8 @@ use Rattle.filter.specs.StrengthsLaws.{limit-most}
 use Rattle.header.specs.Frame.{frameOf, factorsAt, levelAt}
 use Rattle.macroblock.specs.Macroblock.{Planes, Finished, Step, finished, no-modes, no-tokens, MacroblockCalled, toMacroblockCalled, paintedPlanes, strengthMade, below, beside, endOf, afterTokens, afterModes, tokenStep, stepOf, macroblockCallOf, finishNumberOf}
 use Rattle.macroblock.specs.Source.{Source}
-use Rattle.macroblock.specs.MacroblockLaws.{Laid, Painting, Ready, painting, luma-proper, chroma-proper}
+use Rattle.macroblock.specs.Asked.{Laid, Painting, Ready}
+use Rattle.macroblock.specs.MacroblockLaws.{painting, luma-proper, chroma-proper}
 use Rattle.macroblock.specs.DecodeLaws.{context-test, decode-good}
 
 -- ---- a plane in which one square was painted

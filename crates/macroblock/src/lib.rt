@@ -1,6 +1,6 @@
-// One macroblock, whole (its modes, its residual, its samples, its strengths and the contexts it leaves) or rebuilt from its modes alone.
+// One macroblock: what it is given (arguments), whether that lies in its range (checks), and how it ends once its modes and its residual
+// are read (ending).
 pub mod arguments;
-mod checks;
-pub mod rebuilt;
+pub mod checks;
+pub mod ending;
 mod squares;
-pub mod whole;

@@ -6,15 +6,15 @@ ghost use mathlib.Core.Path.{_≡_};
 ghost use lib.ListN.{length};
 ghost use Rattle.transform.specs.Lanes.{macroblockBlocks};
 ghost use Rattle.modes.specs.Answers.{macroblockOf};
-ghost use Rattle.macroblock.specs.Macroblock.{planesOf, paintedPlanes};
-ghost use Rattle.macroblock.specs.MacroblockLaws.{Laid, Painting};
+ghost use Rattle.macroblock.specs.Macroblock.{planesOf};
+ghost use Rattle.macroblock.specs.Ending.{squaresOf};
 
 // Where U's four blocks begin among the eight of chroma, and where V's do.
 const U_FIRST: usize = 0;
 
 const V_FIRST: usize = 4;
 
-// `c` has the coefficients of sixteen blocks of luma by lanes, then of eight of chroma.
+// `c` has the coefficients of sixteen blocks of luma by lanes, then of eight of chroma. A square that cannot be painted stays as it was.
 pub(crate) fn squares(
     y: &mut [u8],
     u: &mut [u8],
@@ -24,10 +24,9 @@ pub(crate) fn squares(
     modes: &[u8; 16],
     c: &[i16],
 )
-    requires { ⌜ Laid place (planesOf (now y) (now u) (now v)) ⌝ }
-    requires { ⌜ (length (now c) ≡ 384) × Painting (macroblockOf kinds (now modes)) (macroblockBlocks (now c)) ⌝ }
+    requires { ⌜ length (now c) ≡ 384 ⌝ }
     ensures { λ q. ⌜ planesOf (now (y .exit)) (now (u .exit)) (now (v .exit))
-        ≡ paintedPlanes place (macroblockOf kinds (now (modes .entry))) (macroblockBlocks (now (c .entry)))
+        ≡ squaresOf place (macroblockOf kinds (now (modes .entry))) (macroblockBlocks (now (c .entry)))
         (planesOf (now (y .entry)) (now (u .entry)) (now (v .entry))) ⌝ }
 {
     let width = place.width;

@@ -6,10 +6,10 @@ use mathlib.Core.List.{List, [], _∷_}
 use mathlib.Core.Path.{_≡_, refl}
 use types.Run.{OneOf}
 use denote.Enum.Declared.{tagOf}
-use Rattle.macroblock.specs.declared.whole.Finish.{Finish}
-use Rattle.macroblock.specs.declared.whole.Finish.the-variants as F
+use Rattle.macroblock.specs.declared.ending.Finish.{Finish}
+use Rattle.macroblock.specs.declared.ending.Finish.the-variants as F
 use Rattle.macroblock.specs.Macroblock.{finishNumberOf}
-use Rattle.macroblock.proofs.whole.Finish as finish
+use Rattle.macroblock.proofs.ending.Finish as finish
 use Rattle.picture.specs.declared.rows.Decoded.the-variants as D
 use Rattle.picture.specs.Picture.{stoppedOf}
 

@@ -10,8 +10,8 @@ use Rattle.reader.specs.Boolean.{noReader}
 use Rattle.reader.specs.BooleanLaws.{Bytes}
 use Rattle.modes.specs.declared.contexts.Context.{Context}
 use Rattle.macroblock.specs.declared.arguments.Readers.{Readers}
-use Rattle.macroblock.specs.declared.whole.Finish.{Finish}
-use Rattle.macroblock.specs.declared.whole.Finish.the-variants as F
+use Rattle.macroblock.specs.declared.ending.Finish.{Finish}
+use Rattle.macroblock.specs.declared.ending.Finish.the-variants as F
 use Rattle.macroblock.specs.Macroblock.{Finished, Step, finished, no-modes, no-tokens, finishNumberOf}
 use Rattle.picture.specs.declared.rows.Decoded.{Decoded}
 use Rattle.picture.specs.declared.rows.Decoded.the-variants as D

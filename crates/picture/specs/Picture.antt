@@ -15,8 +15,8 @@ use Rattle.header.specs.Frame.{frameOf}
 use Rattle.macroblock.specs.declared.arguments.Place.{Place}
 use Rattle.macroblock.specs.declared.arguments.Readers.{Readers}
 use Rattle.macroblock.specs.declared.arguments.Around.{Around}
-use Rattle.macroblock.specs.declared.whole.Finish.{Finish}
-use Rattle.macroblock.specs.declared.whole.Finish.the-variants as F
+use Rattle.macroblock.specs.declared.ending.Finish.{Finish}
+use Rattle.macroblock.specs.declared.ending.Finish.the-variants as F
 use Rattle.macroblock.specs.Macroblock.{Planes, planesOf, Finished, Step, finished, no-modes, no-tokens, stepOf}
 use Rattle.picture.specs.declared.rows.Decoded.{Decoded}
 use Rattle.picture.specs.declared.rows.Decoded.the-variants as D

@@ -23,7 +23,7 @@ use Rattle.lent.specs.MacroblocksLaws.{mode-set-length, strength-set-length}
 use Rattle.header.specs.FrameLaws.{Sound}
 use Rattle.tile.specs.PartitionsLaws.{pick-below}
 use Rattle.macroblock.specs.Macroblock.{Finished, Step, finished, no-modes, no-tokens, stepOf}
-use Rattle.macroblock.specs.MacroblockLaws.{Ready, Laid}
+use Rattle.macroblock.specs.Asked.{Ready, Laid}
 use Rattle.macroblock.specs.DecodeLaws.{flags-of}
 use Rattle.picture.specs.declared.rows.Decoded.the-variants as D
 use Rattle.lent.specs.Memory.{Memory}

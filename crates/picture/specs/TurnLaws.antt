@@ -20,9 +20,9 @@ use Rattle.lent.specs.Records.{Written, recordsIn, columnWidth, modeWidth, stre
 use Rattle.lent.specs.RecordsLaws.{write-good}
 use Rattle.lent.specs.ColumnsLaws.{column-read}
 use Rattle.lent.specs.MacroblocksLaws.{kinds-fine, strength-fine}
-use Rattle.macroblock.specs.declared.whole.Finish.{Finish}
-use Rattle.macroblock.specs.declared.whole.Finish.the-variants as F
-use Rattle.macroblock.specs.declared.whole.Outcome.{Outcome}
+use Rattle.macroblock.specs.declared.ending.Finish.{Finish}
+use Rattle.macroblock.specs.declared.ending.Finish.the-variants as F
+use Rattle.macroblock.specs.declared.ending.Outcome.{Outcome}
 use Rattle.macroblock.specs.declared.arguments.Place.{Place}
 use Rattle.macroblock.specs.declared.arguments.Readers.{Readers}
 use Rattle.macroblock.specs.declared.arguments.SymbolCounts.{SymbolCounts}
@@ -34,7 +34,7 @@ use Rattle.macroblock.specs.DecodeLaws.{decode-good}
 use Rattle.macroblock.specs.StepLaws.{step-ends, step-outside}
 use Rattle.macroblock.specs.StepRecords.{step-strength}
 use Rattle.macroblock.specs.Macroblock.{stepOf, macroblockCallOf, Planes, Finished, Step, finished, no-modes, no-tokens, MacroblockCalled, toMacroblockCalled, shown, finishNumberOf}
-use Rattle.macroblock.specs.MacroblockLaws.{Ready, Laid}
+use Rattle.macroblock.specs.Asked.{Ready, Laid}
 use Rattle.lent.specs.Memory.{Memory, memoryOf}
 use Rattle.picture.specs.Picture.{besideOf, planesIn, written}
 use Rattle.picture.specs.Turn.{Turned, turnedOf, turned, Room}

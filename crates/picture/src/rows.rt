@@ -5,7 +5,7 @@ use header::frame::Frame;
 use macroblock::arguments::Place;
 use macroblock::arguments::Readers;
 use macroblock::arguments::SymbolCounts;
-use macroblock::whole::Finish;
+use macroblock::ending::Finish;
 use modes::contexts::Context;
 use reader::boolean::Reader;
 use tile::Tile;

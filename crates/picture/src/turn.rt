@@ -9,15 +9,15 @@ use macroblock::arguments::Around;
 use macroblock::arguments::Place;
 use macroblock::arguments::Readers;
 use macroblock::arguments::SymbolCounts;
-use macroblock::whole::Finish;
-use macroblock::whole::decode;
+use macroblock::ending::Finish;
 use modes::contexts::Context;
+use whole::decode;
 ghost use mathlib.Core.Path.{_≡_};
 ghost use Rattle.lent.specs.Memory.{memoryOf};
 ghost use Rattle.lent.specs.Records.{packed, columnAt};
 ghost use Rattle.macroblock.specs.Macroblock.{planesOf, stepOf};
 ghost use Rattle.macroblock.specs.Counts.{readsOf};
-ghost use Rattle.macroblock.specs.MacroblockLaws.{Ready, Laid};
+ghost use Rattle.macroblock.specs.Asked.{Ready, Laid};
 ghost use Rattle.picture.specs.Picture.{besideOf};
 ghost use Rattle.picture.specs.Turn.{Room, turnedOf, turned};
 

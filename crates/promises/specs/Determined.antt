@@ -10,6 +10,7 @@ use lib.IntN.{ℤ}
 use Rattle.numbers.specs.Clamp.{upTo}
 use Rattle.numbers.specs.Wrap.{wrap16Of}
 use Rattle.reader.specs.Boolean.{validOf, firstReader, symbolAnswer}
+use Rattle.reader.specs.Reading.{run}
 use Rattle.reader.specs.Counts.{treeCount, tokenCount, extraCount}
 use Rattle.reader.specs.Extra.{extraAnswer}
 use Rattle.header.specs.Header.{presentOf, probabilityOf, presentAt, probabilityAt, entriesOf, headerOf}
@@ -23,17 +24,18 @@ use Rattle.header.specs.Quantizers.{quantizersOf}
 use Rattle.header.specs.declared.quantizers.Factors.{Factors}
 use Rattle.coefficients.specs.Block as Tokens
 use Rattle.coefficients.specs.Block.{numberAnswer, signedAnswer, tableOf}
-use Rattle.transform.specs.Lanes.{residualsOf}
+use Rattle.transform.specs.Lanes.{residualsOf, macroblockBlocks}
 use Rattle.transform.specs.Transform.{transformOf}
 use Rattle.filter.specs.declared.answers.Rule.{Rule}
 use Rattle.filter.specs.Kernel.{samplesAcross, ruleOf, stepsOf, movedOf, filterOf, pixelOf}
 use Rattle.filter.specs.Straight.{actsOf, straightOf}
-use Rattle.modes.specs.Answers.{eachBelow, prefixAnswer, mainAnswer, blockAnswer, smallAnswer, modesAnswer}
+use Rattle.modes.specs.Answers.{eachBelow, macroblockOf, prefixAnswer, mainAnswer, blockAnswer, smallAnswer, modesAnswer}
 use Rattle.filter.specs.Explain.{explainOf}
 use Rattle.modes.specs.Modes as Modes
 use Rattle.modes.specs.Modes.{bottomOf}
 use Rattle.modes.specs.Counts.{modesReads}
 use Rattle.modes.specs.Contexts.{emptyContext, contextFine}
+use Rattle.column.specs.Column.{packedBytes, contextUnpacked}
 use Rattle.lent.specs.Records.{packed, columnWritten, columnFound, modeWritten, modeFound, strengthWritten, strengthFound}
 use Rattle.lent.specs.declared.sizes.Sizes.{Sizes}
 use Rattle.lent.specs.Sizes.{lumaFine, chromaFine, columnsFine, modesFine, strengthsFine, sizesFine}
@@ -50,7 +52,11 @@ use Rattle.header.specs.declared.frame.Announced.{Announced}
 use Rattle.macroblock.specs.declared.arguments.Place.{Place}
 use Rattle.macroblock.specs.declared.arguments.Readers.{Readers}
 use Rattle.macroblock.specs.declared.arguments.Around.{Around}
+use Rattle.macroblock.specs.declared.ending.Finish.{Finish}
+use Rattle.macroblock.specs.declared.ending.ModeData.{ModeData}
+use Rattle.macroblock.specs.declared.ending.Residue.{Residue}
 use Rattle.macroblock.specs.Counts.{decodeReads}
+use Rattle.macroblock.specs.Ending.{macroblockEnded}
 use Rattle.macroblock.specs.Macroblock as Macroblock
 use Rattle.macroblock.specs.Macroblock.{planesOf}
 use Rattle.macroblock.specs.Rebuilt.{rebuildCallOf}
@@ -61,9 +67,9 @@ use Rattle.picture.specs.Checks.{callOf, refusalOf}
 use Rattle.lent.specs.Memory.{memoryOf, filled, blankOf}
 use Rattle.casefile.specs.Run.{ranOf}
 use Rattle.deblock.specs.Deblock.{deblockOf}
-use Rattle.boundary.specs.FilterCalls.{deblockCalledOf, filteredOf}
+use Rattle.samples.specs.FilterCalls.{deblockCalledOf, filteredOf}
 use Rattle.hookbarley.specs.Calls.{calledOf}
-use Rattle.boundary.specs.ExplainCalls.{explainCalledOf}
+use Rattle.samples.specs.ExplainCalls.{explainCalledOf}
 use Rattle.picture.specs.declared.rows.Decoded.{Decoded}
 use Rattle.picture.specs.Picture.{besideOf, numberOf, pictureOf, valuesOf}
 use Rattle.picture.specs.Halt.{haltedOf}
@@ -80,10 +86,12 @@ use Rattle.hookbarley.specs.RecodeCalls.{recodeCalledOf}
 use Rattle.picture.specs.Counts.{costOf}
 use Rattle.boundary.specs.TileNumbers.{tileOfNumbers, numbersOfTile, putOf}
 use Rattle.boundary.specs.FrameCalls.{tileAfter, frameCalledOf}
-use Rattle.boundary.specs.WebpCalls.{webpFoundOf, webpWrappedOf}
+use Rattle.files.specs.WebpCalls.{webpFoundOf, webpWrappedOf}
 use Rattle.frame.specs.declared.take.Answer.{Answer}
 use Rattle.frame.specs.declared.take.ShownSize.{ShownSize}
-use Rattle.frame.specs.Take.{refusedAnswer, takenOf, storedOf, intoOf}
+use Rattle.frame.specs.Header.{header}
+use Rattle.frame.specs.Tag.{firstSize, tagFine}
+use Rattle.frame.specs.Take.{refusedAnswer, nothingTaken, codedOf, takenOf, storedOf, intoOf}
 use Rattle.key_frame.specs.KeyFrame.{keyFrameOf}
 use Rattle.hookbarley.specs.ShowCalls.{showCalledOf}
 use Rattle.webp.specs.Webp.{findOf, wrapOf}
@@ -403,15 +411,16 @@ tile-token bytes tile i = determined (tokenContents bytes tile i)
 pub tile-openers : (bytes : List ℕ) (tile : Tile) → One (λ o. o ≡ readersOf bytes tile)
 tile-openers bytes tile = determined (readersOf bytes tile)
 
+-- ---- column
+-- column::pack
+pub column-pack : (c : Context) → One (λ o. o ≡ packedBytes c)
+column-pack c = determined (packedBytes c)
+
+-- column::unpack
+pub column-unpack : (b : List ℕ) → One (λ o. o ≡ contextUnpacked b)
+column-unpack b = determined (contextUnpacked b)
+
 -- ---- lent
--- lent::memory::fill
-pub lent-fill : (mem : List ℕ) (value : ℕ) → One (λ o. o ≡ filled mem value)
-lent-fill mem value = determined (filled mem value)
-
--- lent::memory::blank
-pub lent-blank : (y u v columns modes strengths : List ℕ) → One (λ o. o ≡ blankOf (memoryOf y u v columns modes strengths))
-lent-blank y u v columns modes strengths = determined (blankOf (memoryOf y u v columns modes strengths))
-
 -- lent::sizes::luma_fine
 pub lent-luma-fine : (w h n : ℕ) → One (λ o. o ≡ lumaFine w h n)
 lent-luma-fine w h n = determined (lumaFine w h n)
@@ -460,19 +469,52 @@ lent-write-strength mem i t kinds = determined (strengthWritten mem i t kinds)
 pub lent-read-strength : (mem : List ℕ) (i : ℕ) → One (λ o. o ≡ strengthFound mem i)
 lent-read-strength mem i = determined (strengthFound mem i)
 
+-- ---- blank
+-- blank::fill
+pub blank-fill : (mem : List ℕ) (value : ℕ) → One (λ o. o ≡ filled mem value)
+blank-fill mem value = determined (filled mem value)
+
+-- blank::blank
+pub blank-blank : (y u v columns modes strengths : List ℕ) → One (λ o. o ≡ blankOf (memoryOf y u v columns modes strengths))
+blank-blank y u v columns modes strengths = determined (blankOf (memoryOf y u v columns modes strengths))
+
 -- ---- macroblock
--- macroblock::whole::decode
-pub macroblock-decode : (first tokens : List ℕ) (readers : Readers) (frame : Frame) (table : List ℕ) (around : Around) (place : Place) (y u v : List ℕ)
+-- macroblock::checks::frame_fine
+pub macroblock-frame-fine : (frame : Frame) → One (λ o. o ≡ Macroblock.frameFine frame)
+macroblock-frame-fine frame = determined (Macroblock.frameFine frame)
+
+-- macroblock::checks::around_fine
+pub macroblock-around-fine : (around : Around) → One (λ o. o ≡ Macroblock.aroundFine around)
+macroblock-around-fine around = determined (Macroblock.aroundFine around)
+
+-- macroblock::checks::laid
+pub macroblock-laid : (y u v : ℕ) (place : Place) → One (λ o. o ≡ Macroblock.placeFine y u v place)
+macroblock-laid y u v place = determined (Macroblock.placeFine y u v place)
+
+-- macroblock::ending::nothing
+pub macroblock-nothing : (answer : Finish) → One (λ o. o ≡ Macroblock.noOutcome answer)
+macroblock-nothing answer = determined (Macroblock.noOutcome answer)
+
+-- macroblock::ending::complete
+pub macroblock-complete : (frame : Frame) (place : Place) (m : ModeData) (residue : Residue) (c : List ℤ) (y u v : List ℕ)
+    → One (λ o. o ≡ macroblockEnded frame place (macroblockOf (m .kinds) (m .modes)) (m .next) residue (macroblockBlocks c) (planesOf y u v))
+macroblock-complete frame place m residue c y u v =
+    determined (macroblockEnded frame place (macroblockOf (m .kinds) (m .modes)) (m .next) residue (macroblockBlocks c) (planesOf y u v))
+
+-- ---- whole
+-- whole::decode
+pub whole-decode : (first tokens : List ℕ) (readers : Readers) (frame : Frame) (table : List ℕ) (around : Around) (place : Place) (y u v : List ℕ)
     → One (λ o. o ≡ Macroblock.macroblockCallOf first tokens readers frame table around place (planesOf y u v))
-macroblock-decode first tokens readers frame table around place y u v = determined (Macroblock.macroblockCallOf first tokens readers frame table around place (planesOf y u v))
+whole-decode first tokens readers frame table around place y u v = determined (Macroblock.macroblockCallOf first tokens readers frame table around place (planesOf y u v))
 
--- macroblock::whole::decode
-pub macroblock-decode-reads : (first tokens : List ℕ) (readers : Readers) (frame : Frame) (table : List ℕ) (around : Around) (place : Place) (y u v : List ℕ) → One (λ o. o ≡ decodeReads first tokens readers frame table around place (planesOf y u v))
-macroblock-decode-reads first tokens readers frame table around place y u v = determined (decodeReads first tokens readers frame table around place (planesOf y u v))
+-- whole::decode
+pub whole-decode-reads : (first tokens : List ℕ) (readers : Readers) (frame : Frame) (table : List ℕ) (around : Around) (place : Place) (y u v : List ℕ) → One (λ o. o ≡ decodeReads first tokens readers frame table around place (planesOf y u v))
+whole-decode-reads first tokens readers frame table around place y u v = determined (decodeReads first tokens readers frame table around place (planesOf y u v))
 
--- macroblock::rebuilt::rebuild
-pub macroblock-rebuild : (first : List ℕ) (readers : Readers) (frame : Frame) (around : Around) (place : Place) (y u v : List ℕ) → One (λ o. o ≡ rebuildCallOf first readers frame around place (planesOf y u v))
-macroblock-rebuild first readers frame around place y u v = determined (rebuildCallOf first readers frame around place (planesOf y u v))
+-- ---- rebuilt
+-- rebuilt::rebuild
+pub rebuilt-rebuild : (first : List ℕ) (readers : Readers) (frame : Frame) (around : Around) (place : Place) (y u v : List ℕ) → One (λ o. o ≡ rebuildCallOf first readers frame around place (planesOf y u v))
+rebuilt-rebuild first readers frame around place y u v = determined (rebuildCallOf first readers frame around place (planesOf y u v))
 
 -- ---- picture
 -- picture::checks::refusal
@@ -561,21 +603,38 @@ pub casefile-run : (file : List ℕ) → One (λ o. o ≡ ranOf file)
 casefile-run file = determined (ranOf file)
 
 -- ---- frame
--- frame::take::take
-pub frame-take : (bytes : List ℕ) → One (λ o. o ≡ takenOf bytes)
-frame-take bytes = determined (takenOf bytes)
+-- frame::tag::first_size
+pub frame-first-size : (b : List ℕ) → One (λ o. o ≡ firstSize b)
+frame-first-size b = determined (firstSize b)
 
--- frame::into::take_into
-pub frame-take-into : (bytes : List ℕ) (header : List ℤ) → One (λ o. o ≡ intoOf bytes header)
-frame-take-into bytes header = determined (intoOf bytes header)
+-- frame::tag::good
+pub frame-good : (b : List ℕ) → One (λ o. o ≡ tagFine b)
+frame-good b = determined (tagFine b)
 
 -- frame::take::refused
 pub frame-refused : (number : ℕ) → One (λ o. o ≡ refusedAnswer number)
 frame-refused number = determined (refusedAnswer number)
 
--- frame::into::store
-pub frame-store : (header entries : List ℤ) → One (λ o. o ≡ storedOf header entries)
-frame-store header entries = determined (storedOf header entries)
+-- frame::take::nothing
+pub frame-nothing : (number : ℕ) → One (λ o. o ≡ nothingTaken number)
+frame-nothing number = determined (nothingTaken number)
+
+-- frame::take::read
+pub frame-read : (b s : List ℕ) → One (λ o. o ≡ codedOf b (run header s (firstReader s)))
+frame-read b s = determined (codedOf b (run header s (firstReader s)))
+
+-- ---- take
+-- take::take
+pub take-take : (bytes : List ℕ) → One (λ o. o ≡ takenOf bytes)
+take-take bytes = determined (takenOf bytes)
+
+-- take::take_into
+pub take-take-into : (bytes : List ℕ) (header : List ℤ) → One (λ o. o ≡ intoOf bytes header)
+take-take-into bytes header = determined (intoOf bytes header)
+
+-- take::store
+pub take-store : (header entries : List ℤ) → One (λ o. o ≡ storedOf header entries)
+take-store header entries = determined (storedOf header entries)
 
 -- ---- key_frame
 -- key_frame::key_frame
@@ -631,27 +690,29 @@ boundary-put-shown tile a = determined (tileAfter tile a)
 pub boundary-frame-taken : (bytes : List ℕ) (header : List ℤ) (tile : List ℕ) → One (λ o. o ≡ frameCalledOf bytes header tile)
 boundary-frame-taken bytes header tile = determined (frameCalledOf bytes header tile)
 
--- boundary::deblocking::deblocked
-pub boundary-deblocked : (y u v strengths : List ℕ) (width height simple : ℕ) → One (λ o. o ≡ deblockCalledOf (planesOf y u v) strengths width height simple)
-boundary-deblocked y u v strengths width height simple = determined (deblockCalledOf (planesOf y u v) strengths width height simple)
+-- ---- samples
+-- samples::deblocking::deblocked
+pub samples-deblocked : (y u v strengths : List ℕ) (width height simple : ℕ) → One (λ o. o ≡ deblockCalledOf (planesOf y u v) strengths width height simple)
+samples-deblocked y u v strengths width height simple = determined (deblockCalledOf (planesOf y u v) strengths width height simple)
 
--- boundary::filtering::filtered
-pub boundary-filtered : (samples : List ℕ) (simple edge limit inner threshold : ℕ) → One (λ o. o ≡ filteredOf samples simple edge limit inner threshold)
-boundary-filtered samples simple edge limit inner threshold = determined (filteredOf samples simple edge limit inner threshold)
+-- samples::filtering::filtered
+pub samples-filtered : (samples : List ℕ) (simple edge limit inner threshold : ℕ) → One (λ o. o ≡ filteredOf samples simple edge limit inner threshold)
+samples-filtered samples simple edge limit inner threshold = determined (filteredOf samples simple edge limit inner threshold)
 
--- boundary::explaining::explained
-pub boundary-explained : (samples : List ℕ) (simple edge limit inner threshold : ℕ) (after : List ℕ) (steps : List ℤ)
+-- samples::explaining::explained
+pub samples-explained : (samples : List ℕ) (simple edge limit inner threshold : ℕ) (after : List ℕ) (steps : List ℤ)
     → One (λ o. o ≡ explainCalledOf samples simple edge limit inner threshold after steps)
-boundary-explained samples simple edge limit inner threshold after steps =
+samples-explained samples simple edge limit inner threshold after steps =
     determined (explainCalledOf samples simple edge limit inner threshold after steps)
 
--- boundary::webp_find::webp_found
-pub boundary-webp-found : (bytes : List ℕ) → One (λ o. o ≡ webpFoundOf bytes)
-boundary-webp-found bytes = determined (webpFoundOf bytes)
+-- ---- files
+-- files::webp_find::webp_found
+pub files-webp-found : (bytes : List ℕ) → One (λ o. o ≡ webpFoundOf bytes)
+files-webp-found bytes = determined (webpFoundOf bytes)
 
--- boundary::webp_wrap::webp_wrapped
-pub boundary-webp-wrapped : (frame out : List ℕ) → One (λ o. o ≡ webpWrappedOf frame out)
-boundary-webp-wrapped frame out = determined (webpWrappedOf frame out)
+-- files::webp_wrap::webp_wrapped
+pub files-webp-wrapped : (frame out : List ℕ) → One (λ o. o ≡ webpWrappedOf frame out)
+files-webp-wrapped frame out = determined (webpWrappedOf frame out)
 
 -- ---- hookbarley
 -- hookbarley::decoding::hookbarley_decode

@@ -46,7 +46,7 @@ use Rattle.lent.specs.Records.{recordAt, recordsIn, packed, columnWidth, column
 use Rattle.macroblock.specs.declared.arguments.Place.{Place}
 use Rattle.macroblock.specs.declared.arguments.Readers.{Readers}
 use Rattle.macroblock.specs.declared.arguments.Around.{Around}
-use Rattle.macroblock.specs.declared.whole.Finish.the-variants as F
+use Rattle.macroblock.specs.declared.ending.Finish.the-variants as F
 use Rattle.macroblock.specs.Macroblock as Macroblock
 use Rattle.macroblock.specs.Macroblock.{Planes, Finished, MacroblockCalled, noOutcome, shown, endOf, readyOf, placeFine, finishNumberOf}
 use Rattle.casefile.specs.CaseFile.{wellFormed, caseWidth, caseHeight, givenOf}
@@ -63,7 +63,7 @@ use Rattle.deblock.specs.Deblock.{deblockOf}
 use Rattle.lent.specs.Memory.{Memory}
 use Rattle.macroblock.specs.Rebuilt.{noResidual, legibleOf, rebuildCallOf}
 use Rattle.rescue.specs.Rescue.{rescueOf, rescueNumberOf, savedCountOf}
-use Rattle.boundary.specs.FilterCalls.{flagOf, filteredOf, deblockCalledOf}
+use Rattle.samples.specs.FilterCalls.{flagOf, filteredOf, deblockCalledOf}
 use Rattle.hookbarley.specs.Calls.{calledNumbers, handedCall}
 use Rattle.survey.specs.Survey.{surveyOf}
 use Rattle.hookbarley.specs.RescueCalls.{rescueNumbers, rescueCalledOf}
@@ -72,11 +72,11 @@ use Rattle.hookbarley.specs.ProfileCalls.{profileNumbers, profileCalledOf}
 use Rattle.hookbarley.specs.SurveyCalls.{surveyNumbers, toSurveyCalled, surveyCalledOf}
 use Rattle.recode.specs.Recode.{recodeOf}
 use Rattle.hookbarley.specs.RecodeCalls.{resultOf, recodeNumbers, recodeCalledOf}
-use Rattle.boundary.specs.ExplainCalls.{ruleNumberOf, pairNumberOf, explainCalledOf}
+use Rattle.samples.specs.ExplainCalls.{ruleNumberOf, pairNumberOf, explainCalledOf}
 use Rattle.boundary.specs.FrameCalls.{numbersOf, frameCalledOf}
 use Rattle.key_frame.specs.KeyFrame.{keyFrameOf}
 use Rattle.hookbarley.specs.ShowCalls.{shownNumbers, toShowCalled, showCalledOf}
-use Rattle.boundary.specs.WebpCalls.{webpFoundOf, webpWrappedOf}
+use Rattle.files.specs.WebpCalls.{webpFoundOf, webpWrappedOf}
 use Rattle.webp.specs.Webp.{riffSize, mostSize, fileOf, markedOf, sizedOf, lossyOf, filledOf, findOf, foundNumberOf, foundStartOf, foundLengthOf, wrapOf, wrappedNumberOf, wrappedLengthOf}
 
 -- ---- three kinds of call. `values` is all that it gives besides its number, what is lent included; `zeros` are zeros, with what is lent as it was
@@ -236,13 +236,13 @@ pub record Numbers : Type 0 where
   pub read-strength : (mem : List ℕ) (i : ℕ)
       → RefusedOr {X = Strength × ℕ × Bool} 9 (ltb i (recordsIn strengthWidth mem)) (checkedNumberOf (strengthFound mem i .answer)) (strengthFound mem i .strength, strengthFound mem i .segment, strengthFound mem i .small)
       (noStrength, 0, false) (strengthAt mem i, segmentIn (recordAt strengthWidth mem i), smallIn (recordAt strengthWidth mem i))
-  -- macroblock::whole::decode
+  -- whole::decode
   pub macroblock : (first tokens : List ℕ) (readers : Readers) (f : Frame) (table : List ℕ) (around : Around) (place : Place) (p : Planes)
       → Steps (readyOf first tokens readers f (length table) around && placeFine (length (p .y)) (length (p .u)) (length (p .v)) place)
       (run (modesOf (f .announced) (around .top .modes) (around .left .modes)) first (readers .first))
       (λ m. run (residualOf table (factorsAt f (m .segment)) (m .small) (m .skip) (around .top .flags) (around .left .flags)) tokens (readers .token))
       (Macroblock.macroblockCallOf first tokens readers f table around place p) p (endOf f place p)
-  -- macroblock::rebuilt::rebuild: as if its tokens were there and gave no residual, so never 7
+  -- rebuilt::rebuild: as if its tokens were there and gave no residual, so never 7
   pub rebuild : (first : List ℕ) (readers : Readers) (f : Frame) (around : Around) (place : Place) (p : Planes)
       → Steps (legibleOf first (readers .first) f around && placeFine (length (p .y)) (length (p .u)) (length (p .v)) place)
       (run (modesOf (f .announced) (around .top .modes) (around .left .modes)) first (readers .first))
@@ -252,7 +252,7 @@ pub record Numbers : Type 0 where
   pub case-told : (s : List ℕ) → wellFormed s ≡ true
       → let e = pictureOf (givenOf s) (lentOf (caseWidth s) (caseHeight s)) in
       (ranOf s .number ≡ numberOf (e .answer)) × (ranOf s .k ≡ valuesOf (e .answer))
-  -- frame::take::take, frame::into::take_into: 9 where the lent entries are not 1096, before anything else
+  -- take::take, take::take_into: 9 where the lent entries are not 1096, before anything else
   pub frame-take : (b : List ℕ) → FrameNumbers b
   pub frame-into : (b : List ℕ) (old : List ℤ) → eqb (length old) entryCount ≡ false → (intoOf b old .answer .number ≡ 9) × (intoOf b old ≡ record { answer = Take.refusedAnswer 9; header = old })
   pub frame-lent : (b : List ℕ) (old : List ℤ) → eqb (length old) entryCount ≡ true → intoOf b old .answer ≡ takenOf b .answer

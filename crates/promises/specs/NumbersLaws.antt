@@ -35,8 +35,9 @@ use Rattle.residual.specs.Residual as Residual
 use Rattle.residual.specs.Residual.{Model, residualOf, residualNumberOf, residualValuesOf}
 use Rattle.planes.specs.Paint.{PaintedPlane, paintOf}
 use Rattle.lent.specs.Records as Records
-use Rattle.lent.specs.Records.{digitsOf, packed, contextIn, kindsIn, modesIn, strengthIn, segmentIn, smallIn, recordWritten, recordFound}
-use Rattle.macroblock.specs.declared.whole.Finish.the-variants as F
+use Rattle.column.specs.Column.{digitsOf}
+use Rattle.lent.specs.Records.{packed, contextIn, kindsIn, modesIn, strengthIn, segmentIn, smallIn, recordWritten, recordFound}
+use Rattle.macroblock.specs.declared.ending.Finish.the-variants as F
 use Rattle.macroblock.specs.Macroblock as Macroblock
 use Rattle.macroblock.specs.Macroblock.{Planes, Finished, MacroblockCalled, toMacroblockCalled, afterModes, afterTokens, noOutcome, endOf, finishNumberOf}
 use Rattle.casefile.specs.Run.{ranOf}
@@ -45,8 +46,8 @@ use Rattle.frame.specs.Tag as Tag
 use Rattle.frame.specs.Places.{partitionCount, tokensInside}
 use Rattle.frame.specs.Take as Take
 use Rattle.frame.specs.Take.{givenHeader, takenOf, intoOf}
-use Rattle.boundary.specs.FilterCalls.{Filtered, filteredOf, deblockCalledOf}
-use Rattle.boundary.specs.ExplainCalls.{ExplainCalled, explainCalledOf}
+use Rattle.samples.specs.FilterCalls.{Filtered, filteredOf, deblockCalledOf}
+use Rattle.samples.specs.ExplainCalls.{ExplainCalled, explainCalledOf}
 use Rattle.boundary.specs.FrameCalls.{frameCalledOf}
 use Rattle.hookbarley.specs.RescueCalls.{rescueCalledOf}
 use Rattle.hookbarley.specs.ProfileCalls.{profileCalledOf}
@@ -54,7 +55,7 @@ use Rattle.hookbarley.specs.SurveyCalls.{surveyCalledOf}
 use Rattle.hookbarley.specs.RecodeCalls.{recodeCalledOf}
 use Rattle.macroblock.specs.Rebuilt.{rebuiltOf, rebuildCallOf}
 use Rattle.hookbarley.specs.ShowCalls.{showCalledOf}
-use Rattle.boundary.specs.WebpCalls.{webpFoundOf, webpWrappedOf}
+use Rattle.files.specs.WebpCalls.{webpFoundOf, webpWrappedOf}
 use Rattle.webp.specs.Webp.{findOf, foundNumberOf, foundStartOf, foundLengthOf, wrapOf, wrappedNumberOf, wrappedLengthOf}
 use mathlib.Core.Logic.{⊎-elim}
 use native.Mathlib.Omega.{arith}

@@ -17,7 +17,7 @@ use Rattle.lent.specs.Memory.{Memory}
 use Rattle.macroblock.specs.declared.arguments.SymbolCounts.{SymbolCounts}
 use Rattle.macroblock.specs.Counts.{macroblockTokenReads, readsOf}
 use Rattle.macroblock.specs.Macroblock.{Finished, Step, finished, no-modes, no-tokens}
-use Rattle.macroblock.specs.MacroblockLaws.{Ready}
+use Rattle.macroblock.specs.Asked.{Ready}
 use Rattle.macroblock.specs.StepLaws.{Both, step-both}
 use Rattle.picture.specs.declared.rows.Decoded.the-variants as D
 use Rattle.picture.specs.Picture.{Picture, State, Ended, columnOf, partitionOf, planesIn, placeOf, readersAt, aroundAt, stepAt, nextOf, runOf}

@@ -12,7 +12,7 @@ use Rattle.lent.specs.Records.{recordsIn, Form, packed, formWidth, columnWidth,
 use Rattle.lent.specs.RecordsLaws.{write-good}
 use Rattle.macroblock.specs.Macroblock.{below, beside}
 use Rattle.macroblock.specs.declared.arguments.Around.{Around}
-use Rattle.macroblock.specs.MacroblockLaws as macroblock
+use Rattle.macroblock.specs.Asked as macroblock
 use Rattle.modes.specs.declared.answers.Kinds.{Kinds}
 use Rattle.modes.specs.declared.answers.Stage.{Stage}
 use Rattle.modes.specs.declared.answers.Stage.the-variants as S

@@ -7,9 +7,9 @@ pub mod turn;
 mod walk;
 
 use crate::walk::walk;
+use blank::fill;
 use coefficients::block::probabilities;
 use header::frame::take;
-use lent::memory::fill;
 use picture::decode;
 use reader::boolean::Reader;
 use tile::Span;

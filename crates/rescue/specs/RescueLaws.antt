@@ -22,9 +22,10 @@ use Rattle.macroblock.specs.declared.arguments.Place.{Place}
 use Rattle.macroblock.specs.declared.arguments.Readers.{Readers}
 use Rattle.macroblock.specs.declared.arguments.Around.{Around}
 use Rattle.macroblock.specs.Macroblock.{Planes, Finished, Step, finished, no-modes, no-tokens, MacroblockCalled, toMacroblockCalled}
-use Rattle.macroblock.specs.MacroblockLaws.{Laid}
+use Rattle.macroblock.specs.Asked.{Laid}
 use Rattle.macroblock.specs.Rebuilt.{rebuiltOf, rebuildCallOf}
-use Rattle.macroblock.specs.RebuiltLaws.{Legible, ready-legible, rebuild-good, rebuilt-never, rebuilt-ends, rebuilt-outside, rebuilt-strength, withToken, rebuilt-token, rebuilt-token-none}
+use Rattle.macroblock.specs.Asked.{Legible}
+use Rattle.macroblock.specs.RebuiltLaws.{ready-legible, rebuild-good, rebuilt-never, rebuilt-ends, rebuilt-outside, rebuilt-strength, withToken, rebuilt-token, rebuilt-token-none}
 use Rattle.macroblock.specs.StepLaws.{Elsewhere}
 use Rattle.picture.specs.declared.rows.Decoded.{Decoded}
 use Rattle.picture.specs.declared.rows.Decoded.the-variants as D

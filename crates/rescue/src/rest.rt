@@ -3,7 +3,7 @@ use crate::turn::turn;
 use header::frame::take;
 use macroblock::arguments::Place;
 use macroblock::arguments::Readers;
-use macroblock::whole::Finish;
+use macroblock::ending::Finish;
 use picture::rows::Decoded;
 use picture::rows::PictureStop;
 use picture::turn::Task;

@@ -1,8 +1,8 @@
 // Reads a key frame from standard input and prints what is taken of it: the number, the true sizes, the tile's sides and the filter kind,
 // the partitions, the reader and the 1096 entries, which stay 77 where the frame is refused.
-use frame::into::take_into;
 use frame::take::Answer;
 use header::entries::probability;
+use take::take_into;
 use tile::Span;
 use tile::Tile;
 ghost use mathlib.Core.Path.{_≡_};

@@ -34,7 +34,8 @@ use Rattle.modes.specs.Table.{probabilities, rfcTable}
 use Rattle.modes.specs.Modes.{modesOf, prefix, segment, skip, modeAbove, modeLeft, smallFrom, smallModes}
 use Rattle.coefficients.specs.Block.{categories, bases, magnitude, signedValue, bands, zigzag, probabilityPlace, quantizerAt, contextAfter, blockFrom, headerTable}
 use Rattle.residual.specs.Residual.{coordinates, kindOf, spread, second, sixteenAt, advance, blocksFrom, residualOf}
-use Rattle.lent.specs.Records.{packedOf, digitsOf, recordAt, recordSet}
+use Rattle.column.specs.Column.{packedOf, digitsOf}
+use Rattle.lent.specs.Records.{recordAt, recordSet}
 use Rattle.macroblock.specs.Macroblock.{endOf, stepOf}
 use Rattle.picture.specs.Picture.{besideOf, stepAt, runOf, picturedOf, begunOf, Ended, pictureOf}
 use Rattle.planes.specs.Paint.{nearOf, fourAbove, fourLeft, firstPlaces, edgeOf, aboveRight, blockAboveRight, aroundOf, rowsPainted, blockCoefficients, blockResidual, summedOf, blockPainted, blocksPainted, smallAt, predictionRule, squarePainted}

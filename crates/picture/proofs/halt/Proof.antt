@@ -12,7 +12,7 @@ use Rattle.picture.proofs.halt.Reads as reads
 use Rattle.picture.proofs.halt.Lts as lts
 use Rattle.coefficients.proofs.block.probabilities.Reads as probabilities-reads
 use Rattle.picture.proofs.checks.refusal.Reads as refusal-reads
-use Rattle.lent.proofs.memory.blank.Reads as blank-reads
+use Rattle.blank.proofs.blank.Reads as blank-reads
 use Rattle.picture.proofs.rows.rows.Reads as rows-reads
 use Rattle.modes.proofs.contexts.Context.empty.Reads as empty-reads
 use Rattle.tile.proofs.partitions.openers.Reads as openers-reads

@@ -11,7 +11,7 @@ returns : tie.Need-returns
 returns c =
     let d = c .before .before in
     let e = d .before .before in
-    written-as _ _ _ (sym (slice-aggregate-write (d .before))) (e .context-fine .ensures) (e .before .before .record-of .ensures) (d .write .ensures)
+    written-as _ _ _ (sym (slice-aggregate-write (d .before))) (e .context-fine .ensures) (e .before .before .pack .ensures) (d .write .ensures)
 
 pub write-column-spec : {M : Type 1} → statement M
 write-column-spec = tie.close (tie.spec (λ c κs. search needs) (λ c κs. search needs) slice-aggregate-write (λ c κs. search needs) (λ c. search needs) returns)

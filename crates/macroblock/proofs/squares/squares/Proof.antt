@@ -1,4 +1,6 @@
-use Rattle.macroblock.specs.MacroblockLaws.{squares-painted}
+use Rattle.modes.specs.Answers.{macroblockOf}
+use Rattle.macroblock.specs.Macroblock.{planesOf}
+use Rattle.macroblock.specs.MacroblockLaws.{squares-made}
 use borrow.Author.Needs.{needs}
 use Rattle.macroblock.proofs.squares.squares.Statement.{statement}
 use Rattle.macroblock.proofs.squares.squares.Tie as tie
@@ -56,8 +58,9 @@ same-length-3 c = search needs
 
 returns : tie.Need-returns
 returns c =
-    let p = c .before .before .before .before .before .before .before .before .before .before .before .before .before .before .before .before .before .before .before .pre in
-    squares-painted _ (p .1 .0) (p .0) (p .1 .1) (c .before .before .before .before .before .before .before .before .before .before .before .before .paint .ensures) (c .before .before .before .before .before .before .before .paint2 .ensures) (c .before .before .paint3 .ensures)
+    let s = c .before .before .before .before .before .before .before .before .before .before .before .before .before .before .before .before .before .before .before in
+    let a = s .args in
+    squares-made _ (s .pre) (a .place) (planesOf (a .y .now) (a .u .now) (a .v .now)) (macroblockOf (a .kinds) (a .modes .now)) (c .before .before .before .before .before .before .before .before .before .before .before .before .paint .ensures) (c .before .before .before .before .before .before .before .paint2 .ensures) (c .before .before .paint3 .ensures)
 
 pub squares-spec : {M : Type 1} → statement M
 squares-spec =

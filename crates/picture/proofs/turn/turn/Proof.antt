@@ -15,7 +15,7 @@ use Rattle.lent.proofs.columns.read_column.Reads as read-column-reads
 use Rattle.lent.proofs.columns.write_column.Reads as write-column-reads
 use Rattle.lent.proofs.macroblocks.write_mode_record.Reads as write-mode-record-reads
 use Rattle.lent.proofs.macroblocks.write_strength.Reads as write-strength-reads
-use Rattle.macroblock.proofs.whole.decode.Reads as decode-reads
+use Rattle.whole.proofs.decode.Reads as decode-reads
 use Rattle.picture.proofs.turn.beside.Reads as beside-reads
 
 -- places: the call from behind it, and the function's start

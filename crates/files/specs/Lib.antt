@@ -1,0 +1,2 @@
+pub mod WebpCalls
+pub mod WebpCallsLaws

@@ -1,0 +1,4 @@
+pub mod ExplainCalls
+pub mod ExplainCallsLaws
+pub mod FilterCalls
+pub mod FilterCallsLaws
