@@ -9,10 +9,10 @@ use lib.Dec.{eqb}
 use lib.IntN.{ℤ, pos, negsuc}
 use lib.ListN.{length, getD}
 use lib.Signed.{mag}
-use mir.Syntax.{w16, w32}
+use mir.Syntax.{w16}
 use mir.Val.{hbits}
 use Rattle.numbers.specs.Hand.{any}
-use Rattle.numbers.specs.Know.{Know, round, rounded}
+use Rattle.numbers.specs.Know.{Know, round}
 use Rattle.numbers.specs.Lists.{Bytes}
 use Rattle.numbers.specs.Tables.{allBelow}
 use Rattle.numbers.specs.Tests.{both-true, both-false}
@@ -24,12 +24,9 @@ use Rattle.planes.specs.PaintLaws.{blocks-next}
 use Rattle.planes.specs.Places.{Lies, Sub}
 use Rattle.planes.specs.Steps.{laneAdded, meanAdded, FirstFit, Ready, standing, standRule, added-block, painted-then, small-at-long}
 
--- ---- a coefficient as it is read, and as it is passed on
+-- ---- a coefficient as it is read
 pub taken : (z : ℤ) → mag z < 2 ^ hbits w16 → Know (round w16 z) z (negsuc 32767) (pos 32767)
 taken z p = any w16 {z = z} (record { sfits = p })
-
-pub passed : (z : ℤ) → mag z < 2 ^ hbits w16 → Know (round w32 (round w16 z)) z (negsuc 32767) (pos 32767)
-passed z p = rounded w32 (taken z p) tt
 
 -- ---- sub-blocks
 module _ {c : List ℤ} {from : ℕ} {cs : List ℤ} {coded : List Bool} {r : List ℤ} {n : ℕ} (ready : Ready c from cs coded r n) (w x y m i : ℕ) (h : i < n) {s : Spot} (a : Sub w x y m i s) (l : s .x + 4 ≤ w)

@@ -157,11 +157,15 @@ eachFits c = allBelow (length c) (λ k. fits16 (getD c k (pos 0)))
 unfoldable pub paintModesFine : (n : ℕ) (small : Bool) (mode : ℕ) (modes : List ℕ) → Bool
 paintModesFine n small mode modes = cond small (eqb n 16 && modesBelow 10 modes) ((eqb n 8 || eqb n 16) && ltb mode 4)
 
+-- whole squares of n along a side, and the kth among them
+abbrev pub sideFine : (side k n : ℕ) → Bool
+sideFine side k n = eqb (side % n) 0 && ltb k (side / n)
+
 -- whole squares in the plane's rows and columns, and the square among them
 unfoldable pub squareFine : (len w column row n : ℕ) → Bool
 squareFine len w column row n =
     let rows = len / w in
-    ltb 0 w && (leb w 16384 && leb rows 16384 && eqb (w % n) 0 && eqb (rows % n) 0 && eqb (len % w) 0 && ltb column (w / n) && ltb row (rows / n))
+    ltb 0 w && (leb w 16384 && leb rows 16384 && eqb (len % w) 0 && sideFine w column n && sideFine rows row n)
 
 -- as many coefficients as samples, each of 16 bits
 unfoldable pub coefficientsFine : (n : ℕ) → List ℤ → Bool

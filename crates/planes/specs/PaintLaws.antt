@@ -27,7 +27,7 @@ use Rattle.transform.specs.Lanes.{byBlocks}
 use Rattle.numbers.specs.declared.Checked.the-variants.{Done, Refused}
 use Rattle.planes.specs.declared.edges.Border.{Border}
 use Rattle.planes.specs.Predict.{Size, smallBlock, dcOf}
-use Rattle.planes.specs.Paint.{sampleAt, nearOf, fourAbove, firstPlaces, firstAbove, firstLeft, edgeOf, aboveRight, blockAboveRight, aroundOf, rowsPainted, painted, blockCoefficients, blockResidual, summedOf, blockPainted, cellColumn, cellRow, blocksPainted, largeRule, smallAt, smallRule, predictionRule, squarePainted, squareBlocks, paintModesFine, squareFine, coefficientsFine, paintFine, PaintedPlane, paintOf}
+use Rattle.planes.specs.Paint.{sampleAt, nearOf, fourAbove, firstPlaces, firstAbove, firstLeft, edgeOf, aboveRight, blockAboveRight, aroundOf, rowsPainted, painted, blockCoefficients, blockResidual, summedOf, blockPainted, cellColumn, cellRow, blocksPainted, largeRule, smallAt, smallRule, predictionRule, squarePainted, squareBlocks, paintModesFine, sideFine, squareFine, coefficientsFine, paintFine, PaintedPlane, paintOf}
 use Rattle.planes.specs.Pieces.{rowsPlaced}
 use Rattle.planes.specs.Places.{Square, Outside, run-inside, sub-square, apart, outside-sub, BlockSides, cell, not-last, Stands, higher, before, stands-first, stands-last, Within, stood, other, by-size, size-some, quarter, size-sides, tiles}
 
@@ -455,19 +455,14 @@ square-tiled {n} len w column row s e =
     let rows = len / w in
     let t1 = leb w 16384 in
     let t2 = leb rows 16384 in
-    let t3 = eqb (w % n) 0 in
-    let t4 = eqb (rows % n) 0 in
-    let t5 = eqb (len % w) 0 in
-    let t6 = ltb column (w / n) in
-    let t7 = ltb row (rows / n) in
-    let e7 = both-right (ltb 0 w) (t1 && t2 && t3 && t4 && t5 && t6 && t7) e in
-    let e6 = both-left (t1 && t2 && t3 && t4 && t5 && t6) t7 e7 in
-    let e5 = both-left (t1 && t2 && t3 && t4 && t5) t6 e6 in
+    let t3 = eqb (len % w) 0 in
+    let t4 = sideFine w column n in
+    let t5 = sideFine rows row n in
+    let e5 = both-right (ltb 0 w) (t1 && t2 && t3 && t4 && t5) e in
     let e4 = both-left (t1 && t2 && t3 && t4) t5 e5 in
-    let e3 = both-left (t1 && t2 && t3) t4 e4 in
-    let e2 = both-left (t1 && t2) t3 e3 in
-    let a = tiles w column s (eqb-true (w % n) 0 (both-right (t1 && t2) t3 e3)) (ltb-true column (w / n) (both-right (t1 && t2 && t3 && t4 && t5) t6 e6)) in
-    let b = tiles rows row s (eqb-true (rows % n) 0 (both-right (t1 && t2 && t3) t4 e4)) (ltb-true row (rows / n) (both-right (t1 && t2 && t3 && t4 && t5 && t6) t7 e7)) in
+    let e2 = both-left (t1 && t2) t3 (both-left (t1 && t2 && t3) t4 e4) in
+    let a = side w column (both-right (t1 && t2 && t3) t4 e4) in
+    let b = side rows row (both-right (t1 && t2 && t3 && t4) t5 e5) in
     let l1 = leb-true w 16384 (both-left t1 t2 e2) in
     let l2 = leb-true rows 16384 (both-right t1 t2 e2) in
     record {
@@ -481,6 +476,9 @@ square-tiled {n} len w column row s e =
       few = (omega (arith, a .0, times-some column (size-some s .0)), omega (arith, b .0, times-some row (size-some s .0)));
     }
   where
+    side : (m k : ℕ) → sideFine m k n ≡ true → (k * n + n ≤ m) × (k * n + n < m → k * n + n + n ≤ m)
+    side m k h = tiles m k s (eqb-true (m % n) 0 (both-left (eqb (m % n) 0) (ltb k (m / n)) h)) (ltb-true k (m / n) (both-right (eqb (m % n) 0) (ltb k (m / n)) h))
+
     times-some : (k : ℕ) {n : ℕ} → 0 < n → k ≤ k * n
     times-some k h = let r : k ≤ k = omega arith in omega (arith, mul-le-mul r h, mul-one k)
 
@@ -549,7 +547,7 @@ module _ {len w columns rows column row n mode : ℕ} {small : Bool} {modes : Li
       let e2 : len % w ≡ 0 = ap (λ (k : ℕ). k % w) (g .height) ∙ mul-mod-left (rows * n) w in
       let e3 : w / n ≡ columns = ap (λ (k : ℕ). k / n) (g .width) ∙ mul-div-cancel columns a in
       let e4 : w % n ≡ 0 = ap (λ (k : ℕ). k % n) (g .width) ∙ mul-mod-left columns n in
-      rw (lt-ltb 0 w d, le-leb w 16384 (g .wide), e1, le-leb (rows * n) 16384 (g .high), e4, mul-mod-left rows n, e2, e3, lt-ltb column columns (g .across), mul-div-cancel rows a, lt-ltb row rows (g .down))
+      rw (lt-ltb 0 w d, le-leb w 16384 (g .wide), e1, le-leb (rows * n) 16384 (g .high), e2, e4, e3, lt-ltb column columns (g .across), mul-mod-left rows n, mul-div-cancel rows a, lt-ltb row rows (g .down))
 
   proper-coefficients : coefficientsFine n c ≡ true
   unfolding coefficientsFine

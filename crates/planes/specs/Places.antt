@@ -1,5 +1,5 @@
 -- Where squares and sub-blocks lie in a plane of `len` samples, w to a row.
-use Prim.Native.Nat.{ℕ, suc, _+_, _-_, _*_, _/_, _%_, _≤_, _<_}
+use Prim.Native.Nat.{ℕ, suc, _+_, _-_, _*_, _/_, _%_, _^_, _≤_, _<_}
 use mathlib.Core.Bool.{false}
 use mathlib.Core.Logic.{_⊎_, inl, inr}
 use mathlib.Core.Path.{_≡_, refl, sym, _∙_, ap, subst}
@@ -7,6 +7,7 @@ use native.Mathlib.Decide.{decLt, ℕ-discrete}
 use native.Mathlib.Nat.{add-mul, one-mul, mul-le-mul-right}
 use native.Mathlib.Omega.{arith}
 use borrow.Author.Tests.{eqb-false}
+use lib.Bits.{bitAnd, and-mask}
 use lib.Dec.{eqb}
 use Rattle.numbers.specs.Runs.{Off}
 use Rattle.numbers.specs.Tests.{lt-or}
@@ -143,6 +144,10 @@ sides-few s = by-sides (λ (m : ℕ). (0 < m) × (m ≤ 4)) (omega arith, omega 
 
 pub sides-square : {m : ℕ} → BlockSides m → m * m ≤ 16
 sides-square s = by-sides (λ (m : ℕ). m * m ≤ 16) (omega arith) (omega arith) s
+
+-- a side is a power of two
+pub sides-bits : {m : ℕ} (i : ℕ) → BlockSides m → (bitAnd i (m - 1) ≡ i % m) × (i / 2 ^ (m / 2) ≡ i / m)
+sides-bits i s = by-sides (λ (m : ℕ). (bitAnd i (m - 1) ≡ i % m) × (i / 2 ^ (m / 2) ≡ i / m)) (and-mask i 1, refl) (and-mask i 2, refl) s
 
 pub cell : {m i : ℕ} → BlockSides m → i < m * m → Cell m i (cellColumn m i) (cellRow m i)
 cell {m} {i} s =

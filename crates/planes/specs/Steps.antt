@@ -18,7 +18,7 @@ use mir.Facts.{toZ-inj, fits-ofZ}
 use mir.Syntax.{w16}
 use mir.Val.{SFits, toZ, ofZ}
 use Rattle.numbers.specs.Bounds.{each-[], each-∷}
-use Rattle.numbers.specs.Clamp.{clampZ, clipZ, signedTo}
+use Rattle.numbers.specs.Clamp.{clampZ, clipZ}
 use Rattle.numbers.specs.ClampLaws.{clamp-tests, clamp-cases, clamp-low, clamp-high, upTo-is, upTo-same}
 use Rattle.numbers.specs.Hand.{same-bits}
 use Rattle.numbers.specs.In.{In, Each}
@@ -28,7 +28,7 @@ use Rattle.numbers.specs.Runs.{placed, placed-none, placed-next, placed-self, p
 use Rattle.numbers.specs.Tests.{lt-or, eq-or, never, not-so, both-left, both-right, both-true, cond-at}
 use Rattle.transform.specs.Pieces.{laneRow}
 use Rattle.transform.specs.Transform.{samplesOf}
-use Rattle.transform.specs.Lanes.{byBlocks, knownLength, laneResidual, residualsOf}
+use Rattle.transform.specs.Lanes.{byBlocks, knownLength, shortResidual, laneResidual, residualsOf}
 use Rattle.transform.specs.LanesLaws.{length-by-blocks, blocks-at, block-is, known-blocks, whole-blocks, residuals-at, residuals-in}
 use Rattle.transform.specs.TransformBounds.{numeral-in}
 use Rattle.transform.specs.TransformLaws.{below-four, below-all, below-next, in-range, shortcut}
@@ -90,8 +90,9 @@ meanOf dc = shrZ (dc +ℤ pos 4) 8
 abbrev pub meanAdded : List ℕ → (w at : ℕ) (dc : ℤ) → List ℕ
 meanAdded p w at dc = let v = replicate 4 (meanOf dc) in blockAdded p w at v v v v
 
+-- one that leaves room for a sample in 16 bits
 abbrev pub Residual : ℤ → Type 0
-Residual r = In (negsuc 150000) (pos 150001) r
+Residual r = In (negsuc 32512) (pos 32512) r
 
 -- ---- what is known of coefficients by lanes
 abbrev pub Fits16 : ℤ → Type 0
@@ -143,15 +144,15 @@ blocksFine n len from = knownLength len && leb (16 * from + n * n) len
 abbrev pub PlainBlock : (n : ℕ) (c : List ℤ) (i : ℕ) → Type 0
 PlainBlock n c i = (k : ℕ) → 0 < k → k < n → getD c (16 * i + k) (pos 0) ≡ pos 0
 
--- the coefficients are s; by lanes they stand in c, from block `from` on, and the residuals of those that are coded in r, in 16 bits
+-- the coefficients are s; by lanes they stand in c, from block `from` on, and the residuals of those that are coded in r
 pub record Ready (c : List ℤ) (from : ℕ) (s : List ℤ) (coded : List Bool) (r : List ℤ) (n : ℕ) : Type 0 where
   pub few : from + n ≤ 16
   pub room : from + n ≤ length c
   pub long : 16 * n ≤ length s
   pub first : (i : ℕ) → i < n → getD c (from + i) (pos 0) ≡ getD s (16 * i) (pos 0)
-  pub near : Each (negsuc 150000) (pos 150001) r
+  pub near : Each (negsuc 32512) (pos 32512) r
   pub plain : (i : ℕ) → i < n → getD coded (from + i) false ≡ false → PlainBlock 16 s i
-  pub lane : (i k : ℕ) → i < n → k < 16 → getD coded (from + i) false ≡ true → getD r (16 * k + (from + i)) (pos 0) ≡ signedTo 32767 (getD (blockResidual s i) k (pos 0))
+  pub lane : (i k : ℕ) → i < n → k < 16 → getD coded (from + i) false ≡ true → getD r (16 * k + (from + i)) (pos 0) ≡ shortResidual (getD (blockResidual s i) k (pos 0))
 
 -- ---- what stands in the sub-block at column x, row y
 unfoldable pub standing : List ℕ → (w x y : ℕ) → List ℕ
@@ -248,10 +249,10 @@ pub rows-added : (p : List ℕ) (w at : ℕ) {q r s t : List ℕ} {a b c d a′ 
     → a ≡ a′ → b ≡ b′ → c ≡ c′ → d ≡ d′ → t ≡ blockAdded p w at a′ b′ c′ d′
 rows-added p w at e f g h i j k l = h ∙ rw (g, f, e, i, j, k, l)
 
-pub lane-near : (r : List ℤ) (from : ℕ) → Each (negsuc 150000) (pos 150001) r → Each (negsuc 150000) (pos 150001) (laneRow 16 r from)
+pub lane-near : (r : List ℤ) (from : ℕ) → Each (negsuc 32512) (pos 32512) r → Each (negsuc 32512) (pos 32512) (laneRow 16 r from)
 lane-near r from e = each-∷ (e .at from) (each-∷ (e .at (from + 16)) (each-∷ (e .at (from + 32)) (each-∷ (e .at (from + 48)) (each-[] tt))))
 
-pub same-near : {v : ℤ} → Residual v → Each (negsuc 150000) (pos 150001) (replicate 4 v)
+pub same-near : {v : ℤ} → Residual v → Each (negsuc 32512) (pos 32512) (replicate 4 v)
 same-near i = each-∷ i (each-∷ i (each-∷ i (each-∷ i (each-[] tt))))
 
 -- nothing added
@@ -303,32 +304,32 @@ module _ (p : List ℕ) (w x y : ℕ) (z : List ℤ) where
       next-row 3 d l (next-row 2 c l (next-row 1 b l (next-row 0 a l (sym (rows-none p w x y 4 summed)) (row-0 w x y at e) f) (row-1 w x y at e) g) (row-at w x y at e 2) h) (row-at w x y at e 3) i
       ∙ rows-same p w x y 4 _ _ 4 summed-is ∙ sym (painted-rows p w x y (summedOf (standing p w x y) z))
 
--- a residual in 16 bits gives the same samples
+-- a residual with room left gives the same samples
 clip-low : {v : ℤ} → v ≤ℤ pos 0 → clipZ v ≡ 0
 clip-low {v} h = ap up (upTo-is 255 v ∙ clamp-low (leZ-yes tt) h)
 
 clip-high : {v : ℤ} → pos 255 ≤ℤ v → clipZ v ≡ 255
 clip-high {v} h = ap up (upTo-is 255 v ∙ clamp-high (leZ-yes tt) h)
 
-clip-near : (s : ℕ) (v : ℤ) → s < 256 → clipZ (pos s +ℤ signedTo 32767 v) ≡ clipZ (pos s +ℤ v)
-clip-near s v h = clamp-cases (negsuc 32767) (pos 32767) v (λ (z : ℤ). clipZ (pos s +ℤ z) ≡ clipZ (pos s +ℤ v)) low high (λ e f. refl)
+clip-near : (s : ℕ) (v : ℤ) → s < 256 → clipZ (pos s +ℤ shortResidual v) ≡ clipZ (pos s +ℤ v)
+clip-near s v h = clamp-cases (negsuc 32512) (pos 32512) v (λ (z : ℤ). clipZ (pos s +ℤ z) ≡ clipZ (pos s +ℤ v)) low high (λ e f. refl)
   where
-    low : ltZ v (negsuc 32767) ≡ true → clipZ (pos s +ℤ negsuc 32767) ≡ clipZ (pos s +ℤ v)
+    low : ltZ v (negsuc 32512) ≡ true → clipZ (pos s +ℤ negsuc 32512) ≡ clipZ (pos s +ℤ v)
     low e =
-        let a = add-parts (pos s) (negsuc 32767) in
+        let a = add-parts (pos s) (negsuc 32512) in
         let b = add-parts (pos s) v in
-        let l = lt-parts v (negsuc 32767) e in
-        clip-low {v = pos s +ℤ negsuc 32767} (of-le (omega arith)) ∙ sym (clip-low {v = pos s +ℤ v} (of-le (omega arith)))
+        let l = lt-parts v (negsuc 32512) e in
+        clip-low {v = pos s +ℤ negsuc 32512} (of-le (omega arith)) ∙ sym (clip-low {v = pos s +ℤ v} (of-le (omega arith)))
 
-    high : ltZ v (negsuc 32767) ≡ false → ltZ (pos 32767) v ≡ true → clipZ (pos s +ℤ pos 32767) ≡ clipZ (pos s +ℤ v)
+    high : ltZ v (negsuc 32512) ≡ false → ltZ (pos 32512) v ≡ true → clipZ (pos s +ℤ pos 32512) ≡ clipZ (pos s +ℤ v)
     high e f =
-        let a = add-parts (pos s) (pos 32767) in
+        let a = add-parts (pos s) (pos 32512) in
         let b = add-parts (pos s) v in
-        let l = lt-parts (pos 32767) v f in
-        clip-high {v = pos s +ℤ pos 32767} (of-le (omega arith)) ∙ sym (clip-high {v = pos s +ℤ v} (of-le (omega arith)))
+        let l = lt-parts (pos 32512) v f in
+        clip-high {v = pos s +ℤ pos 32512} (of-le (omega arith)) ∙ sym (clip-high {v = pos s +ℤ v} (of-le (omega arith)))
 
 module _ (p : List ℕ) (w x y : ℕ) (b : Bytes p) (z : List ℤ) where
-  pub summed-near : summedOf (standing p w x y) (build 16 (λ k. signedTo 32767 (getD z k (pos 0)))) ≡ summedOf (standing p w x y) z
+  pub summed-near : summedOf (standing p w x y) (build 16 (λ k. shortResidual (getD z k (pos 0)))) ≡ summedOf (standing p w x y) z
   unfolding summedOf standing
   summed-near = build-same 16 _ _ (λ k h.
       ap₂ (λ (s : ℕ) (v : ℤ). clipZ (pos s +ℤ v)) refl (getD-build 16 _ k (pos 0) h)
@@ -346,7 +347,7 @@ module _ {c : List ℤ} {from : ℕ} {s : List ℤ} {coded : List Bool} {r : Lis
       ∙ ap (painted p w x y) (summed-near p w x y bytes (blockResidual s i))
     where
       near : List ℤ
-      near = build 16 (λ k. signedTo 32767 (getD (blockResidual s i) k (pos 0)))
+      near = build 16 (λ k. shortResidual (getD (blockResidual s i) k (pos 0)))
 
       row : (f m : ℕ) → (m ≡ 16 * f + (from + i)) × (f ≤ 12) → (k : ℕ) → k < 4 → getD (laneRow 16 r m) k (pos 0) ≡ getD near (f + k) (pos 0)
       row f m a k g =
@@ -459,8 +460,8 @@ square-put p w x y n mode cs {q} {q′} s t e f =
     ∙ put-then p w x y m mode (dcOf n E) E cs (size-sides s) (subst (Square (length p) w x y) (sym z) t)
     ∙ square-large p w x y n false mode [] cs refl refl refl
 
--- ---- zeros are near 0
-zeros-near : Each (negsuc 150000) (pos 150001) (replicate 256 (pos 0))
+-- ---- zeros leave room
+zeros-near : Each (negsuc 32512) (pos 32512) (replicate 256 (pos 0))
 zeros-near = record { at = λ k. rw (getD-constant 256 k (pos 0)) (numeral-in (pos 0) tt) }
 
 -- ---- numbers joined, turn by turn
@@ -603,7 +604,7 @@ module _ {n : ℕ} (from : ℕ) (c : List ℤ) (s : Size n) where
             ])
 
     -- what stands ready, by what is known of the residuals: `lane` is asked where one is coded
-    pub square-ready : (coded : List Bool) {v : List ℤ} → Coded c (length c / 16) coded (length c / 16) → Each (negsuc 150000) (pos 150001) v
+    pub square-ready : (coded : List Bool) {v : List ℤ} → Coded c (length c / 16) coded (length c / 16) → Each (negsuc 32512) (pos 32512) v
         → ((i k : ℕ) → i < length c / 16 → k < 16 → getD coded i false ≡ true → getD v (16 * k + i) (pos 0) ≡ laneResidual (length c / 16) c i k)
         → Ready c from (squareBlocks n from c) coded v (n / 4 * (n / 4))
     unfolding blockResidual
@@ -622,7 +623,7 @@ module _ {n : ℕ} (from : ℕ) (c : List ℤ) (s : Size n) where
           plain = λ i h q k a b. square-lane i k h b ∙ d .plain (from + i) (omega arith) q k a b;
           lane = λ i k h g q.
               r (from + i) k (omega arith) g q
-              ∙ ap (λ (x : List ℤ). signedTo 32767 (getD (samplesOf false x) k (pos 0)))
+              ∙ ap (λ (x : List ℤ). shortResidual (getD (samplesOf false x) k (pos 0)))
               (sym (block-is (byBlocks N c) (from + i) (length-block S i (b i h)) (λ k l. block-at S i (b i h) k (pos 0) l ∙ square-block i k h l)));
         }
 

@@ -7,24 +7,24 @@ ghost use Prim.Native.Nat.{_+_, _<_, _≤_};
 ghost use lib.IntN.{pos, negsuc, _+ℤ_};
 ghost use lib.ListN.{length};
 ghost use Rattle.numbers.specs.Clamp.{clipZ};
-ghost use Rattle.numbers.specs.In.{In, Each};
+ghost use Rattle.numbers.specs.In.{Each};
 ghost use Rattle.numbers.specs.Lists.{Bytes};
 ghost use Rattle.transform.specs.Pieces.{laneRow};
 ghost use Rattle.planes.specs.Steps.{rowSums, rowAdded, laneAdded, meanOf, meanAdded, Residual};
 ghost use Rattle.planes.specs.Places.{Block};
 
-// A sample, and its residual.
-fn sum(p: u8, r: i32) -> u8
+// A sample, and its residual: their sum fits sixteen bits.
+fn sum(p: u8, r: i16) -> u8
     requires { ⌜ Residual r ⌝ }
     ensures { λ q. ⌜ q ≡ clipZ (pos p +ℤ r) ⌝ }
 {
-    clipped(p as i32 + r)
+    clipped(p as i16 + r)
 }
 
 // Four of them, side by side: all are read before one is stored.
-fn sums(p: &[u8], at: usize, r: [i32; 4]) -> [u8; 4]
+fn sums(p: &[u8], at: usize, r: [i16; 4]) -> [u8; 4]
     requires { ⌜ at + 4 ≤ length (now p) ⌝ }
-    requires { ⌜ Each (negsuc 150000) (pos 150001) r ⌝ }
+    requires { ⌜ Each (negsuc 32512) (pos 32512) r ⌝ }
     ensures { λ q. ⌜ q ≡ rowSums (now (p .entry)) at r ⌝ }
 {
     [
@@ -35,9 +35,9 @@ fn sums(p: &[u8], at: usize, r: [i32; 4]) -> [u8; 4]
     ]
 }
 
-fn add_row(p: &mut [u8], at: usize, r: [i32; 4])
+fn add_row(p: &mut [u8], at: usize, r: [i16; 4])
     requires { ⌜ at + 4 ≤ length (now p) ⌝ }
-    requires { ⌜ Each (negsuc 150000) (pos 150001) r ⌝ }
+    requires { ⌜ Each (negsuc 32512) (pos 32512) r ⌝ }
     ensures { λ _. ⌜ now (p .exit) ≡ rowAdded (now (p .entry)) at r ⌝ }
 {
     let b = sums(&p[..], at, r);
@@ -45,23 +45,18 @@ fn add_row(p: &mut [u8], at: usize, r: [i32; 4])
 }
 
 // A row of the residual of a block, of sixteen blocks by position.
-fn lane_row(r: &[i16; 256], from: usize) -> [i32; 4]
+fn lane_row(r: &[i16; 256], from: usize) -> [i16; 4]
     requires { ⌜ from + 48 < 256 ⌝ }
     ensures { λ q. ⌜ q ≡ laneRow 16 (now (r .entry)) from ⌝ }
 {
-    [
-        r[from] as i32,
-        r[from + 16] as i32,
-        r[from + 32] as i32,
-        r[from + 48] as i32,
-    ]
+    [r[from], r[from + 16], r[from + 32], r[from + 48]]
 }
 
 // The residual of block i.
 fn add_lane(p: &mut [u8], w: usize, at: usize, r: &[i16; 256], i: usize)
     requires { ⌜ Block (length (now p)) w at ⌝ }
     requires { ⌜ i < 16 ⌝ }
-    requires { ⌜ Each (negsuc 150000) (pos 150001) (now r) ⌝ }
+    requires { ⌜ Each (negsuc 32512) (pos 32512) (now r) ⌝ }
     ensures { λ _. ⌜ now (p .exit) ≡ laneAdded (now (p .entry)) w at (now (r .entry)) i ⌝ }
 {
     add_row(&mut p[..], at, lane_row(r, i));
@@ -71,16 +66,14 @@ fn add_lane(p: &mut [u8], w: usize, at: usize, r: &[i16; 256], i: usize)
 }
 
 // The residual of a block whose coefficients but the first are 0: the same for each sample.
-fn mean(dc: i32) -> i32
-    requires { ⌜ In (negsuc 32767) (pos 32767) dc ⌝ }
+fn mean(dc: i16) -> i16
     ensures { λ r. ⌜ (r ≡ meanOf dc) × Residual r ⌝ }
 {
-    (dc + 4) >> 3
+    ((dc as i32 + 4) >> 3) as i16
 }
 
-fn add_mean(p: &mut [u8], w: usize, at: usize, dc: i32)
+fn add_mean(p: &mut [u8], w: usize, at: usize, dc: i16)
     requires { ⌜ Block (length (now p)) w at ⌝ }
-    requires { ⌜ In (negsuc 32767) (pos 32767) dc ⌝ }
     ensures { λ _. ⌜ now (p .exit) ≡ meanAdded (now (p .entry)) w at dc ⌝ }
 {
     let v = [mean(dc); 4];
@@ -91,11 +84,10 @@ fn add_mean(p: &mut [u8], w: usize, at: usize, dc: i32)
 }
 
 // The residual of block i, whose first coefficient is dc: out of r where it is coded. Where there is none, nothing is touched.
-pub(crate) fn add(p: &mut [u8], w: usize, at: usize, coded: bool, r: &[i16; 256], i: usize, dc: i32)
+pub(crate) fn add(p: &mut [u8], w: usize, at: usize, coded: bool, r: &[i16; 256], i: usize, dc: i16)
     requires { ⌜ Block (length (now p)) w at ⌝ }
     requires { ⌜ i < 16 ⌝ }
-    requires { ⌜ Each (negsuc 150000) (pos 150001) (now r) ⌝ }
-    requires { ⌜ In (negsuc 32767) (pos 32767) dc ⌝ }
+    requires { ⌜ Each (negsuc 32512) (pos 32512) (now r) ⌝ }
     ensures { λ _. ⌜ now (p .exit)
         ≡ cond coded (laneAdded (now (p .entry)) w at (now (r .entry)) i) (meanAdded (now (p .entry)) w at dc) ⌝ }
     ensures { λ _. ⌜ Bytes (now (p .entry)) ⌝ }

@@ -84,15 +84,15 @@ pub(crate) fn no_values() -> [i16; 256]
     [0; 256]
 }
 
-// Where sub-block i of a square of m by m lies.
+// Where sub-block i of a square of m by m lies. As m is 2 or 4, a mask and a shift serve in place of divisions.
 fn sub_block(w: usize, x: usize, y: usize, m: usize, i: usize) -> Spot
     requires { ⌜ BlockSides m ⌝ }
     requires { ⌜ i < m * m ⌝ }
     requires { ⌜ (x + 4 * m ≤ w) × (w ≤ 16384) × (y + 4 * m ≤ 16384) ⌝ }
     ensures { λ r. ⌜ Sub w x y m i r ⌝ }
 {
-    let column = x + 4 * (i % m);
-    let row = y + 4 * (i / m);
+    let column = x + 4 * (i & (m - 1));
+    let row = y + 4 * (i >> (m / 2));
     Spot {
         x: column,
         y: row,
@@ -123,7 +123,7 @@ fn add_blocks(
     for i in 0..m * m {
         let s = sub_block(w, x, y, m, i);
         let b = from + i;
-        add(&mut p[..], w, s.at, coded[b], r, b, c[b] as i32);
+        add(&mut p[..], w, s.at, coded[b], r, b, c[b]);
     }
 }
 
@@ -161,7 +161,7 @@ fn small_blocks(
     for i in 0..16usize {
         let s = sub_block(w, x, y, 4, i);
         predict_small(&mut p[..], w, s, i % 4 == 3, right, modes[i]);
-        add(&mut p[..], w, s.at, coded[i], r, i, c[i] as i32);
+        add(&mut p[..], w, s.at, coded[i], r, i, c[i]);
     }
 }
 

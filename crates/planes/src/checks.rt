@@ -2,7 +2,7 @@
 ghost use mathlib.Core.Path.{_≡_};
 ghost use Prim.Native.Nat.{_*_, _≤_};
 ghost use Rattle.planes.specs.Predict.{Size};
-ghost use Rattle.planes.specs.Paint.{modesBelow, paintModesFine, squareFine};
+ghost use Rattle.planes.specs.Paint.{modesBelow, paintModesFine, sideFine, squareFine};
 ghost use Rattle.planes.specs.Steps.{blocksFine};
 
 fn each_below(modes: &[u8; 16], limit: u8) -> bool
@@ -26,6 +26,17 @@ pub(crate) fn modes_fine(size: usize, small: bool, mode: u8, modes: &[u8; 16]) -
     }
 }
 
+// Whether a side has whole squares, this one among them. Each way divides by a constant, which is a shift.
+fn among(side: usize, k: usize, size: usize) -> bool
+    requires { ⌜ Size size ⌝ }
+    ensures { λ r. ⌜ r ≡ sideFine side k size ⌝ }
+{
+    if size == 16 {
+        return (side % 16 == 0) & (k < side / 16);
+    }
+    (side % 8 == 0) & (k < side / 8)
+}
+
 // The plane, and the square in it.
 pub(crate) fn square_fine(len: usize, stride: usize, column: usize, row: usize, size: usize) -> bool
     requires { ⌜ Size size ⌝ }
@@ -37,11 +48,9 @@ pub(crate) fn square_fine(len: usize, stride: usize, column: usize, row: usize, 
     let rows = len / stride;
     (stride <= 16384)
         & (rows <= 16384)
-        & (stride % size == 0)
-        & (rows % size == 0)
         & (len % stride == 0)
-        & (column < stride / size)
-        & (row < rows / size)
+        & among(stride, column, size)
+        & among(rows, row, size)
 }
 
 // Whether there are 8 or 16 blocks, with those of the square among them.

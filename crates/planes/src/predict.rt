@@ -12,19 +12,19 @@ ghost use Rattle.planes.specs.Steps.{noLess, noMore};
 
 // ---- a number as a sample
 // One test after the other, so that the compiler can take several samples at once.
-fn no_less(v: i32) -> i32
+fn no_less(v: i16) -> i16
     ensures { λ r. ⌜ r ≡ noLess v ⌝ }
 {
     if v < 0 { 0 } else { v }
 }
 
-fn no_more(v: i32) -> i32
+fn no_more(v: i16) -> i16
     ensures { λ r. ⌜ r ≡ noMore v ⌝ }
 {
     if 255 < v { 255 } else { v }
 }
 
-pub(crate) fn clipped(v: i32) -> u8
+pub(crate) fn clipped(v: i16) -> u8
     ensures { λ r. ⌜ r ≡ clipZ v ⌝ }
 {
     no_more(no_less(v)) as u8
@@ -92,7 +92,7 @@ fn joined(w: [u8; 4], x: [u8; 4], y: [u8; 4], z: [u8; 4]) -> [u8; 16]
 fn tm_sample(l: u8, a: u8, corner: u8) -> u8
     ensures { λ r. ⌜ r ≡ tmOne l a corner ⌝ }
 {
-    clipped(l as i32 + a as i32 - corner as i32)
+    clipped(l as i16 + a as i16 - corner as i16)
 }
 
 // The same for a row with l on its left and a above it, and for a block of four rows.

@@ -35,9 +35,13 @@ blockNumbers c i = build 16 (λ k. at c (16 * i + k))
 abbrev pub knownLength : ℕ → Bool
 knownLength n = eqb n 128 || eqb n 256
 
--- number k of the residual of block i of n, in 16 bits: what lies beyond them is the nearest there
+-- a residual in 16 bits, with room left for a sample (32512 + 255 is 32767): what lies beyond is the nearest there, and clips to the same sample
+abbrev pub shortResidual : ℤ → ℤ
+shortResidual v = signedTo 32512 v
+
+-- number k of the residual of block i of n
 abbrev pub laneResidual : (n : ℕ) (c : List ℤ) (i k : ℕ) → ℤ
-laneResidual n c i k = signedTo 32767 (at (samplesOf false (blockNumbers (byBlocks n c) i)) k)
+laneResidual n c i k = shortResidual (at (samplesOf false (blockNumbers (byBlocks n c) i)) k)
 
 -- of sixteen blocks by lanes, block i: the first n of its numbers are those of f, and the others what they were
 unfoldable pub laned : List ℤ → (i : ℕ) (f : ℕ → ℤ) (n : ℕ) → List ℤ

@@ -13,11 +13,9 @@ use lib.Arith.{digits-div, digits-mod, digits-lt}
 use lib.IntN.{ℤ, pos, negsuc}
 use lib.ListN.{length, length-append, getD, set, length-set, take, drop, replicate, length-drop, take-append-drop, List·getD-append, List·getD-eq-default}
 use lib.Seq.{getD-set-same, getD-set-other, take-at, drop-at, length-take-le, getD-take, getD-drop, getD-append-add}
-use lib.Signed.{leZ, leZ-yes}
-use Rattle.numbers.specs.Clamp.{signedTo}
-use Rattle.numbers.specs.ClampLaws.{clamp-in, clamp-same}
+use lib.Signed.{leZ}
+use Rattle.numbers.specs.ClampLaws.{clamp-same, signed-in}
 use Rattle.numbers.specs.In.{In, Each}
-use Rattle.numbers.specs.Order.{In-wider}
 use Rattle.numbers.specs.Lists.{built, set-keeps, build-listed, build-same, length-build, getD-build, getD-constant, _∷≡_}
 use Rattle.numbers.specs.Tables.{allBelow, all-below}
 use Rattle.numbers.specs.Tests.{lt-or, eq-or}
@@ -25,7 +23,7 @@ use Rattle.transform.specs.Transform.{Grid, at, cell, gridOf, verticalPa
 use Rattle.transform.specs.TransformBounds.{numeral-in}
 use Rattle.transform.specs.TransformLaws.{CoefficientsIn, range-in, SmallIn, small-samples-in}
 use Rattle.transform.specs.Pieces.{isSmall, laneOf, laneRow, turnedAt, aloneAt, Blocks}
-use Rattle.transform.specs.Lanes.{byLanes, byBlocks, macroblockLanes, macroblockBlocks, blockNumbers, knownLength, laneResidual, laned, turnedTo, Residuals, residualsOf}
+use Rattle.transform.specs.Lanes.{byLanes, byBlocks, macroblockLanes, macroblockBlocks, blockNumbers, knownLength, shortResidual, laneResidual, laned, turnedTo, Residuals, residualsOf}
 
 -- ---- blocks one after the other, and by lanes
 pub length-by-lanes : (n : ℕ) (c : List ℤ) → length (byLanes n c) ≡ 16 * n
@@ -292,9 +290,9 @@ module _ (c before : List ℤ) where
     done-alone e =
         rw d
         (ap (λ (v : List ℤ). record { fit = true; values = v })
-        (e ∙ turned-same _ _ before (length c / 16) (λ i k l. ap (λ (x : List ℤ). signedTo 32767 (at (samplesOf false x) k)) (sym (block-lane (length c / 16) c i l)))))
+        (e ∙ turned-same _ _ before (length c / 16) (λ i k l. ap (λ (x : List ℤ). shortResidual (at (samplesOf false x) k)) (sym (block-lane (length c / 16) c i l)))))
 
-    -- small coefficients: no result leaves 16 bits
+    -- small coefficients: every result leaves room
     pub done-together : eachSmall c ≡ true → {q : List ℤ} → q ≡ turnedTo (turnedAt (length c / 16) c) before (length c / 16) → record { fit = true; values = q } ≡ residualsOf c before
     done-together s e =
         done-alone (e ∙ turned-same _ _ before (length c / 16) (λ i k l. sym (clamp-same (small-samples-in (lane-small (length c / 16) i (each-small c s)) .at k))))
@@ -305,13 +303,13 @@ module _ (c before : List ℤ) {b : Bool} {v : List ℤ} (e : record { fit = b; 
   unfolding residualsOf
   residuals-are = ap (λ (r : Residuals). r .values) (rw d at e)
 
-  -- number k of block i is its residual, in 16 bits
+  -- number k of block i is its residual
   pub residuals-at : length before ≡ 256 → (i k : ℕ) → i < length c / 16 → k < 16 → at v (16 * k + i) ≡ laneResidual (length c / 16) c i k
   residuals-at l i k h g =
       ap (λ (x : List ℤ). at x (16 * k + i)) residuals-are ∙ turned-in (laneResidual (length c / 16) c) before l (length c / 16) i k h (whole-blocks (known-blocks (length c) d) .1) g
 
-  -- near 0, where those before them were
-  pub residuals-in : Each (negsuc 150000) (pos 150001) before → Each (negsuc 150000) (pos 150001) v
+  -- with room left, where those before them had it
+  pub residuals-in : Each (negsuc 32512) (pos 32512) before → Each (negsuc 32512) (pos 32512) v
   residuals-in f =
       rw residuals-are
-      (record { at = turned-keeps (In (negsuc 150000) (pos 150001)) (laneResidual (length c / 16) c) before (length c / 16) (λ i k. In-wider (clamp-in (leZ-yes tt) _) tt) (f .at) })
+      (record { at = turned-keeps (In (negsuc 32512) (pos 32512)) (laneResidual (length c / 16) c) before (length c / 16) (λ i k. signed-in 32512 _) (f .at) })

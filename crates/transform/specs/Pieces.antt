@@ -6,10 +6,10 @@ use mathlib.Core.Path.{_≡_}
 use Prim.Native.Nat.{ℕ, _+_, _*_, _<_}
 use lib.IntN.{ℤ, pos, negsuc}
 use lib.Signed.{leZ}
-use Rattle.numbers.specs.Clamp.{signedTo}
 use Rattle.numbers.specs.In.{In}
 use Rattle.numbers.specs.Lists.{build}
 use Rattle.transform.specs.Transform.{at, samplesOf}
+use Rattle.transform.specs.Lanes.{shortResidual}
 
 -- sixteen that fit 16 bits
 pub record CoefficientsIn (c : List ℤ) : Type 0 where
@@ -35,9 +35,9 @@ Blocks n = (n ≡ 128) ⊎ (n ≡ 256)
 abbrev pub laneRow : (n : ℕ) → List ℤ → (from : ℕ) → List ℤ
 laneRow n t from = at t from ∷ at t (from + n) ∷ at t (from + 2 * n) ∷ at t (from + 3 * n) ∷ []
 
--- number k of the residual of block i of n, and the same in 16 bits
+-- number k of the residual of block i of n, and the same with room for a sample
 abbrev pub turnedAt : (n : ℕ) → List ℤ → (i k : ℕ) → ℤ
 turnedAt n c i k = at (samplesOf false (laneOf n c i)) k
 
 abbrev pub aloneAt : (n : ℕ) → List ℤ → (i k : ℕ) → ℤ
-aloneAt n c i k = signedTo 32767 (turnedAt n c i k)
+aloneAt n c i k = shortResidual (turnedAt n c i k)

@@ -175,7 +175,7 @@ pub small-horizontal-in : {g : Grid} → Each2 (negsuc 7999) (pos 8000) g → Ea
 unfolding horizontalPass
 small-horizontal-in e = dct-rows-in {n = 8000} {m = 32000} (lit≤ tt) (bias-in false) e
 
-pub small-result-in : {z : ℤ} → In (negsuc 31999) (pos 32000) z → In (negsuc 32767) (pos 32767) (resultOf false z)
+pub small-result-in : {z : ℤ} → In (negsuc 31999) (pos 32000) z → In (negsuc 32512) (pos 32512) (resultOf false z)
 small-result-in i = In-wider (inside (know w64 (known (plainly i) ∷ []) (shr (v 0) 3) tt)) tt
 
 -- a division rounds down below 0 too: -1 leaves -1

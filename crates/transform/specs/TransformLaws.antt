@@ -133,7 +133,7 @@ samples-in walsh f =
 pub record SmallIn (c : List ℤ) : Type 0 where
   pub small : (k : ℕ) → k < 16 → In (negsuc 2047) (pos 2047) (at c k)
 
-pub small-samples-in : {c : List ℤ} → SmallIn c → Each (negsuc 32767) (pos 32767) (samplesOf false c)
+pub small-samples-in : {c : List ℤ} → SmallIn c → Each (negsuc 32512) (pos 32512) (samplesOf false c)
 unfolding samplesOf resultsOf
 small-samples-in {c} f =
     let e = small-horizontal-in (small-vertical-in (grid-within tt _ (f .small))) in

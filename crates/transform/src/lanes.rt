@@ -9,12 +9,11 @@ ghost use mathlib.Core.Bool.{false};
 ghost use Prim.Native.Nat.{_+_, _*_, _/_, _%_, _<_, _≤_};
 ghost use lib.IntN.{pos, negsuc};
 ghost use lib.ListN.{length};
-ghost use Rattle.numbers.specs.Clamp.{signedTo};
 ghost use Rattle.numbers.specs.In.{Each};
 ghost use Rattle.numbers.specs.Tables.{allBelow};
 ghost use Rattle.transform.specs.Transform.{at, cell, gridOf, resultOf};
 ghost use Rattle.transform.specs.Pieces.{CoefficientsIn, isSmall, laneOf, laneRow, turnedAt, aloneAt, Blocks};
-ghost use Rattle.transform.specs.Lanes.{knownLength, laned, turnedTo, Residuals, residualsOf};
+ghost use Rattle.transform.specs.Lanes.{knownLength, shortResidual, laned, turnedTo, Residuals, residualsOf};
 
 // Whether so many coefficients are those of 8 or of 16 blocks.
 fn known_length(len: usize) -> bool
@@ -101,15 +100,15 @@ fn block(c: &[i16], n: usize, i: usize) -> [i32; 16]
     b
 }
 
-// v taken into sixteen bits by its nearest: added to a sample and clipped, both give the same.
+// The nearest to v that leaves room for a sample in sixteen bits: added to one and clipped, both give the same.
 fn nearest(v: i32) -> i16
-    ensures { λ r. ⌜ r ≡ signedTo 32767 v ⌝ }
+    ensures { λ r. ⌜ r ≡ shortResidual v ⌝ }
 {
-    if v < -32768 {
-        return -32768;
+    if v < -32513 {
+        return -32513;
     }
-    if 32767 < v {
-        return 32767;
+    if 32512 < v {
+        return 32512;
     }
     v as i16
 }

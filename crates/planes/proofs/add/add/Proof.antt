@@ -5,8 +5,8 @@ use mathlib.Core.Path.{_≡_, ap, _∙_}
 use Prim.Native.Nat.{ℕ}
 use borrow.Author.Needs.{needs}
 use lib.Dec.{lit<}
-use mir.Syntax.{w32}
-use Rattle.numbers.specs.Hand.{there, same-bits}
+use mir.Syntax.{w16}
+use Rattle.numbers.specs.Hand.{any, same-bits}
 use Rattle.numbers.specs.Lists.{Bytes}
 use Rattle.planes.specs.Steps.{meanAdded, mean-none}
 use Rattle.planes.proofs.add.add.Statement.{statement}
@@ -29,12 +29,12 @@ returns-2 : tie.Need-returns-2
 returns-2 c =
     let d = c .before .before in
     let i = d .before .before .before in
-    (other _ _ _ (i .if1 .left) (d .add-mean .ensures ∙ ap (meanAdded _ _ _) (there w32 (i .before .before .pre .1 .1 .1) tt .eq)), λ k. i .before .slice-known .given k .fits)
+    (other _ _ _ (i .if1 .left) (d .add-mean .ensures ∙ ap (meanAdded _ _ _) (any w16 (i .before .before .fits .dc) .eq)), λ k. i .before .slice-known .given k .fits)
 
 returns-3 : tie.Need-returns-3
 returns-3 c =
     let b : Bytes (c .before .before .before .args .p .now) = λ k. c .before .before .slice-known .given k .fits in
-    (other _ _ _ (c .before .if1 .left) (mean-none _ b _ _ (same-bits w32 (c .before .before .before .fits .dc) (record { sfits = lit< tt }) (c .if2 .left))), b)
+    (other _ _ _ (c .before .if1 .left) (mean-none _ b _ _ (same-bits w16 (c .before .before .before .fits .dc) (record { sfits = lit< tt }) (c .if2 .left))), b)
 
 pub add-spec : {M : Type 1} → statement M
 add-spec =

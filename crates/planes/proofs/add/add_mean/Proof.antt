@@ -4,8 +4,8 @@ use native.Mathlib.Omega.{arith}
 use borrow.Author.Needs.{needs}
 use lib.IntN.{pos, negsuc}
 use lib.ListN.{length, replicate}
-use mir.Syntax.{w32}
-use Rattle.numbers.specs.Hand.{there, called}
+use mir.Syntax.{w16}
+use Rattle.numbers.specs.Hand.{any, called}
 use Rattle.numbers.specs.In.{Each}
 use Rattle.numbers.specs.Know.{Know, round, inside-read}
 use Rattle.planes.specs.Steps.{meanOf, kept, rows-added, same-near}
@@ -13,10 +13,10 @@ use Rattle.planes.proofs.add.add_mean.Statement.{statement}
 use Rattle.planes.proofs.add.add_mean.Tie as tie
 
 -- what is added
-v : (c : tie.After-mean) → Know (round w32 (c .mean .result)) (meanOf (c .before .before .args .dc)) (negsuc 150000) (pos 150001)
-v c = called w32 (c .mean .ensures .0 ∙ ap meanOf (there w32 (c .before .before .pre .1) tt .eq)) (c .mean .ensures .1) tt
+v : (c : tie.After-mean) → Know (round w16 (c .mean .result)) (meanOf (c .before .before .args .dc)) (negsuc 32512) (pos 32512)
+v c = called w16 (c .mean .ensures .0 ∙ ap meanOf (any w16 (c .before .before .fits .dc) .eq)) (c .mean .ensures .1) tt
 
-near : (c : tie.After-mean) → Each (negsuc 150000) (pos 150001) (replicate 4 (round w32 (c .mean .result)))
+near : (c : tie.After-mean) → Each (negsuc 32512) (pos 32512) (replicate 4 (round w16 (c .mean .result)))
 near c = same-near (inside-read (v c))
 
 -- the plane is as long after each row
@@ -30,16 +30,16 @@ three : (c : tie.After-add-row3) → length (c .add-row3 .last .0) ≡ length (c
 three c = kept _ _ _ (two (c .before .before .before .before)) (c .add-row3 .ensures)
 
 add-row-requires : tie.Need-add-row-requires
-add-row-requires c κs = (omega (arith, c .before .before .before .pre .0), near (c .before))
+add-row-requires c κs = (omega (arith, c .before .before .before .pre), near (c .before))
 
 add-row-requires-2 : tie.Need-add-row-requires-2
-add-row-requires-2 c κs = (omega (arith, c .before .before .before .before .before .before .before .pre .0, one (c .before .before .before)), near (c .before .before .before .before .before))
+add-row-requires-2 c κs = (omega (arith, c .before .before .before .before .before .before .before .pre, one (c .before .before .before)), near (c .before .before .before .before .before))
 
 add-row-requires-3 : tie.Need-add-row-requires-3
-add-row-requires-3 c κs = (omega (arith, c .before .before .before .before .before .before .before .before .before .before .before .pre .0, two (c .before .before .before)), near (c .before .before .before .before .before .before .before .before .before))
+add-row-requires-3 c κs = (omega (arith, c .before .before .before .before .before .before .before .before .before .before .before .pre, two (c .before .before .before)), near (c .before .before .before .before .before .before .before .before .before))
 
 add-row-requires-4 : tie.Need-add-row-requires-4
-add-row-requires-4 c κs = (omega (arith, c .before .before .before .before .before .before .before .before .before .before .before .before .before .before .before .pre .0, three (c .before .before .before)), near (c .before .before .before .before .before .before .before .before .before .before .before .before .before))
+add-row-requires-4 c κs = (omega (arith, c .before .before .before .before .before .before .before .before .before .before .before .before .before .before .before .pre, three (c .before .before .before)), near (c .before .before .before .before .before .before .before .before .before .before .before .before .before))
 
 returns : tie.Need-returns
 returns c =

@@ -4,14 +4,14 @@ use Prim.Native.Nat.{ℕ, _+_, _*_, _-_, _<_, _≤_}
 use native.Mathlib.Omega.{arith}
 use lib.IntN.{ℤ, pos, negsuc}
 use lib.ListN.{length, getD}
-use mir.Syntax.{w16, w32}
-use Rattle.numbers.specs.Know.{Know, round, fit, inside, inside-read}
+use mir.Syntax.{w16}
+use Rattle.numbers.specs.Know.{Know, round, inside}
 use Rattle.transform.specs.TransformLaws.{below-next}
 use Rattle.planes.specs.Paint.{blocksPainted, squareBlocks}
 use Rattle.planes.specs.PaintLaws.{blocks-none, length-blocks}
 use Rattle.planes.specs.Places.{Lies, sides-square, lies-block, sub-lies}
 use Rattle.planes.specs.Steps.{standRule, FirstFit, Fits16}
-use Rattle.planes.proofs.Turns.{taken, passed, large-turn}
+use Rattle.planes.proofs.Turns.{taken, large-turn}
 use Rattle.planes.proofs.blocks.add_blocks.Statement.{statement}
 use Rattle.planes.proofs.blocks.add_blocks.Tie as tie
 
@@ -35,8 +35,8 @@ sub-block-requires c κs = let r = c .before .before .before .pre in (r .1 .0, (
 abbrev first : tie.After-add-arg2 Inv-loop μ-loop → ℤ
 first c = let a = c .before .before .before .before .before .before .args in getD (a .c .now) (a .from + c .before .before .before .before .loop .i) (pos 0)
 
-dc : (c : tie.After-add-arg2 Inv-loop μ-loop) → Know (round w32 (round w16 (first c))) (first c) (negsuc 32767) (pos 32767)
-dc c = passed (first c) (c .add-arg2 .given)
+dc : (c : tie.After-add-arg2 Inv-loop μ-loop) → Know (round w16 (first c)) (first c) (negsuc 32767) (pos 32767)
+dc c = taken (first c) (c .add-arg2 .given)
 
 -- its number among all
 among : (c : tie.After-sub-block Inv-loop μ-loop) → let a = c .before .before .before .before .args in (a .from + c .before .before .loop .i < 16) × (a .from + c .before .before .loop .i < length (a .c .now))
@@ -46,7 +46,7 @@ add-requires : tie.Need-add-requires Inv-loop μ-loop
 add-requires c κs =
     let t = c .before .before in
     let r = t .before .before .before .before .pre .1 .1 in
-    (lies-block (lies t), (among t .0, (r .near, inside-read (dc c))))
+    (lies-block (lies t), (among t .0, r .near))
 
 loop-again : tie.Need-loop-again Inv-loop μ-loop
 loop-again c =
@@ -72,6 +72,6 @@ add-blocks-spec =
     tie.close
     (tie.spec Inv-loop μ-loop (λ c. omega (arith, sides-square (c .before .pre .1 .0))) (λ c. (omega arith, sym (blocks-none _ _ _ _ _ _ _), λ j h. absurd (omega arith)))
     sub-block-requires (λ c. omega (arith, among c)) (λ c. among (c .before) .0) (λ c. omega (arith, among (c .before))) (λ c. among (c .before) .1)
-    (λ c. fit (taken (first c) (c .add-arg2 .given)) tt) add-requires
+    add-requires
     (λ c. omega (arith, sides-square (c .before .before .before .before .before .before .before .before .before .pre .1 .0), c .before .before .before .before .before .before .loop-test))
     (λ c. omega (arith, c .before .before .before .before .before .before .loop-test)) loop-again (λ c. rw (c .before .loop .inv .1) (length-blocks _ _ _ _ _ _ _ _)) returns)

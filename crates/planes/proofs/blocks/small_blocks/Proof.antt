@@ -6,14 +6,14 @@ use native.Mathlib.Nat.{zero-add}
 use native.Mathlib.Omega.{arith}
 use lib.IntN.{ℤ, pos, negsuc}
 use lib.ListN.{length, getD}
-use mir.Syntax.{w16, w32}
-use Rattle.numbers.specs.Know.{Know, round, fit, inside, inside-read}
+use mir.Syntax.{w16}
+use Rattle.numbers.specs.Know.{Know, round, inside}
 use Rattle.transform.specs.TransformLaws.{below-next}
 use Rattle.planes.specs.Paint.{blocksPainted, smallRule, squareBlocks}
 use Rattle.planes.specs.PaintLaws.{blocks-none, length-blocks, length-painted}
 use Rattle.planes.specs.Places.{Lies, lies-block, sub-lies, not-last}
 use Rattle.planes.specs.Steps.{FirstFit, Fits16}
-use Rattle.planes.proofs.Turns.{taken, passed, small-turn}
+use Rattle.planes.proofs.Turns.{taken, small-turn}
 use Rattle.planes.proofs.blocks.small_blocks.Statement.{statement}
 use Rattle.planes.proofs.blocks.small_blocks.Tie as tie
 
@@ -46,13 +46,13 @@ turn c = c .before .before .before .before .before .before .before
 abbrev first : tie.After-add-arg2 Inv-loop μ-loop → ℤ
 first c = let t = turn c in getD (t .before .before .before .before .args .c .now) (t .before .before .loop .i) (pos 0)
 
-dc : (c : tie.After-add-arg2 Inv-loop μ-loop) → Know (round w32 (round w16 (first c))) (first c) (negsuc 32767) (pos 32767)
-dc c = passed (first c) (c .add-arg2 .given)
+dc : (c : tie.After-add-arg2 Inv-loop μ-loop) → Know (round w16 (first c)) (first c) (negsuc 32767) (pos 32767)
+dc c = taken (first c) (c .add-arg2 .given)
 
 add-requires : tie.Need-add-requires Inv-loop μ-loop
 add-requires c κs =
     let d = c .before .before .before .before in
-    (lies-block (still d), (omega arith, (turn c .before .before .before .before .pre .1 .1 .near, inside-read (dc c))))
+    (lies-block (still d), (omega arith, turn c .before .before .before .before .pre .1 .1 .near))
 
 loop-again : tie.Need-loop-again Inv-loop μ-loop
 loop-again c =
@@ -76,5 +76,5 @@ small-blocks-spec =
     (tie.spec Inv-loop μ-loop (λ c. (omega arith, sym (blocks-none _ _ _ _ _ _ _), λ j h. absurd (omega arith)))
     (λ c κs. let r = c .before .before .before .pre in (inr refl, (omega arith, (r .0 .columns, r .0 .wide, r .0 .high)))) (λ c. omega arith) predict-small-requires
     (λ c. omega arith) (λ c. omega arith) (λ c. omega (arith, c .before .before .before .before .before .before .before .before .before .before .pre .1 .1 .room))
-    (λ c. fit (taken (first c) (c .add-arg2 .given)) tt) add-requires (λ c. omega arith) (λ c. omega arith) loop-again
+    add-requires (λ c. omega arith) (λ c. omega arith) loop-again
     (λ c. rw (c .before .loop .inv .1) (length-blocks _ _ _ _ _ _ _ _)) returns)

@@ -3,7 +3,7 @@ use mathlib.Core.Path.{ap, _∙_}
 use borrow.Author.Needs.{needs}
 use lib.IntN.{pos, natAbs}
 use lib.Signed.{leZ-yes}
-use mir.Syntax.{w32}
+use mir.Syntax.{w16}
 use Rattle.numbers.specs.Clamp.{clampZ, upTo}
 use Rattle.numbers.specs.ClampLaws.{clamp-in}
 use Rattle.numbers.specs.Hand.{any, answered, unsigned-asks}
@@ -13,11 +13,11 @@ use Rattle.planes.proofs.predict.clipped.Statement.{statement}
 use Rattle.planes.proofs.predict.clipped.Tie as tie
 
 -- what the two answered
-both : (c : tie.After-no-more) → Know (round w32 (c .no-more .result)) (clampZ (pos 0) (pos 255) (c .before .before .args .v)) (pos 0) (pos 255)
+both : (c : tie.After-no-more) → Know (round w16 (c .no-more .result)) (clampZ (pos 0) (pos 255) (c .before .before .args .v)) (pos 0) (pos 255)
 both c =
-    let v = any w32 (c .before .before .fits .v) in
-    let low = answered w32 (c .before .no-less .ensures ∙ ap noLess (v .eq)) (no-less-in (leZ-yes tt) (inside v)) tt in
-    answered w32 (c .no-more .ensures ∙ ap noMore (low .eq) ∙ clipped-so _) (clamp-in (leZ-yes tt) _) tt
+    let v = any w16 (c .before .before .fits .v) in
+    let low = answered w16 (c .before .no-less .ensures ∙ ap noLess (v .eq)) (no-less-in (leZ-yes tt) (inside v)) tt in
+    answered w16 (c .no-more .ensures ∙ ap noMore (low .eq) ∙ clipped-so _) (clamp-in (leZ-yes tt) _) tt
 
 returns : tie.Need-returns
 unfolding upTo

@@ -5,15 +5,13 @@ use mathlib.Core.Path.{_≡_, refl, sym, ap, _∙_}
 use Prim.Native.Nat.{_-_, _≤_}
 use native.Mathlib.Omega.{arith}
 use lib.IntN.{ℤ}
-use lib.Signed.{leZ-yes}
 use mir.Syntax.{w16, w32}
-use Rattle.numbers.specs.Clamp.{signedTo}
-use Rattle.numbers.specs.ClampLaws.{clamp-in}
+use Rattle.numbers.specs.ClampLaws.{signed-in}
 use Rattle.numbers.specs.Hand.{back, answered}
 use Rattle.numbers.specs.Tests.{never}
 use Rattle.transform.specs.Pieces.{laneOf, aloneAt}
 use Rattle.transform.specs.Transform.{at, samplesOf}
-use Rattle.transform.specs.Lanes.{laned}
+use Rattle.transform.specs.Lanes.{shortResidual, laned}
 use Rattle.transform.specs.LanesLaws.{laned-none, laned-next}
 use Rattle.transform.proofs.lanes.put_alone.Statement.{statement}
 use Rattle.transform.proofs.lanes.put_alone.Tie as tie
@@ -33,8 +31,8 @@ loop-holds c = (omega arith, c .samples .ensures ∙ ap (samplesOf false) (c .be
 loop-again : tie.Need-loop-again Inv-loop μ-loop
 loop-again c =
     let l = c .before .before .before .loop in
-    let e = c .nearest .ensures ∙ ap (signedTo 32767) (back w32 (c .before .nearest-arg .given)) in
-    let n = answered w16 e (clamp-in (leZ-yes tt) _) tt .eq ∙ ap (λ (x : List ℤ). signedTo 32767 (at x (l .k))) (l .inv .1) in
+    let e = c .nearest .ensures ∙ ap shortResidual (back w32 (c .before .nearest-arg .given)) in
+    let n = answered w16 e (signed-in 32512 _) tt .eq ∙ ap (λ (x : List ℤ). shortResidual (at x (l .k))) (l .inv .1) in
     (omega arith, l .inv .1, rw (n, l .inv .2) (laned-next _ _ _ _))
 
 returns : tie.Need-returns Inv-loop μ-loop
