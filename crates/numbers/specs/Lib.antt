@@ -16,6 +16,8 @@ pub mod Floor
 -- lists and tables
 pub mod Lists
 pub mod Runs
+pub mod Stores
+pub mod StoresLaws
 pub mod Tables
 -- the functions of src/: definitions, and laws that callers cite
 pub mod Clamp

@@ -22,7 +22,8 @@ use Rattle.planes.specs.Predict.{smallBlock}
 use Rattle.planes.specs.Paint.{blockAboveRight, aroundOf, painted, blockPainted, blocksPainted, smallAt, smallRule, squarePainted, squareBlocks, paintModesFine, squareFine, coefficientsFine, paintFine, paintOf}
 use Rattle.planes.specs.PaintLaws.{blocks-next}
 use Rattle.planes.specs.Places.{Lies, Sub}
-use Rattle.planes.specs.Steps.{laneAdded, meanAdded, FirstFit, Ready, standing, standRule, added-block, painted-then, small-at-long}
+use Rattle.planes.specs.Pieces.{laneAdded, meanAdded, FirstFit, Ready, standing, standRule}
+use Rattle.planes.specs.PiecesLaws.{added-block, painted-then, small-at-long}
 
 -- ---- a coefficient as it is read
 pub taken : (z : ℤ) → mag z < 2 ^ hbits w16 → Know (round w16 z) z (negsuc 32767) (pos 32767)

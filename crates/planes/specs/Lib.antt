@@ -7,5 +7,4 @@ pub mod Paint
 pub mod Places
 -- what callers and proofs cite
 pub mod PaintLaws
--- the steps of the code
-pub mod Steps
+pub mod PiecesLaws

@@ -5,7 +5,7 @@ use mathlib.Core.Logic.{_⊎_}
 use mathlib.Core.Bool.{Bool, true, false}
 use mathlib.Core.List.{List, [], _∷_}
 use lib.ListN.{getD, replicate}
-use lib.IntN.{ℤ, pos, _+ℤ_, _-ℤ_}
+use lib.IntN.{pos, _+ℤ_, _-ℤ_}
 use Rattle.numbers.specs.Clamp.{clipZ}
 use Rattle.numbers.specs.Lists.{build}
 use Rattle.planes.specs.declared.edges.Border.{Border}

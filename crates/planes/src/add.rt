@@ -9,8 +9,8 @@ ghost use lib.ListN.{length};
 ghost use Rattle.numbers.specs.Clamp.{clipZ};
 ghost use Rattle.numbers.specs.In.{Each};
 ghost use Rattle.numbers.specs.Lists.{Bytes};
-ghost use Rattle.transform.specs.Pieces.{laneRow};
-ghost use Rattle.planes.specs.Steps.{rowSums, rowAdded, laneAdded, meanOf, meanAdded, Residual};
+ghost use Rattle.transform.specs.Transform.{gridRow};
+ghost use Rattle.planes.specs.Pieces.{rowSums, rowAdded, laneAdded, meanOf, meanAdded, Residual};
 ghost use Rattle.planes.specs.Places.{Block};
 
 // A sample, and its residual: their sum fits sixteen bits.
@@ -44,12 +44,12 @@ fn add_row(p: &mut [u8], at: usize, r: [i16; 4])
     copy_row(p, at, &b[..], 0);
 }
 
-// A row of the residual of a block, of sixteen blocks by position.
+// Four residuals side by side: a row of a block.
 fn lane_row(r: &[i16; 256], from: usize) -> [i16; 4]
-    requires { ⌜ from + 48 < 256 ⌝ }
-    ensures { λ q. ⌜ q ≡ laneRow 16 (now (r .entry)) from ⌝ }
+    requires { ⌜ from + 4 ≤ 256 ⌝ }
+    ensures { λ q. ⌜ q ≡ gridRow (now (r .entry)) from ⌝ }
 {
-    [r[from], r[from + 16], r[from + 32], r[from + 48]]
+    [r[from], r[from + 1], r[from + 2], r[from + 3]]
 }
 
 // The residual of block i.
@@ -59,10 +59,10 @@ fn add_lane(p: &mut [u8], w: usize, at: usize, r: &[i16; 256], i: usize)
     requires { ⌜ Each (negsuc 32512) (pos 32512) (now r) ⌝ }
     ensures { λ _. ⌜ now (p .exit) ≡ laneAdded (now (p .entry)) w at (now (r .entry)) i ⌝ }
 {
-    add_row(&mut p[..], at, lane_row(r, i));
-    add_row(&mut p[..], at + w, lane_row(r, i + 64));
-    add_row(&mut p[..], at + 2 * w, lane_row(r, i + 128));
-    add_row(&mut p[..], at + 3 * w, lane_row(r, i + 192));
+    add_row(&mut p[..], at, lane_row(r, 4 * i));
+    add_row(&mut p[..], at + w, lane_row(r, 64 + 4 * i));
+    add_row(&mut p[..], at + 2 * w, lane_row(r, 128 + 4 * i));
+    add_row(&mut p[..], at + 3 * w, lane_row(r, 192 + 4 * i));
 }
 
 // The residual of a block whose coefficients but the first are 0: the same for each sample.

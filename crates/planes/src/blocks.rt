@@ -16,7 +16,7 @@ ghost use lib.ListN.{length, getD, replicate};
 ghost use Rattle.planes.specs.Predict.{Size};
 ghost use Rattle.planes.specs.Paint.{painted, blocksPainted, smallAt, smallRule, squarePainted, squareBlocks};
 ghost use Rattle.planes.specs.Places.{Square, BlockSides, Lies, Sub};
-ghost use Rattle.planes.specs.Steps.{Joined, Looked, Marked, Coded, NoneBelow, FirstFit, Ready, standRule};
+ghost use Rattle.planes.specs.Pieces.{Joined, Looked, Marked, Coded, NoneBelow, FirstFit, Ready, standRule};
 
 // Eight numbers from the place `from` on, each joined bit by bit to one of `some`.
 fn join(c: &[i16], from: usize, some: &mut [i16; 8])

@@ -3,7 +3,7 @@ ghost use mathlib.Core.Path.{_≡_};
 ghost use Prim.Native.Nat.{_*_, _≤_};
 ghost use Rattle.planes.specs.Predict.{Size};
 ghost use Rattle.planes.specs.Paint.{modesBelow, paintModesFine, sideFine, squareFine};
-ghost use Rattle.planes.specs.Steps.{blocksFine};
+ghost use Rattle.planes.specs.Pieces.{blocksFine};
 
 fn each_below(modes: &[u8; 16], limit: u8) -> bool
     ensures { λ r. ⌜ r ≡ modesBelow limit (now (modes .entry)) ⌝ }

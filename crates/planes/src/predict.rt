@@ -7,8 +7,7 @@ ghost use Rattle.numbers.specs.Clamp.{clipZ};
 ghost use Rattle.numbers.specs.Lists.{build};
 ghost use Rattle.planes.specs.Predict.{Size, at, mean2, mean3, two, dcBlock, tmBlock, smallBlock, sumOfFirst, dcOf};
 ghost use Rattle.planes.specs.Pieces.{Count, meanOver, joinedOf, tmOne, tmRow, tmOf, Eleven};
-ghost use Rattle.planes.specs.Pieces.{stretchedOf, threeFrom, twosOf, threesOf, bothOf, rowPicked, pickedOf};
-ghost use Rattle.planes.specs.Steps.{noLess, noMore};
+ghost use Rattle.planes.specs.Pieces.{stretchedOf, threeFrom, twosOf, threesOf, bothOf, rowPicked, pickedOf, noLess, noMore};
 
 // ---- a number as a sample
 // One test after the other, so that the compiler can take several samples at once.

@@ -9,9 +9,8 @@ ghost use Prim.Native.Nat.{_+_, _<_, _≤_};
 ghost use lib.ListN.{length, getD};
 ghost use Rattle.numbers.specs.Runs.{placed};
 ghost use Rattle.planes.specs.Predict.{Size, dcOf, largeAt};
-ghost use Rattle.planes.specs.Pieces.{rowsPlaced, tmOne};
+ghost use Rattle.planes.specs.Pieces.{rowsPlaced, tmOne, blockCopied};
 ghost use Rattle.planes.specs.Paint.{edgeOf};
-ghost use Rattle.planes.specs.Steps.{blockCopied};
 ghost use Rattle.planes.specs.Places.{Square, Block};
 
 // Four samples of b, from its place `from`, into p from the place `at` on.

@@ -1,12 +1,13 @@
 -- Several blocks of sixteen numbers at once: how they stand side by side, and the residuals of 8 or 16 of them (RFC 6386, section 14.4, 4543-4610).
 use mathlib.Core.Bool.{Bool, true, false, cond, _||_}
 use mathlib.Core.List.{List, _++_}
-use Prim.Native.Nat.{ℕ, zero, suc, _+_, _*_, _/_, _%_}
+use Prim.Native.Nat.{ℕ, _+_, _*_, _/_, _%_}
 use lib.Dec.{eqb}
 use lib.IntN.{ℤ, pos}
-use lib.ListN.{length, getD, set, take, drop}
+use lib.ListN.{length, getD, take, drop}
 use Rattle.numbers.specs.Clamp.{signedTo}
 use Rattle.numbers.specs.Lists.{build}
+use Rattle.numbers.specs.Stores.{storedAt}
 use Rattle.transform.specs.Transform.{at, samplesOf}
 
 -- ---- blocks one after the other, and by lanes
@@ -43,15 +44,13 @@ shortResidual v = signedTo 32512 v
 abbrev pub laneResidual : (n : ℕ) (c : List ℤ) (i k : ℕ) → ℤ
 laneResidual n c i k = shortResidual (at (samplesOf false (blockNumbers (byBlocks n c) i)) k)
 
--- of sixteen blocks by lanes, block i: the first n of its numbers are those of f, and the others what they were
-unfoldable pub laned : List ℤ → (i : ℕ) (f : ℕ → ℤ) (n : ℕ) → List ℤ
-laned t i f zero = t
-laned t i f (suc k) = set (laned t i f k) (16 * k + i) (f k)
+-- where it goes: the rows of sixteen blocks side by side, the four numbers of a row together
+abbrev pub rowPlace : (i k : ℕ) → ℕ
+rowPlace i k = 64 * (k / 4) + 4 * i + k % 4
 
--- the same for the first n blocks, all sixteen numbers of each: f i k is number k of block i
+-- those of the first n blocks, one after the other, in their places; f i k is number k of block i
 unfoldable pub turnedTo : (f : ℕ → ℕ → ℤ) (t : List ℤ) (n : ℕ) → List ℤ
-turnedTo f t zero = t
-turnedTo f t (suc i) = laned (turnedTo f t i) i (f i) 16
+turnedTo f t n = storedAt t (λ p. rowPlace (p / 16) (p % 16)) (λ p. f (p / 16) (p % 16)) (16 * n)
 
 -- ---- the public call
 -- whether there are as many coefficients as there must be, and the residuals

@@ -3,27 +3,28 @@ use mathlib.Core.Path.{_≡_, refl, sym, ap, ap₂, _∙_}
 use mathlib.Core.Bool.{Bool, true, false, _&&_}
 use mathlib.Core.List.{List, [], _∷_, _++_}
 use mathlib.Core.Logic.{inl, inr, ⊎-elim}
-use Prim.Native.Nat.{ℕ, zero, suc, _+_, _-_, _*_, _/_, _%_, _<_, _≤_}
-use native.Mathlib.Decide.{ℕ-discrete}
+use Prim.Native.Nat.{ℕ, _+_, _-_, _*_, _/_, _%_, _<_, _≤_}
 use native.Mathlib.Nat.{mul-comm}
 use native.Mathlib.Numerals.{add-one}
 use native.Mathlib.Omega.{arith}
 use borrow.Author.Tests.{eqb-true, ne-eqb}
 use lib.Arith.{digits-div, digits-mod, digits-lt}
 use lib.IntN.{ℤ, pos, negsuc}
-use lib.ListN.{length, length-append, getD, set, length-set, take, drop, replicate, length-drop, take-append-drop, List·getD-append, List·getD-eq-default}
-use lib.Seq.{getD-set-same, getD-set-other, take-at, drop-at, length-take-le, getD-take, getD-drop, getD-append-add}
+use lib.ListN.{length, length-append, getD, take, drop, replicate, length-drop, take-append-drop, List·getD-append, List·getD-eq-default}
+use lib.Seq.{take-at, drop-at, length-take-le, getD-take, getD-drop, getD-append-add}
 use lib.Signed.{leZ}
 use Rattle.numbers.specs.ClampLaws.{clamp-same, signed-in}
 use Rattle.numbers.specs.In.{In, Each}
-use Rattle.numbers.specs.Lists.{built, set-keeps, build-listed, build-same, length-build, getD-build, getD-constant, _∷≡_}
+use Rattle.numbers.specs.Lists.{built, build-listed, build-same, length-build, getD-build, getD-constant, _∷≡_}
+use Rattle.numbers.specs.Stores.{storedAt}
+use Rattle.numbers.specs.StoresLaws.{stored-none, stored-in, stored-keeps, stored-more, stored-same}
 use Rattle.numbers.specs.Tables.{allBelow, all-below}
 use Rattle.numbers.specs.Tests.{lt-or, eq-or}
 use Rattle.transform.specs.Transform.{Grid, at, cell, gridOf, verticalPass, horizontalPass, resultOf, resultsOf, samplesOf}
 use Rattle.transform.specs.TransformBounds.{numeral-in}
 use Rattle.transform.specs.TransformLaws.{CoefficientsIn, range-in, SmallIn, small-samples-in}
 use Rattle.transform.specs.Pieces.{isSmall, laneOf, laneRow, turnedAt, aloneAt, Blocks}
-use Rattle.transform.specs.Lanes.{byLanes, byBlocks, macroblockLanes, macroblockBlocks, blockNumbers, knownLength, shortResidual, laneResidual, laned, turnedTo, Residuals, residualsOf}
+use Rattle.transform.specs.Lanes.{byLanes, byBlocks, macroblockLanes, macroblockBlocks, blockNumbers, knownLength, shortResidual, laneResidual, rowPlace, turnedTo, Residuals, residualsOf}
 
 -- ---- blocks one after the other, and by lanes
 pub length-by-lanes : (n : ℕ) (c : List ℤ) → length (byLanes n c) ≡ 16 * n
@@ -140,41 +141,6 @@ pub block-is : (c : List ℤ) (i : ℕ) {l : List ℤ} → length l ≡ 16 → (
 unfolding blockNumbers
 block-is c i {l} e h = built l 16 _ (pos 0) e h
 
--- ---- one number of a block after the other
-module _ (t : List ℤ) (i : ℕ) (f : ℕ → ℤ) where
-  pub laned-none : laned t i f 0 ≡ t
-  unfolding laned
-  laned-none = refl
-
-  pub laned-next : (k : ℕ) → set (laned t i f k) (16 * k + i) (f k) ≡ laned t i f (k + 1)
-  unfolding laned
-  laned-next k = rw add-one
-
-  pub length-laned : (k : ℕ) → length (laned t i f k) ≡ length t
-  unfolding laned
-  length-laned zero = refl
-  length-laned (suc k) = length-set (laned t i f k) (16 * k + i) (f k) ∙ length-laned k
-
-  -- number k of the block, and of another
-  pub laned-in : (n k : ℕ) → 16 * n + i ≤ length t + 15 → k < n → at (laned t i f n) (16 * k + i) ≡ f k
-  unfolding laned
-  laned-in zero k l h = absurd (omega arith)
-  laned-in (suc n) k l h = elim (ℕ-discrete k n) [
-    | yes e ↦ rw e (getD-set-same (laned t i f n) (16 * n + i) (f n) (pos 0) (rw (length-laned n) (omega arith)))
-    | no e ↦ getD-set-other (laned t i f n) (16 * n + i) (16 * k + i) (f n) (pos 0) (λ q. e (omega arith)) ∙ laned-in n k (omega arith) (omega arith)
-  ]
-
-  pub laned-other : (n j k : ℕ) → i < 16 → j < 16 → (j ≡ i → ⊥) → at (laned t i f n) (16 * k + j) ≡ at t (16 * k + j)
-  unfolding laned
-  laned-other zero j k a b e = refl
-  laned-other (suc n) j k a b e =
-      getD-set-other (laned t i f n) (16 * n + i) (16 * k + j) (f n) (pos 0) (λ q. e (omega arith)) ∙ laned-other n j k a b e
-
-pub laned-same : (t : List ℤ) (i : ℕ) (f g : ℕ → ℤ) (n : ℕ) → ((k : ℕ) → k < n → f k ≡ g k) → laned t i f n ≡ laned t i g n
-unfolding laned
-laned-same t i f g zero h = refl
-laned-same t i f g (suc n) h = ap₂ (λ (l : List ℤ) (x : ℤ). set l (16 * n + i) x) (laned-same t i f g n (λ k l. h k (omega arith))) (h n (omega arith))
-
 -- ---- a block's rows
 pub lane-rows : (n : ℕ) (t : List ℤ) (i : ℕ) {a b c d : List ℤ}
     → a ≡ laneRow n t i → b ≡ laneRow n t (i + 4 * n) → c ≡ laneRow n t (i + 8 * n) → d ≡ laneRow n t (i + 12 * n)
@@ -191,53 +157,34 @@ lane-rows n t i e f g h =
 module _ (f : ℕ → ℕ → ℤ) (t : List ℤ) where
   pub turned-none : turnedTo f t 0 ≡ t
   unfolding turnedTo
-  turned-none = refl
+  turned-none = stored-none t _ _
 
-  pub turned-next : (i : ℕ) {q : List ℤ} → q ≡ turnedTo f t i → laned q i (f i) 16 ≡ turnedTo f t (i + 1)
+  pub turned-next : (i : ℕ) {q : List ℤ} → q ≡ turnedTo f t i → storedAt q (rowPlace i) (f i) 16 ≡ turnedTo f t (i + 1)
   unfolding turnedTo
-  turned-next i e = rw (add-one, e)
+  turned-next i e =
+      let d : (k : ℕ) → k < 16 → i ≡ (16 * i + k) / 16 = λ k h. omega arith in
+      let m : (k : ℕ) → k < 16 → k ≡ (16 * i + k) % 16 = λ k h. omega arith in
+      let n : 16 * i + 16 ≡ 16 * (i + 1) = omega arith in
+      ap (λ (q : List ℤ). storedAt q (rowPlace i) (f i) 16) e
+      ∙ stored-same (turnedTo f t i) (rowPlace i) (λ k. rowPlace ((16 * i + k) / 16) ((16 * i + k) % 16)) (f i) (λ k. f ((16 * i + k) / 16) ((16 * i + k) % 16)) 16 (λ k h. (ap₂ rowPlace (d k h) (m k h), ap₂ f (d k h) (m k h)))
+      ∙ stored-more t (λ p. rowPlace (p / 16) (p % 16)) (λ p. f (p / 16) (p % 16)) (16 * i) 16
+      ∙ ap (storedAt t (λ p. rowPlace (p / 16) (p % 16)) (λ p. f (p / 16) (p % 16))) n
 
-  pub length-turned : (n : ℕ) → length (turnedTo f t n) ≡ length t
-  unfolding turnedTo
-  length-turned zero = refl
-  length-turned (suc n) = length-laned _ _ _ 16 ∙ length-turned n
+-- a place belongs to one number of one block
+place-digits : (a i c : ℕ) → i < 16 → c < 4 → ((64 * a + 4 * i + c) / 64 ≡ a) × ((64 * a + 4 * i + c) % 64 / 4 ≡ i) × ((64 * a + 4 * i + c) % 4 ≡ c)
+place-digits a i c h g = (omega arith, omega arith, omega arith)
 
-  -- in the places of those after them stands what stood there
-  turned-yet : (n i k : ℕ) → n ≤ i → i < 16 → at (turnedTo f t n) (16 * k + i) ≡ at t (16 * k + i)
-  unfolding turnedTo
-  turned-yet zero i k l h = refl
-  turned-yet (suc n) i k l h = laned-other (turnedTo f t n) n _ 16 i k (omega arith) h (λ e. omega arith) ∙ turned-yet n i k (omega arith) h
-
-  turned-in : length t ≡ 256 → (n i k : ℕ) → i < n → n ≤ 16 → k < 16 → at (turnedTo f t n) (16 * k + i) ≡ f i k
-  unfolding turnedTo
-  turned-in e zero i k l h g = absurd (omega arith)
-  turned-in e (suc n) i k l h g = elim (ℕ-discrete i n) [
-    | yes z ↦ rw z (laned-in (turnedTo f t n) n _ 16 k (omega (arith, length-turned n)) g)
-    | no z ↦ laned-other (turnedTo f t n) n _ 16 i k (omega arith) (omega arith) z ∙ turned-in e n i k (omega arith) (omega arith) g
-  ]
-
-pub turned-same : (f g : ℕ → ℕ → ℤ) (t : List ℤ) (n : ℕ) → ((i k : ℕ) → i < n → f i k ≡ g i k) → turnedTo f t n ≡ turnedTo g t n
-unfolding turnedTo
-turned-same f g t zero h = refl
-turned-same f g t (suc n) h =
-    laned-same (turnedTo f t n) n (f n) (g n) 16 (λ k l. h n k (omega arith)) ∙ ap (λ (q : List ℤ). laned q n (g n) 16) (turned-same f g t n (λ i k l. h i k (omega arith)))
+place-one : (p : ℕ) → p < 256 → let r = rowPlace (p / 16) (p % 16) in (r < 256) × (16 * (r % 64 / 4) + (4 * (r / 64) + r % 4) ≡ p)
+place-one p h =
+    let d = place-digits (p % 16 / 4) (p / 16) (p % 16 % 4) (omega arith) (omega arith) in
+    (omega arith, rw (d .0, d .1, d .2) (omega arith))
 
 -- one more, stage by stage
 pub turned-stages : (n : ℕ) (c t : List ℤ) (i : ℕ) {q : List ℤ} {g v h : Grid} → q ≡ turnedTo (turnedAt n c) t i → g ≡ gridOf (laneOf n c i) → v ≡ verticalPass false g → h ≡ horizontalPass false v
-    → laned q i (λ k. resultOf false (cell h (k / 4) (k % 4))) 16 ≡ turnedTo (turnedAt n c) t (i + 1)
+    → storedAt q (rowPlace i) (λ k. resultOf false (cell h (k / 4) (k % 4))) 16 ≡ turnedTo (turnedAt n c) t (i + 1)
 unfolding samplesOf resultsOf
-turned-stages n c t i {q} d e f g = rw (g, f, e) (laned-same q i _ (turnedAt n c i) 16 (λ k l. sym (getD-build 16 _ k (pos 0) l))) ∙ turned-next (turnedAt n c) t i d
-
--- what holds of every number before, and of what is put, holds of every number after
-laned-keeps : (P : ℤ → Type 0) (t : List ℤ) (i : ℕ) (f : ℕ → ℤ) (n : ℕ) → ((k : ℕ) → P (f k)) → ((j : ℕ) → P (at t j)) → (j : ℕ) → P (at (laned t i f n) j)
-unfolding laned
-laned-keeps P t i f zero h g = g
-laned-keeps P t i f (suc n) h g = set-keeps P (laned t i f n) (16 * n + i) (f n) (pos 0) (h n) (laned-keeps P t i f n h g)
-
-turned-keeps : (P : ℤ → Type 0) (f : ℕ → ℕ → ℤ) (t : List ℤ) (n : ℕ) → ((i k : ℕ) → P (f i k)) → ((j : ℕ) → P (at t j)) → (j : ℕ) → P (at (turnedTo f t n) j)
-unfolding turnedTo
-turned-keeps P f t zero h g = g
-turned-keeps P f t (suc n) h g = laned-keeps P (turnedTo f t n) n (f n) 16 (h n) (turned-keeps P f t n h g)
+turned-stages n c t i {q} d e f g =
+    rw (g, f, e) (stored-same q (rowPlace i) (rowPlace i) _ (turnedAt n c i) 16 (λ k l. (refl, sym (getD-build 16 _ k (pos 0) l)))) ∙ turned-next (turnedAt n c) t i d
 
 -- ---- the test of all coefficients
 abbrev pub eachSmall : List ℤ → Bool
@@ -285,17 +232,22 @@ module _ (c before : List ℤ) where
   refused-length e = rw e
 
   module _ (d : knownLength (length c) ≡ true) where
+    -- two rules that agree on every block
+    same : {f g : ℕ → ℕ → ℤ} → ((i k : ℕ) → i < length c / 16 → f i k ≡ g i k) → turnedTo f before (length c / 16) ≡ turnedTo g before (length c / 16)
+    unfolding turnedTo
+    same h = stored-same before _ _ _ _ (16 * (length c / 16)) (λ p l. (refl, h (p / 16) (p % 16) (omega arith)))
+
     pub done-alone : {q : List ℤ} → q ≡ turnedTo (aloneAt (length c / 16) c) before (length c / 16) → record { fit = true; values = q } ≡ residualsOf c before
     unfolding residualsOf
     done-alone e =
         rw d
         (ap (λ (v : List ℤ). record { fit = true; values = v })
-        (e ∙ turned-same _ _ before (length c / 16) (λ i k l. ap (λ (x : List ℤ). shortResidual (at (samplesOf false x) k)) (sym (block-lane (length c / 16) c i l)))))
+        (e ∙ same (λ i k l. ap (λ (x : List ℤ). shortResidual (at (samplesOf false x) k)) (sym (block-lane (length c / 16) c i l)))))
 
     -- small coefficients: every result leaves room
     pub done-together : eachSmall c ≡ true → {q : List ℤ} → q ≡ turnedTo (turnedAt (length c / 16) c) before (length c / 16) → record { fit = true; values = q } ≡ residualsOf c before
     done-together s e =
-        done-alone (e ∙ turned-same _ _ before (length c / 16) (λ i k l. sym (clamp-same (small-samples-in (lane-small (length c / 16) i (each-small c s)) .at k))))
+        done-alone (e ∙ same (λ i k l. sym (clamp-same (small-samples-in (lane-small (length c / 16) i (each-small c s)) .at k))))
 
 -- ---- what callers cite: of an answer and the values that it leaves
 module _ (c before : List ℤ) {b : Bool} {v : List ℤ} (e : record { fit = b; values = v } ≡ residualsOf c before) (d : knownLength (length c) ≡ true) where
@@ -304,12 +256,23 @@ module _ (c before : List ℤ) {b : Bool} {v : List ℤ} (e : record { fit = b; 
   residuals-are = ap (λ (r : Residuals). r .values) (rw d at e)
 
   -- number k of block i is its residual
-  pub residuals-at : length before ≡ 256 → (i k : ℕ) → i < length c / 16 → k < 16 → at v (16 * k + i) ≡ laneResidual (length c / 16) c i k
+  pub residuals-at : length before ≡ 256 → (i k : ℕ) → i < length c / 16 → k < 16 → at v (rowPlace i k) ≡ laneResidual (length c / 16) c i k
+  unfolding turnedTo
   residuals-at l i k h g =
-      ap (λ (x : List ℤ). at x (16 * k + i)) residuals-are ∙ turned-in (laneResidual (length c / 16) c) before l (length c / 16) i k h (whole-blocks (known-blocks (length c) d) .1) g
+      let few = whole-blocks (known-blocks (length c) d) .1 in
+      let p = 16 * i + k in
+      let a : p / 16 ≡ i = omega arith in
+      let b : p % 16 ≡ k = omega arith in
+      let one : (q : ℕ) → q < 16 * (length c / 16) → (rowPlace (q / 16) (q % 16) < length before) × (rowPlace (p / 16) (p % 16) ≡ rowPlace (q / 16) (q % 16) → p ≡ q) =
+      λ q m. (omega (arith, place-one q (omega arith) .0), λ e. sym (place-one p (omega arith) .1) ∙ ap (λ (r : ℕ). 16 * (r % 64 / 4) + (4 * (r / 64) + r % 4)) e ∙ place-one q (omega arith) .1) in
+      ap (λ (x : List ℤ). at x (rowPlace i k)) residuals-are
+      ∙ ap₂ (λ (j n : ℕ). at (turnedTo (laneResidual (length c / 16) c) before (length c / 16)) (rowPlace j n)) (sym a) (sym b)
+      ∙ stored-in before (λ p. rowPlace (p / 16) (p % 16)) (λ p. laneResidual (length c / 16) c (p / 16) (p % 16)) (16 * (length c / 16)) p (pos 0) one (omega arith)
+      ∙ ap₂ (laneResidual (length c / 16) c) a b
 
   -- with room left, where those before them had it
   pub residuals-in : Each (negsuc 32512) (pos 32512) before → Each (negsuc 32512) (pos 32512) v
+  unfolding turnedTo
   residuals-in f =
       rw residuals-are
-      (record { at = turned-keeps (In (negsuc 32512) (pos 32512)) (laneResidual (length c / 16) c) before (length c / 16) (λ i k. signed-in 32512 _) (f .at) })
+      (record { at = stored-keeps before _ _ (In (negsuc 32512) (pos 32512)) (16 * (length c / 16)) (pos 0) (f .at) (λ p. signed-in 32512 _) })

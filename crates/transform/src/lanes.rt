@@ -10,10 +10,11 @@ ghost use Prim.Native.Nat.{_+_, _*_, _/_, _%_, _<_, _≤_};
 ghost use lib.IntN.{pos, negsuc};
 ghost use lib.ListN.{length};
 ghost use Rattle.numbers.specs.In.{Each};
+ghost use Rattle.numbers.specs.Stores.{storedAt};
 ghost use Rattle.numbers.specs.Tables.{allBelow};
 ghost use Rattle.transform.specs.Transform.{at, cell, gridOf, resultOf};
 ghost use Rattle.transform.specs.Pieces.{CoefficientsIn, isSmall, laneOf, laneRow, turnedAt, aloneAt, Blocks};
-ghost use Rattle.transform.specs.Lanes.{knownLength, shortResidual, laned, turnedTo, Residuals, residualsOf};
+ghost use Rattle.transform.specs.Lanes.{knownLength, shortResidual, rowPlace, turnedTo, Residuals, residualsOf};
 
 // Whether so many coefficients are those of 8 or of 16 blocks.
 fn known_length(len: usize) -> bool
@@ -70,10 +71,10 @@ fn lane(c: &[i16], n: usize, i: usize) -> Short
 // The results of block i into its places: an eighth of what the passes leave, rounded down.
 fn put_lane(t: &mut [i16; 256], i: usize, g: Short)
     requires { ⌜ i < 16 ⌝ }
-    ensures { λ _. ⌜ now (t .exit) ≡ laned (now (t .entry)) i (λ k. resultOf false (cell g (k / 4) (k % 4))) 16 ⌝ }
+    ensures { λ _. ⌜ now (t .exit) ≡ storedAt (now (t .entry)) (rowPlace i) (λ k. resultOf false (cell g (k / 4) (k % 4))) 16 ⌝ }
 {
     for k in 0..16usize {
-        t[16 * k + i] = g[k / 4][k % 4] >> 3;
+        t[64 * (k / 4) + 4 * i + k % 4] = g[k / 4][k % 4] >> 3;
     }
 }
 
@@ -116,12 +117,12 @@ fn nearest(v: i32) -> i16
 // The residual of block i of n into its places.
 fn put_alone(c: &[i16], n: usize, i: usize, t: &mut [i16; 256])
     requires { ⌜ (16 * n ≡ length (now c)) × (n ≤ 16) × (i < n) ⌝ }
-    ensures { λ _. ⌜ now (t .exit) ≡ laned (now (t .entry)) i (aloneAt n (now (c .entry)) i) 16 ⌝ }
+    ensures { λ _. ⌜ now (t .exit) ≡ storedAt (now (t .entry)) (rowPlace i) (aloneAt n (now (c .entry)) i) 16 ⌝ }
 {
     let b = block(c, n, i);
     let s = samples(&b, false, false);
     for k in 0..16usize {
-        t[16 * k + i] = nearest(s[k]);
+        t[64 * (k / 4) + 4 * i + k % 4] = nearest(s[k]);
     }
 }
 
@@ -134,8 +135,8 @@ fn turn_alone(c: &[i16], n: usize, t: &mut [i16; 256])
     }
 }
 
-// The residuals of 8 or 16 blocks: number k of block i of n stands at n * k + i in `c`, and its residual goes to 16 * k + i in
-// `values`. False, and `values` as it was, where there are not so many blocks.
+// The residuals of 8 or 16 blocks: number k of block i of n stands at n * k + i in `c`, and the residual of block i at row j, column x goes
+// to 64 * j + 4 * i + x in `values`, so that the four of a row stand together. False, and `values` as it was, where there are not so many blocks.
 pub fn residuals(c: &[i16], values: &mut [i16; 256]) -> bool
     ensures { λ r. ⌜ _≡_ {A = Residuals} (record { fit = r; values = now (values .exit) })
         (residualsOf (now (c .entry)) (now (values .entry))) ⌝ }

@@ -6,7 +6,7 @@ mod short;
 ghost use mathlib.Core.Path.{_≡_};
 ghost use mathlib.Core.Bool.{true, false};
 ghost use Prim.Native.Nat.{_≤_, _<_, _+_};
-ghost use lib.IntN.{ℤ, pos, negsuc, _+ℤ_};
+ghost use lib.IntN.{pos, negsuc, _+ℤ_};
 ghost use lib.ListN.{replicate};
 ghost use Rattle.numbers.specs.In.{In, Each, Each2};
 ghost use Rattle.numbers.specs.Wrap.{wrapZ};

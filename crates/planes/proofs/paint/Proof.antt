@@ -11,7 +11,8 @@ use Rattle.planes.specs.Predict.{Size}
 use Rattle.planes.specs.Paint.{paintModesFine, squareFine, squarePainted, squareBlocks, paintFine}
 use Rattle.planes.specs.PaintLaws.{Good, modes-size, square-tiled, checks-good, luma-square, luma-whole, small-any, large-any}
 use Rattle.planes.specs.Places.{size-some}
-use Rattle.planes.specs.Steps.{Ready, FirstFit, blocksFine, square-room, square-all, square-fits, ready-turned, ready-plain, unfit}
+use Rattle.planes.specs.Pieces.{Ready, FirstFit, blocksFine}
+use Rattle.planes.specs.PiecesLaws.{square-room, square-all, square-fits, ready-turned, ready-plain, unfit}
 use Rattle.planes.proofs.Turns.{refused-modes, refused-square, refused-coefficients, ready-all, first-all, blocks-all, all-fine, done}
 use Rattle.planes.proofs.paint.Statement.{statement}
 use Rattle.planes.proofs.paint.Tie as tie

@@ -8,7 +8,8 @@ use lib.Dec.{lit<}
 use mir.Syntax.{w16}
 use Rattle.numbers.specs.Hand.{any, same-bits}
 use Rattle.numbers.specs.Lists.{Bytes}
-use Rattle.planes.specs.Steps.{meanAdded, mean-none}
+use Rattle.planes.specs.Pieces.{meanAdded}
+use Rattle.planes.specs.PiecesLaws.{mean-none}
 use Rattle.planes.proofs.add.add.Statement.{statement}
 use Rattle.planes.proofs.add.add.Tie as tie
 

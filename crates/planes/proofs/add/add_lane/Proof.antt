@@ -3,7 +3,7 @@ use mathlib.Core.Path.{_≡_, refl}
 use native.Mathlib.Omega.{arith}
 use borrow.Author.Needs.{needs}
 use lib.ListN.{length}
-use Rattle.planes.specs.Steps.{kept, rows-added, lane-near}
+use Rattle.planes.specs.PiecesLaws.{kept, rows-added, lane-near}
 use Rattle.planes.proofs.add.add_lane.Statement.{statement}
 use Rattle.planes.proofs.add.add_lane.Tie as tie
 
@@ -50,6 +50,7 @@ returns c =
 pub add-lane-spec : {M : Type 1} → statement M
 add-lane-spec =
     tie.close
-    (tie.spec (λ c κs. search needs) add-row-requires (λ c. search needs) (λ c. search needs) (λ c κs. search needs) add-row-requires-2
-    (λ c. search needs) (λ c. search needs) (λ c. search needs) (λ c κs. search needs) add-row-requires-3
-    (λ c. search needs) (λ c. search needs) (λ c. search needs) (λ c κs. search needs) add-row-requires-4 (λ c. search needs) returns)
+    (tie.spec (λ c. omega arith) (λ c κs. omega arith) add-row-requires
+    (λ c. search needs) (λ c. omega arith) (λ c. omega arith) (λ c κs. omega arith) add-row-requires-2
+    (λ c. search needs) (λ c. search needs) (λ c. omega arith) (λ c. omega arith) (λ c κs. omega arith) add-row-requires-3
+    (λ c. search needs) (λ c. search needs) (λ c. omega arith) (λ c. omega arith) (λ c κs. omega arith) add-row-requires-4 (λ c. search needs) returns)

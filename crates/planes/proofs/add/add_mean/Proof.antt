@@ -8,7 +8,8 @@ use mir.Syntax.{w16}
 use Rattle.numbers.specs.Hand.{any, called}
 use Rattle.numbers.specs.In.{Each}
 use Rattle.numbers.specs.Know.{Know, round, inside-read}
-use Rattle.planes.specs.Steps.{meanOf, kept, rows-added, same-near}
+use Rattle.planes.specs.Pieces.{meanOf}
+use Rattle.planes.specs.PiecesLaws.{kept, rows-added, same-near}
 use Rattle.planes.proofs.add.add_mean.Statement.{statement}
 use Rattle.planes.proofs.add.add_mean.Tie as tie
 

@@ -8,7 +8,7 @@ use mir.Syntax.{w16}
 use Rattle.numbers.specs.Hand.{passed, there}
 use Rattle.numbers.specs.Clamp.{clipZ}
 use Rattle.numbers.specs.Know.{round}
-use Rattle.planes.specs.Steps.{four-sums}
+use Rattle.planes.specs.PiecesLaws.{four-sums}
 use Rattle.planes.proofs.add.sums.Statement.{statement}
 use Rattle.planes.proofs.add.sums.Tie as tie
 

@@ -10,7 +10,7 @@ use Rattle.transform.specs.TransformLaws.{below-next}
 use Rattle.planes.specs.Paint.{blocksPainted, squareBlocks}
 use Rattle.planes.specs.PaintLaws.{blocks-none, length-blocks}
 use Rattle.planes.specs.Places.{Lies, sides-square, lies-block, sub-lies}
-use Rattle.planes.specs.Steps.{standRule, FirstFit, Fits16}
+use Rattle.planes.specs.Pieces.{standRule, FirstFit, Fits16}
 use Rattle.planes.proofs.Turns.{taken, large-turn}
 use Rattle.planes.proofs.blocks.add_blocks.Statement.{statement}
 use Rattle.planes.proofs.blocks.add_blocks.Tie as tie

@@ -6,7 +6,7 @@ use native.Mathlib.Omega.{arith}
 use lib.ListN.{getD}
 use Rattle.numbers.specs.Tests.{never}
 use Rattle.transform.specs.TransformLaws.{below-next}
-use Rattle.planes.specs.Steps.{NoneBelow}
+use Rattle.planes.specs.Pieces.{NoneBelow}
 use Rattle.planes.proofs.blocks.any.Statement.{statement}
 use Rattle.planes.proofs.blocks.any.Tie as tie
 

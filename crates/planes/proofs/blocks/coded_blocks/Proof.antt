@@ -1,7 +1,7 @@
 -- `coded_blocks` meets its contract: eight blocks, or twice eight.
 use mathlib.Core.Path.{_≡_, refl}
 use native.Mathlib.Omega.{arith}
-use Rattle.planes.specs.Steps.{coded-none, coded-next}
+use Rattle.planes.specs.PiecesLaws.{coded-none, coded-next}
 use Rattle.planes.proofs.blocks.coded_blocks.Statement.{statement}
 use Rattle.planes.proofs.blocks.coded_blocks.Tie as tie
 

@@ -7,7 +7,8 @@ use lib.ListN.{getD}
 use mir.Syntax.{w16}
 use Rattle.numbers.specs.Hand.{any}
 use Rattle.numbers.specs.Know.{inside}
-use Rattle.planes.specs.Steps.{Joined, joined-none, joined-next, joined-zero}
+use Rattle.planes.specs.Pieces.{Joined}
+use Rattle.planes.specs.PiecesLaws.{joined-none, joined-next, joined-zero}
 use Rattle.planes.proofs.blocks.join.Statement.{statement}
 use Rattle.planes.proofs.blocks.join.Tie as tie
 

@@ -2,7 +2,7 @@
 use borrow.Author.Needs.{needs}
 use Rattle.planes.specs.PaintLaws.{length-rows}
 use Rattle.planes.specs.Places.{quarter, size-sides}
-use Rattle.planes.specs.Steps.{square-put}
+use Rattle.planes.specs.PiecesLaws.{square-put}
 use Rattle.planes.proofs.blocks.large_square.Statement.{statement}
 use Rattle.planes.proofs.blocks.large_square.Tie as tie
 

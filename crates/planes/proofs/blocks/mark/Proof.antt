@@ -11,7 +11,8 @@ use lib.Signed.{mag}
 use mir.Syntax.{w16}
 use mir.Val.{ofZ, hbits}
 use Rattle.numbers.specs.Hand.{same-bits}
-use Rattle.planes.specs.Steps.{Marked, marked-none, marked-next}
+use Rattle.planes.specs.Pieces.{Marked}
+use Rattle.planes.specs.PiecesLaws.{marked-none, marked-next}
 use Rattle.planes.proofs.blocks.mark.Statement.{statement}
 use Rattle.planes.proofs.blocks.mark.Tie as tie
 

@@ -5,7 +5,7 @@ use Prim.Native.Nat.{ℕ}
 use borrow.Author.Needs.{needs}
 use Rattle.planes.specs.Paint.{painted}
 use Rattle.planes.specs.Places.{lies-block}
-use Rattle.planes.specs.Steps.{block-copied}
+use Rattle.planes.specs.PiecesLaws.{block-copied}
 use Rattle.planes.proofs.Turns.{small-is}
 use Rattle.planes.proofs.blocks.predict_small.Statement.{statement}
 use Rattle.planes.proofs.blocks.predict_small.Tie as tie

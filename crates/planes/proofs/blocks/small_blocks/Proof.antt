@@ -12,7 +12,7 @@ use Rattle.transform.specs.TransformLaws.{below-next}
 use Rattle.planes.specs.Paint.{blocksPainted, smallRule, squareBlocks}
 use Rattle.planes.specs.PaintLaws.{blocks-none, length-blocks, length-painted}
 use Rattle.planes.specs.Places.{Lies, lies-block, sub-lies, not-last}
-use Rattle.planes.specs.Steps.{FirstFit, Fits16}
+use Rattle.planes.specs.Pieces.{FirstFit, Fits16}
 use Rattle.planes.proofs.Turns.{taken, small-turn}
 use Rattle.planes.proofs.blocks.small_blocks.Statement.{statement}
 use Rattle.planes.proofs.blocks.small_blocks.Tie as tie

@@ -3,7 +3,8 @@ use mathlib.Core.Path.{_≡_, refl}
 use Prim.Native.Nat.{_+_, _*_, _-_, _<_, _≤_}
 use native.Mathlib.Omega.{arith}
 use Rattle.transform.specs.LanesLaws.{lane-below}
-use Rattle.planes.specs.Steps.{Looked, looked-none, looked-next}
+use Rattle.planes.specs.Pieces.{Looked}
+use Rattle.planes.specs.PiecesLaws.{looked-none, looked-next}
 use Rattle.planes.proofs.blocks.some_of_eight.Statement.{statement}
 use Rattle.planes.proofs.blocks.some_of_eight.Tie as tie
 

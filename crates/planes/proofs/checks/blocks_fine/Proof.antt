@@ -3,7 +3,7 @@ use native.Mathlib.Nat.{mul-le-mul}
 use native.Mathlib.Omega.{arith}
 use borrow.Author.Needs.{needs}
 use Rattle.planes.specs.Places.{size-some}
-use Rattle.planes.specs.Steps.{far-blocks}
+use Rattle.planes.specs.PiecesLaws.{far-blocks}
 use Rattle.planes.proofs.checks.blocks_fine.Statement.{statement}
 use Rattle.planes.proofs.checks.blocks_fine.Tie as tie
 

@@ -8,7 +8,8 @@ use Rattle.numbers.specs.Clamp.{clampZ, upTo}
 use Rattle.numbers.specs.ClampLaws.{clamp-in}
 use Rattle.numbers.specs.Hand.{any, answered, unsigned-asks}
 use Rattle.numbers.specs.Know.{Know, round, inside}
-use Rattle.planes.specs.Steps.{noLess, noMore, no-less-in, clipped-so}
+use Rattle.planes.specs.Pieces.{noLess, noMore}
+use Rattle.planes.specs.PiecesLaws.{no-less-in, clipped-so}
 use Rattle.planes.proofs.predict.clipped.Statement.{statement}
 use Rattle.planes.proofs.predict.clipped.Tie as tie
 

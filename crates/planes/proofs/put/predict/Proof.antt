@@ -4,7 +4,7 @@ use Prim.Native.Nat.{ℕ, _<_}
 use native.Mathlib.Omega.{arith}
 use borrow.Author.Needs.{needs}
 use Rattle.planes.specs.Places.{size-some}
-use Rattle.planes.specs.Steps.{predicted-mean, predicted-tm, predicted-above, predicted-left}
+use Rattle.planes.specs.PiecesLaws.{predicted-mean, predicted-tm, predicted-above, predicted-left}
 use Rattle.planes.proofs.put.predict.Statement.{statement}
 use Rattle.planes.proofs.put.predict.Tie as tie
 

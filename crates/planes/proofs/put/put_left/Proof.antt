@@ -6,7 +6,7 @@ use lib.ListN.{getD, getD-replicate}
 use Rattle.planes.specs.Pieces.{rowsPlaced}
 use Rattle.planes.specs.PaintLaws.{rows-none, length-rows}
 use Rattle.planes.specs.Places.{size-some}
-use Rattle.planes.specs.Steps.{row-room, row-turn}
+use Rattle.planes.specs.PiecesLaws.{row-room, row-turn}
 use Rattle.planes.proofs.put.put_left.Statement.{statement}
 use Rattle.planes.proofs.put.put_left.Tie as tie
 

@@ -5,7 +5,7 @@ use native.Mathlib.Omega.{arith}
 use lib.ListN.{getD}
 use Rattle.planes.specs.Pieces.{rowsPlaced}
 use Rattle.planes.specs.PaintLaws.{rows-none, length-rows}
-use Rattle.planes.specs.Steps.{row-room, row-turn}
+use Rattle.planes.specs.PiecesLaws.{row-room, row-turn}
 use Rattle.planes.proofs.put.put_same.Statement.{statement}
 use Rattle.planes.proofs.put.put_same.Tie as tie
 

@@ -8,7 +8,7 @@ use Rattle.numbers.specs.Lists.{getD-build}
 use Rattle.planes.specs.PaintLaws.{rows-none, length-rows}
 use Rattle.planes.specs.Places.{size-some}
 use Rattle.planes.specs.Pieces.{rowsPlaced, tmOne}
-use Rattle.planes.specs.Steps.{row-room, row-turn}
+use Rattle.planes.specs.PiecesLaws.{row-room, row-turn}
 use Rattle.planes.proofs.put.put_tm.Statement.{statement}
 use Rattle.planes.proofs.put.put_tm.Tie as tie
 

@@ -7,14 +7,15 @@ use native.Mathlib.Omega.{arith}
 use mir.Syntax.{w16}
 use Rattle.numbers.specs.Eval.{v, shr, is}
 use Rattle.numbers.specs.Hand.{known, any}
+use Rattle.numbers.specs.Stores.{storedAt}
+use Rattle.numbers.specs.StoresLaws.{stored-none, stored-next}
 use Rattle.transform.specs.Transform.{cell, resultOf}
-use Rattle.transform.specs.Lanes.{laned}
-use Rattle.transform.specs.LanesLaws.{laned-none, laned-next}
+use Rattle.transform.specs.Lanes.{rowPlace}
 use Rattle.transform.proofs.lanes.put_lane.Statement.{statement}
 use Rattle.transform.proofs.lanes.put_lane.Tie as tie
 
 abbrev Inv-loop : tie.InvT-loop
-Inv-loop t₀ i g k₀ t k = (k ≤ 16) × (t ≡ laned t₀ i (λ (j : ℕ). resultOf false (cell g (j / 4) (j % 4))) k)
+Inv-loop t₀ i g k₀ t k = (k ≤ 16) × (t ≡ storedAt t₀ (rowPlace i) (λ (j : ℕ). resultOf false (cell g (j / 4) (j % 4))) k)
 
 abbrev μ-loop : tie.MeasureT-loop
 μ-loop t₀ i g k₀ t k = 16 - k
@@ -22,7 +23,7 @@ abbrev μ-loop : tie.MeasureT-loop
 loop-again : tie.Need-loop-again Inv-loop μ-loop
 loop-again c =
     let l = c .before .before .loop in
-    (omega arith, rw (is w16 (known (any w16 (record { sfits = c .t .given })) ∷ []) (shr (v 0) 3) tt, l .inv .1) (laned-next _ _ _ _))
+    (omega arith, rw (is w16 (known (any w16 (record { sfits = c .t .given })) ∷ []) (shr (v 0) 3) tt, l .inv .1) (stored-next _ _ _ _))
 
 returns : tie.Need-returns Inv-loop μ-loop
 returns c = let e : c .before .loop .k ≡ 16 = omega arith in rw e at (c .before .loop .inv .1)
@@ -30,6 +31,6 @@ returns c = let e : c .before .loop .k ≡ 16 = omega arith in rw e at (c .befor
 pub put-lane-spec : {M : Type 1} → statement M
 put-lane-spec =
     tie.close
-    (tie.spec Inv-loop μ-loop (λ c. (omega arith, sym (laned-none _ _ _))) (λ c. omega arith) (λ c. omega arith) (λ c. omega arith) (λ c. omega arith)
+    (tie.spec Inv-loop μ-loop (λ c. (omega arith, sym (stored-none _ _ _))) (λ c. omega arith) (λ c. omega arith) (λ c. omega arith) (λ c. omega arith)
     (λ c. omega arith) (λ c. omega arith) (λ c. omega arith) (λ c. omega arith) (λ c. omega arith)
-    (λ c. omega arith) loop-again returns)
+    (λ c. omega arith) (λ c. omega arith) (λ c. omega arith) loop-again returns)

@@ -1,7 +1,7 @@
--- The two steps of the code: what is predicted is put into the plane, and the residual is added to what stands there. Sub-block after
+-- Laws of the code's two steps: what is predicted is put into the plane, and the residual is added to what stands there. Sub-block after
 -- sub-block, and square after square, that is what the definitions paint.
 use Prim.Native.Nat.{ℕ, zero, _+_, _-_, _*_, _/_, _%_, _≤_, _<_}
-use mathlib.Core.Bool.{Bool, true, false, cond, _&&_}
+use mathlib.Core.Bool.{Bool, true, false, cond}
 use mathlib.Core.List.{List, [], _∷_}
 use mathlib.Core.Logic.{inl, inr, ⊎-elim}
 use mathlib.Core.Path.{_≡_, refl, sym, _∙_, ap, ap₂, subst}
@@ -13,7 +13,7 @@ use lib.Bits.{bitOr, or-add-and, and-le-l, and-le-r, or-lt}
 use lib.Dec.{leb, lit<}
 use lib.ListN.{length, getD, set, length-set, take, drop, length-take, length-drop, replicate, length-replicate, getD-replicate}
 use lib.Seq.{ext-getD, getD-set-same, getD-set-other, getD-take, getD-drop, length-take-le}
-use lib.Signed.{_≤ℤ_, ltZ, leZ-yes, ≤ℤ-refl, shrZ}
+use lib.Signed.{_≤ℤ_, ltZ, leZ-yes, ≤ℤ-refl}
 use mir.Facts.{toZ-inj, fits-ofZ}
 use mir.Syntax.{w16}
 use mir.Val.{SFits, toZ, ofZ}
@@ -26,27 +26,20 @@ use Rattle.numbers.specs.Lists.{build, built, build-listed, build-same, getD-bu
 use Rattle.numbers.specs.Parts.{up, nlt-le, of-le, add-parts, lt-parts}
 use Rattle.numbers.specs.Runs.{placed, placed-none, placed-next, placed-self, placed-same, length-placed}
 use Rattle.numbers.specs.Tests.{lt-or, eq-or, never, not-so, both-left, both-right, both-true, cond-at}
-use Rattle.transform.specs.Pieces.{laneRow}
-use Rattle.transform.specs.Transform.{samplesOf}
-use Rattle.transform.specs.Lanes.{byBlocks, knownLength, shortResidual, laneResidual, residualsOf}
+use Rattle.transform.specs.Transform.{gridRow, samplesOf}
+use Rattle.transform.specs.Lanes.{byBlocks, knownLength, shortResidual, laneResidual, rowPlace, residualsOf}
 use Rattle.transform.specs.LanesLaws.{length-by-blocks, blocks-at, block-is, known-blocks, whole-blocks, residuals-at, residuals-in}
 use Rattle.transform.specs.TransformBounds.{numeral-in}
 use Rattle.transform.specs.TransformLaws.{below-four, below-all, below-next, in-range, shortcut}
 use Rattle.planes.specs.declared.edges.Border.{Border}
 use Rattle.planes.specs.Predict.{Size, dcOf, largeAt, largeOf}
 use Rattle.planes.specs.PredictLaws.{small-long}
-use Rattle.planes.specs.Pieces.{rowsPlaced, tmOne}
+use Rattle.planes.specs.Pieces.{rowsPlaced, tmOne, noLess, noMore, blockCopied, sumAt, rowSums, rowAdded, blockAdded, laneAdded, meanOf, meanAdded, Residual, Fits16, laneAt, Joined, Looked, Marked, Coded, NoneBelow, FirstFit, blocksFine, PlainBlock, Ready, standing, standRule}
 use Rattle.planes.specs.Paint.{sampleAt, edgeOf, painted, blockResidual, summedOf, blockPainted, cellColumn, cellRow, blocksPainted, largeRule, smallAt, squarePainted, squareBlocks, coefficientsFine}
 use Rattle.planes.specs.PaintLaws.{Bytes, length-block, block-at, rows-none, rows-next, length-rows, rows-off, rows-in, rows-same, painted-rows, length-painted, painted-off, painted-in, length-blocks, blocks-yet, blocks-off, blocks-in, square-large}
 use Rattle.planes.specs.Places.{Square, run-inside, BlockSides, sides-few, cell, within-or, covered, by-size, quarter, size-sides, size-blocks}
 
 -- ---- a number taken into 0..255, from below and then from above
-abbrev pub noLess : ℤ → ℤ
-noLess v = cond (ltZ v (pos 0)) (pos 0) v
-
-abbrev pub noMore : ℤ → ℤ
-noMore v = cond (ltZ (pos 255) v) (pos 255) v
-
 pub no-less-in : {l h v : ℤ} → pos 0 ≤ℤ h → In l h v → In (pos 0) h (noLess v)
 no-less-in {l} {h} {v} p i =
     cond-at (ltZ v (pos 0)) (In (pos 0) h) (λ e. record { low = ≤ℤ-refl (pos 0); high = p }) (λ e. record { low = nlt-le v (pos 0) e; high = i .high })
@@ -57,109 +50,6 @@ clipped-so v = rw (clamp-tests (pos 0) (pos 255) v) (go (ltZ v (pos 0)))
     go : (b : Bool) → noMore (cond b (pos 0) v) ≡ cond b (pos 0) (noMore v)
     go true = refl
     go false = refl
-
--- ---- a sub-block by the place of its first sample, in rows of w
--- b copied there
-unfoldable pub blockCopied : List ℕ → (w at : ℕ) (b : List ℕ) → List ℕ
-blockCopied p w at b = row (row (row (row p at 0) (at + w) 4) (at + 2 * w) 8) (at + 3 * w) 12
-  where
-    row : List ℕ → (at from : ℕ) → List ℕ
-    row q at from = placed q at (λ k. getD b (from + k) 0) 4
-
--- r added to four samples
-abbrev pub sumAt : List ℕ → (at : ℕ) (r : List ℤ) (k : ℕ) → ℕ
-sumAt p at r k = clipZ (pos (getD p (at + k) 0) +ℤ getD r k (pos 0))
-
-unfoldable pub rowSums : List ℕ → (at : ℕ) (r : List ℤ) → List ℕ
-rowSums p at r = build 4 (sumAt p at r)
-
--- the same in their place, and four rows added to four rows
-unfoldable pub rowAdded : List ℕ → (at : ℕ) (r : List ℤ) → List ℕ
-rowAdded p at r = placed p at (sumAt p at r) 4
-
-abbrev pub blockAdded : List ℕ → (w at : ℕ) (a b c d : List ℤ) → List ℕ
-blockAdded p w at a b c d = rowAdded (rowAdded (rowAdded (rowAdded p at a) (at + w) b) (at + 2 * w) c) (at + 3 * w) d
-
--- the residual of block i, of sixteen blocks by position; and that of a block with nothing but its first coefficient
-abbrev pub laneAdded : List ℕ → (w at : ℕ) (r : List ℤ) (i : ℕ) → List ℕ
-laneAdded p w at r i = blockAdded p w at (laneRow 16 r i) (laneRow 16 r (i + 64)) (laneRow 16 r (i + 128)) (laneRow 16 r (i + 192))
-
-abbrev pub meanOf : (dc : ℤ) → ℤ
-meanOf dc = shrZ (dc +ℤ pos 4) 8
-
-abbrev pub meanAdded : List ℕ → (w at : ℕ) (dc : ℤ) → List ℕ
-meanAdded p w at dc = let v = replicate 4 (meanOf dc) in blockAdded p w at v v v v
-
--- one that leaves room for a sample in 16 bits
-abbrev pub Residual : ℤ → Type 0
-Residual r = In (negsuc 32512) (pos 32512) r
-
--- ---- what is known of coefficients by lanes
-abbrev pub Fits16 : ℤ → Type 0
-Fits16 z = In (negsuc 32767) (pos 32767) z
-
--- number k of block i of n
-abbrev pub laneAt : (n : ℕ) (c : List ℤ) (i k : ℕ) → ℤ
-laneAt n c i k = getD c (n * k + i) (pos 0)
-
--- the first i of eight numbers from the place `from` on, each joined with one of those before
-pub record Joined (c : List ℤ) (from : ℕ) (before some : List ℤ) (i : ℕ) : Type 0 where
-  pub long : length some ≡ 8
-  pub none : (j : ℕ) → j < i → getD some j (pos 0) ≡ pos 0 → (getD before j (pos 0) ≡ pos 0) × (getD c (from + j) (pos 0) ≡ pos 0)
-  pub fit : (j : ℕ) → j < i → Fits16 (getD c (from + j) (pos 0))
-  pub yet : (j : ℕ) → i ≤ j → getD some j (pos 0) ≡ getD before j (pos 0)
-
--- the first k numbers, but the very first, of eight blocks from `first` on
-pub record Looked (c : List ℤ) (n first : ℕ) (some : List ℤ) (k : ℕ) : Type 0 where
-  pub long : length some ≡ 8
-  pub none : (i : ℕ) → i < 8 → (j : ℕ) → 0 < j → j < k → getD some i (pos 0) ≡ pos 0 → laneAt n c (first + i) j ≡ pos 0
-  pub fit : (i : ℕ) → i < 8 → (j : ℕ) → 0 < j → j < k → Fits16 (laneAt n c (first + i) j)
-
--- the flags of the first i of eight blocks from `first` on
-pub record Marked (before : List Bool) (first : ℕ) (some : List ℤ) (coded : List Bool) (i : ℕ) : Type 0 where
-  pub long : length coded ≡ 16
-  pub plain : (j : ℕ) → j < i → getD coded (first + j) false ≡ false → getD some j (pos 0) ≡ pos 0
-  pub kept : (j : ℕ) → j < first → getD coded j false ≡ getD before j false
-
--- and of the first m of n blocks: where a flag does not stand, the numbers but the first are 0
-pub record Coded (c : List ℤ) (n : ℕ) (coded : List Bool) (m : ℕ) : Type 0 where
-  pub long : length coded ≡ 16
-  pub plain : (i : ℕ) → i < m → getD coded i false ≡ false → (k : ℕ) → 0 < k → k < 16 → laneAt n c i k ≡ pos 0
-  pub fit : (i : ℕ) → i < m → (k : ℕ) → 0 < k → k < 16 → Fits16 (laneAt n c i k)
-
--- no flag stands
-abbrev pub NoneBelow : List Bool → (n : ℕ) → Type 0
-NoneBelow coded n = (i : ℕ) → i < n → getD coded i false ≡ false
-
--- the first coefficients of n blocks fit 16 bits
-abbrev pub FirstFit : (c : List ℤ) (from n : ℕ) → Type 0
-FirstFit c from n = (i : ℕ) → i < n → Fits16 (getD c (from + i) (pos 0))
-
--- 8 or 16 blocks, with those of a square of n by n from block `from` on among them
-abbrev pub blocksFine : (n len from : ℕ) → Bool
-blocksFine n len from = knownLength len && leb (16 * from + n * n) len
-
--- ---- what is known of the residuals of n sub-blocks
--- the first n coefficients of sub-block i but the first are 0
-abbrev pub PlainBlock : (n : ℕ) (c : List ℤ) (i : ℕ) → Type 0
-PlainBlock n c i = (k : ℕ) → 0 < k → k < n → getD c (16 * i + k) (pos 0) ≡ pos 0
-
--- the coefficients are s; by lanes they stand in c, from block `from` on, and the residuals of those that are coded in r
-pub record Ready (c : List ℤ) (from : ℕ) (s : List ℤ) (coded : List Bool) (r : List ℤ) (n : ℕ) : Type 0 where
-  pub few : from + n ≤ 16
-  pub room : from + n ≤ length c
-  pub long : 16 * n ≤ length s
-  pub first : (i : ℕ) → i < n → getD c (from + i) (pos 0) ≡ getD s (16 * i) (pos 0)
-  pub near : Each (negsuc 32512) (pos 32512) r
-  pub plain : (i : ℕ) → i < n → getD coded (from + i) false ≡ false → PlainBlock 16 s i
-  pub lane : (i k : ℕ) → i < n → k < 16 → getD coded (from + i) false ≡ true → getD r (16 * k + (from + i)) (pos 0) ≡ shortResidual (getD (blockResidual s i) k (pos 0))
-
--- ---- what stands in the sub-block at column x, row y
-unfoldable pub standing : List ℕ → (w x y : ℕ) → List ℕ
-standing p w x y = build 16 (λ k. sampleAt p w (x + k % 4) (y + k / 4))
-
-abbrev pub standRule : (w x y m : ℕ) → List ℕ → ℕ → List ℕ
-standRule w x y m q i = standing q w (x + cellColumn m i) (y + cellRow m i)
 
 -- ---- stores
 pub placed-four : (p : List ℕ) (at : ℕ) (f : ℕ → ℕ) → set (set (set (set p at (f 0)) (at + 1) (f 1)) (at + 2) (f 2)) (at + 3) (f 3) ≡ placed p at f 4
@@ -249,8 +139,8 @@ pub rows-added : (p : List ℕ) (w at : ℕ) {q r s t : List ℕ} {a b c d a′ 
     → a ≡ a′ → b ≡ b′ → c ≡ c′ → d ≡ d′ → t ≡ blockAdded p w at a′ b′ c′ d′
 rows-added p w at e f g h i j k l = h ∙ rw (g, f, e, i, j, k, l)
 
-pub lane-near : (r : List ℤ) (from : ℕ) → Each (negsuc 32512) (pos 32512) r → Each (negsuc 32512) (pos 32512) (laneRow 16 r from)
-lane-near r from e = each-∷ (e .at from) (each-∷ (e .at (from + 16)) (each-∷ (e .at (from + 32)) (each-∷ (e .at (from + 48)) (each-[] tt))))
+pub lane-near : (r : List ℤ) (from : ℕ) → Each (negsuc 32512) (pos 32512) r → Each (negsuc 32512) (pos 32512) (gridRow r from)
+lane-near r from e = each-∷ (e .at (from + 0)) (each-∷ (e .at (from + 1)) (each-∷ (e .at (from + 2)) (each-∷ (e .at (from + 3)) (each-[] tt))))
 
 pub same-near : {v : ℤ} → Residual v → Each (negsuc 32512) (pos 32512) (replicate 4 v)
 same-near i = each-∷ i (each-∷ i (each-∷ i (each-∷ i (each-[] tt))))
@@ -336,23 +226,22 @@ module _ (p : List ℕ) (w x y : ℕ) (b : Bytes p) (z : List ℤ) where
       ∙ clip-near (getD (build 16 (λ i. sampleAt p w (x + i % 4) (y + i / 4))) k 0) (getD z k (pos 0)) (rw (getD-build 16 (λ i. sampleAt p w (x + i % 4) (y + i / 4)) k 0 h) (b _)))
 
 -- ---- a sub-block's residual added is the sub-block painted over what stands there
-lane-at : (r : List ℤ) (from k : ℕ) → k < 4 → getD (laneRow 16 r from) k (pos 0) ≡ getD r (from + 16 * k) (pos 0)
-lane-at r from = below-four (λ k. getD (laneRow 16 r from) k (pos 0) ≡ getD r (from + 16 * k) (pos 0)) (rw add-zero) refl refl refl
+lane-at : (r : List ℤ) (from k : ℕ) → k < 4 → getD (gridRow r from) k (pos 0) ≡ getD r (from + k) (pos 0)
+lane-at r from = below-four (λ k. getD (gridRow r from) k (pos 0) ≡ getD r (from + k) (pos 0)) refl refl refl refl
 
 module _ {c : List ℤ} {from : ℕ} {s : List ℤ} {coded : List Bool} {r : List ℤ} {n : ℕ} (ready : Ready c from s coded r n) (p : List ℕ) (bytes : Bytes p) (w x y i : ℕ) {at : ℕ} (h : i < n) (l : x + 4 ≤ w) (e : at ≡ y * w + x) where
   coded-added : getD coded (from + i) false ≡ true → laneAdded p w at r (from + i) ≡ painted p w x y (summedOf (standing p w x y) (blockResidual s i))
   coded-added b =
-      let t = from + i in
-      block-added p w x y near _ _ _ _ l e (row 0 t (omega arith)) (row 4 (t + 64) (omega arith)) (row 8 (t + 128) (omega arith)) (row 12 (t + 192) (omega arith))
+      block-added p w x y near _ _ _ _ l e (row 0 _ (omega arith)) (row 1 _ (omega arith)) (row 2 _ (omega arith)) (row 3 _ (omega arith))
       ∙ ap (painted p w x y) (summed-near p w x y bytes (blockResidual s i))
     where
       near : List ℤ
       near = build 16 (λ k. shortResidual (getD (blockResidual s i) k (pos 0)))
 
-      row : (f m : ℕ) → (m ≡ 16 * f + (from + i)) × (f ≤ 12) → (k : ℕ) → k < 4 → getD (laneRow 16 r m) k (pos 0) ≡ getD near (f + k) (pos 0)
-      row f m a k g =
-          let q : m + 16 * k ≡ 16 * (f + k) + (from + i) = omega arith in
-          lane-at r m k g ∙ ap (λ (j : ℕ). getD r j (pos 0)) q ∙ ready .lane i (f + k) h (omega arith) b ∙ sym (getD-build 16 _ (f + k) (pos 0) (omega arith))
+      row : (y m : ℕ) → (m ≡ 64 * y + 4 * (from + i)) × (y < 4) → (k : ℕ) → k < 4 → getD (gridRow r m) k (pos 0) ≡ getD near (4 * y + k) (pos 0)
+      row y m a k g =
+          let q : m + k ≡ rowPlace (from + i) (4 * y + k) = omega arith in
+          lane-at r m k g ∙ ap (λ (j : ℕ). getD r j (pos 0)) q ∙ ready .lane i (4 * y + k) h (omega arith) b ∙ sym (getD-build 16 _ (4 * y + k) (pos 0) (omega arith))
 
   plain-residual : PlainBlock 16 s i → blockResidual s i ≡ replicate 16 (meanOf (getD s (16 * i) (pos 0)))
   unfolding blockResidual
@@ -605,7 +494,7 @@ module _ {n : ℕ} (from : ℕ) (c : List ℤ) (s : Size n) where
 
     -- what stands ready, by what is known of the residuals: `lane` is asked where one is coded
     pub square-ready : (coded : List Bool) {v : List ℤ} → Coded c (length c / 16) coded (length c / 16) → Each (negsuc 32512) (pos 32512) v
-        → ((i k : ℕ) → i < length c / 16 → k < 16 → getD coded i false ≡ true → getD v (16 * k + i) (pos 0) ≡ laneResidual (length c / 16) c i k)
+        → ((i k : ℕ) → i < length c / 16 → k < 16 → getD coded i false ≡ true → getD v (rowPlace i k) (pos 0) ≡ laneResidual (length c / 16) c i k)
         → Ready c from (squareBlocks n from c) coded v (n / 4 * (n / 4))
     unfolding blockResidual
     square-ready coded d e r =
