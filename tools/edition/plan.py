@@ -14,7 +14,7 @@ CHAPTERS = [
     ("Prediction", "section 12", ["planes"]),
     ("Tokens and coefficients", "section 13", ["reader/Token", "coefficients", "residual"]),
     ("The inverse transforms", "section 14", ["transform"]),
-    ("The loop filter", "section 15", ["filter/Strengths", "filter/Kernel", "filter", "deblock"]),
+    ("The loop filter", "section 15", ["filter/Strengths", "filter/Kernel", "filter", "straight", "deblock"]),
     ("Lent memory", "", ["column", "lent"]),
     ("One macroblock, all of them, the picture call", "sections 2 and 19.3", ["macroblock", "picture"]),
     ("From a frame's bytes to the screen", "sections 9 to 15", ["key_frame"]),

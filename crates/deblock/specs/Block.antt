@@ -7,7 +7,7 @@ use lib.ListN.{getD}
 use Rattle.numbers.specs.Lists.{build}
 use Rattle.numbers.specs.Runs.{copied}
 use Rattle.filter.specs.Kernel.{samplesAcross}
-use Rattle.filter.specs.Straight.{actsOf}
+use Rattle.straight.specs.Straight.{actsOf}
 use Rattle.deblock.specs.declared.edges.Edge.{Edge}
 use Rattle.deblock.specs.Deblock.{acrossOf}
 

@@ -17,8 +17,8 @@ use Rattle.numbers.specs.Lists.{Filled, filled-next, build, built, build-same, 
 use Rattle.numbers.specs.Runs.{Off, copied, length-copied, copied-keeps, copied-in, copied-off}
 use Rattle.filter.specs.Kernel.{samplesAcross}
 use Rattle.filter.specs.KernelLaws.{Bytes}
-use Rattle.filter.specs.Straight.{actsOf, straightOf}
-use Rattle.filter.specs.StraightLaws.{straight-filter, acts-none}
+use Rattle.straight.specs.Straight.{actsOf, straightOf}
+use Rattle.straight.specs.StraightLaws.{straight-filter, acts-none}
 use Rattle.planes.specs.Places.{next-row}
 use Rattle.deblock.specs.declared.edges.Edge.{Edge}
 use Rattle.deblock.specs.Deblock.{Change, turns, acrossOf, laidBack, keptOf, positionOf, sweepOf}

@@ -1,7 +1,7 @@
 // Sixteen positions of an edge side by side, in a block of 128 samples: sample k of position i stands at i + 16 * k. The compiler takes
 // them together, so no way through them hangs on a sample.
-use filter::straight::acts;
-use filter::straight::straight;
+use straight::limits::acts;
+use straight::steps::straight;
 ghost use mathlib.Core.Path.{_≡_};
 ghost use mathlib.Core.Bool.{false};
 ghost use Prim.Native.Nat.{ℕ, _+_, _<_};

@@ -57,12 +57,15 @@ firstFalse (false ∷ bs) = 0
 unfoldable pub smooth : (inner : ℕ) → ℤ → ℤ → Bool
 smooth inner a b = leb (apart a b) inner
 
--- The first pair of neighbours that is not smooth: 0, 1, 2 for p3-p2, p2-p1, p1-p0, and 3, 4, 5 for q3-q2, q2-q1, q1-q0; 6 where all are.
+-- Whether each of the six pairs of neighbours is smooth: p3-p2, p2-p1, p1-p0, and q3-q2, q2-q1, q1-q0.
+abbrev pub pairs : Samples → (inner : ℕ) → List Bool
+pairs e inner =
+    smooth inner (e .p3) (e .p2) ∷ smooth inner (e .p2) (e .p1) ∷ smooth inner (e .p1) (e .p0)
+    ∷ smooth inner (e .q3) (e .q2) ∷ smooth inner (e .q2) (e .q1) ∷ smooth inner (e .q1) (e .q0) ∷ []
+
+-- The first of them that is not, 0 to 5; 6 where all are.
 unfoldable pub roughAt : Samples → (inner : ℕ) → ℕ
-roughAt e inner =
-    firstFalse
-    (smooth inner (e .p3) (e .p2) ∷ smooth inner (e .p2) (e .p1) ∷ smooth inner (e .p1) (e .p0)
-    ∷ smooth inner (e .q3) (e .q2) ∷ smooth inner (e .q2) (e .q1) ∷ smooth inner (e .q1) (e .q0) ∷ [])
+roughAt e inner = firstFalse (pairs e inner)
 
 -- High edge variance (`hev`, its hev_threshold; 5127-5133): the two samples next to the edge, on either side, lie further apart than `threshold`.
 unfoldable pub highVariance : Samples → (threshold : ℕ) → Bool

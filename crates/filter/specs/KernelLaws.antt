@@ -12,7 +12,7 @@ use lib.ListN.{length, getD}
 use lib.IntN.{ℤ, pos, negsuc, negℤ, natAbs, _+ℤ_, _-ℤ_, _*ℤ_}
 use lib.Signed.{leZ}
 use mir.Syntax.{w32}
-use Rattle.numbers.specs.Tests.{never, lt-or, eq-or, both-false}
+use Rattle.numbers.specs.Tests.{never, lt-or, eq-or}
 use Rattle.numbers.specs.In.{In, Each}
 use Rattle.numbers.specs.Parts.{to-le, of-le, of-eq, add-parts, sub-parts-ℤ, up-neg, dn-neg, up-times, dn-times, shr-parts}
 use Rattle.numbers.specs.Order.{times-mono, In-wider}
@@ -27,7 +27,7 @@ use Rattle.filter.specs.declared.answers.Rule.{Rule}
 use Rattle.filter.specs.declared.answers.Rule.the-variants.{EdgeFailed, Rough, Simple, HighVariance, MacroblockEdge, InnerEdge}
 use Rattle.filter.specs.declared.answers.Pixel.the-variants.{Value, Refused}
 pub use Rattle.filter.specs.Kernel.{Bytes}
-use Rattle.filter.specs.Kernel.{Samples, samplesAcross, apart, withinLimit, firstFalse, smooth, roughAt, highVariance, ruleOf, across, tapped, eighth, part, half, sides, noSteps, commonSteps, macroblockSteps, innerSteps, stepsOf, movedOf, filterOf, pixelOf}
+use Rattle.filter.specs.Kernel.{Samples, samplesAcross, apart, withinLimit, firstFalse, smooth, pairs, roughAt, highVariance, ruleOf, across, tapped, eighth, part, half, sides, noSteps, commonSteps, macroblockSteps, innerSteps, stepsOf, movedOf, filterOf, pixelOf}
 
 -- ---- how far two samples lie apart: the greater less the other
 pub apart-above : (a b : ℕ) → b ≤ a → a - b ≡ apart (pos a) (pos b)
@@ -58,9 +58,6 @@ first-fails [] h = absurd (omega arith)
 first-fails (true ∷ l) h = first-fails l (omega arith)
 first-fails (false ∷ l) h = refl
 
-pub first-none : (l : List Bool) → true ≡ not (ltb (firstFalse l) 0)
-first-none l = sym (ap not (le-ltb (firstFalse l) 0 (omega arith)))
-
 -- looked for one by one: none fails before k
 module _ (l : List Bool) (k : ℕ) where
   pub first-here : k ≤ firstFalse l → getD l k true ≡ false → k ≡ firstFalse l
@@ -75,22 +72,7 @@ module _ (l : List Bool) (k : ℕ) where
   pub first-end : length l ≤ k → k ≤ firstFalse l → firstFalse l ≡ length l
   first-end m g = omega (arith, first-most l)
 
-  -- or all of them tried, and what they say joined
-  pub first-joined : k < length l → getD l k true && not (ltb (firstFalse l) k) ≡ not (ltb (firstFalse l) (k + 1))
-  first-joined m = elim (lt-or k (firstFalse l)) [
-    | inl h ↦ rw (first-holds l k h, le-ltb (firstFalse l) k (omega arith), le-ltb (firstFalse l) (k + 1) (omega arith))
-    | inr h ↦ elim (eq-or k (firstFalse l)) [
-      | inl z ↦ rw (ap (λ (j : ℕ). getD l j true) z ∙ first-fails l (omega (arith, z)), lt-ltb (firstFalse l) (k + 1) (omega arith))
-      | inr z ↦ rw (lt-ltb (firstFalse l) k (omega arith), lt-ltb (firstFalse l) (k + 1) (omega arith)) (both-false (getD l k true) refl)
-    ]
-  ]
-
--- the six pairs of neighbours, in the order in which they are tried
-abbrev pub pairs : Samples → (inner : ℕ) → List Bool
-pairs e inner =
-    smooth inner (e .p3) (e .p2) ∷ smooth inner (e .p2) (e .p1) ∷ smooth inner (e .p1) (e .p0)
-    ∷ smooth inner (e .q3) (e .q2) ∷ smooth inner (e .q2) (e .q1) ∷ smooth inner (e .q1) (e .q0) ∷ []
-
+-- the six pairs by their places
 module _ (e : List ℕ) (inner : ℕ) where
   pub pair-before : (k : ℕ) → k < 3 → smooth inner (pos (getD e k 0)) (pos (getD e (k + 1) 0)) ≡ getD (pairs (samplesAcross e) inner) k true
   pair-before zero h = refl

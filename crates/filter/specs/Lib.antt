@@ -2,8 +2,6 @@ pub mod Strengths
 pub mod StrengthsLaws
 pub mod Kernel
 pub mod KernelLaws
-pub mod Straight
-pub mod StraightLaws
 pub mod Explain
 pub mod ExplainLaws
 pub mod Moves

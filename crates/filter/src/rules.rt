@@ -5,18 +5,17 @@ ghost use mathlib.Core.Bool.{true};
 ghost use Prim.Native.Nat.{_<_};
 ghost use lib.IntN.{pos};
 ghost use lib.ListN.{getD};
-ghost use Rattle.filter.specs.Kernel.{samplesAcross, apart, withinLimit, smooth, roughAt, highVariance, ruleOf};
-ghost use Rattle.filter.specs.KernelLaws.{pairs};
+ghost use Rattle.filter.specs.Kernel.{samplesAcross, apart, withinLimit, smooth, pairs, roughAt, highVariance, ruleOf};
 
 // How far a and b lie apart.
-fn distance(a: u8, b: u8) -> u8
+pub fn distance(a: u8, b: u8) -> u8
     ensures { λ r. ⌜ r ≡ apart (pos a) (pos b) ⌝ }
 {
     if a < b { b - a } else { a - b }
 }
 
 // The edge test.
-pub(crate) fn within_limit(e: &[u8; 8], limit: u8) -> bool
+pub fn within_limit(e: &[u8; 8], limit: u8) -> bool
     ensures { λ r. ⌜ r ≡ withinLimit (samplesAcross (now (e .entry))) limit ⌝ }
 {
     4 * distance(e[3], e[4]) as u16 + distance(e[2], e[5]) as u16 <= 2 * limit as u16 + 1
@@ -30,7 +29,7 @@ fn smooth(a: u8, b: u8, inner: u8) -> bool
 }
 
 // Whether the kth pair of neighbours is smooth: three up to the edge, then three behind it, on either side from the outermost on.
-pub(crate) fn pair_smooth(e: &[u8; 8], k: usize, inner: u8) -> bool
+fn pair_smooth(e: &[u8; 8], k: usize, inner: u8) -> bool
     requires { ⌜ k < 6 ⌝ }
     ensures { λ r. ⌜ r ≡ getD (pairs (samplesAcross (now (e .entry))) inner) k true ⌝ }
 {
@@ -54,7 +53,7 @@ fn rough(e: &[u8; 8], inner: u8) -> u8
 }
 
 // Whether the two samples next to the edge, on either side, differ by more than threshold.
-pub(crate) fn high_variance(e: &[u8; 8], threshold: u8) -> bool
+fn high_variance(e: &[u8; 8], threshold: u8) -> bool
     ensures { λ r. ⌜ r ≡ highVariance (samplesAcross (now (e .entry))) threshold ⌝ }
 {
     (distance(e[2], e[3]) > threshold) | (distance(e[5], e[4]) > threshold)

@@ -13,14 +13,14 @@ ghost use Rattle.filter.specs.Kernel.{samplesAcross, across, tapped, eig
 ghost use Rattle.filter.specs.Kernel.{innerSteps, stepsOf, movedOf};
 
 // v as a signed byte, -128..=127.
-pub(crate) fn signed_byte(v: i16) -> i16
+pub fn signed_byte(v: i16) -> i16
     ensures { λ r. ⌜ r ≡ signedByteZ v ⌝ }
 {
     clamp(v, -128, 127)
 }
 
 // Three times the step across the edge.
-pub(crate) fn across(e: &[u8; 8]) -> i16
+fn across(e: &[u8; 8]) -> i16
     ensures { λ r. ⌜ r ≡ across (samplesAcross (now (e .entry))) ⌝ }
     ensures { λ r. ⌜ In (negsuc 764) (pos 765) r ⌝ }
 {
@@ -28,7 +28,7 @@ pub(crate) fn across(e: &[u8; 8]) -> i16
 }
 
 // The same with the outer taps.
-pub(crate) fn tapped(e: &[u8; 8]) -> i16
+fn tapped(e: &[u8; 8]) -> i16
     ensures { λ r. ⌜ r ≡ tapped (samplesAcross (now (e .entry))) ⌝ }
     ensures { λ r. ⌜ In (negsuc 892) (pos 892) r ⌝ }
 {
@@ -43,7 +43,7 @@ fn eighth(a: i16) -> i16
 }
 
 // The steps of eight samples: what is added on the p side is taken off on the q side.
-pub(crate) fn sides(p2: i16, p1: i16, p0: i16, q0: i16, q1: i16, q2: i16) -> [i16; 8]
+fn sides(p2: i16, p1: i16, p0: i16, q0: i16, q1: i16, q2: i16) -> [i16; 8]
     requires { ⌜ In (negsuc 127) (pos 127) q0 × In (negsuc 127) (pos 127) q1 × In (negsuc 127) (pos 127) q2 ⌝ }
     ensures { λ r. ⌜ r ≡ sides p2 p1 p0 q0 q1 q2 ⌝ }
 {
@@ -51,7 +51,7 @@ pub(crate) fn sides(p2: i16, p1: i16, p0: i16, q0: i16, q1: i16, q2: i16) -> [i1
 }
 
 // p0 and q0 move toward each other.
-pub(crate) fn common_steps(a: i16) -> [i16; 8]
+fn common_steps(a: i16) -> [i16; 8]
     requires { ⌜ In (negsuc 892) (pos 892) a ⌝ }
     ensures { λ r. ⌜ r ≡ commonSteps a ⌝ }
 {
@@ -59,7 +59,7 @@ pub(crate) fn common_steps(a: i16) -> [i16; 8]
 }
 
 // Three samples on each side move, the nearest most.
-pub(crate) fn macroblock_steps(w: i16) -> [i16; 8]
+fn macroblock_steps(w: i16) -> [i16; 8]
     requires { ⌜ In (negsuc 127) (pos 127) w ⌝ }
     ensures { λ r. ⌜ r ≡ macroblockSteps w ⌝ }
 {
@@ -70,7 +70,7 @@ pub(crate) fn macroblock_steps(w: i16) -> [i16; 8]
 }
 
 // Two samples on each side move, the second half as far.
-pub(crate) fn inner_steps(a: i16) -> [i16; 8]
+fn inner_steps(a: i16) -> [i16; 8]
     requires { ⌜ In (negsuc 892) (pos 892) a ⌝ }
     ensures { λ r. ⌜ r ≡ innerSteps a ⌝ }
 {
@@ -80,7 +80,7 @@ pub(crate) fn inner_steps(a: i16) -> [i16; 8]
 }
 
 // Each sample with its step added, clipped.
-pub(crate) fn moved(e: &[u8; 8], s: &[i16; 8]) -> [u8; 8]
+fn moved(e: &[u8; 8], s: &[i16; 8]) -> [u8; 8]
     requires { ⌜ Each (negsuc 126) (pos 127) (now s) ⌝ }
     ensures { λ r. ⌜ r ≡ movedOf (now (e .entry)) (now (s .entry)) ⌝ }
 {

@@ -6,8 +6,8 @@ use Prim.Native.Nat.{ℕ}
 use mathlib.Core.Bool.{Bool}
 use mathlib.Core.List.{List}
 use Rattle.numbers.specs.Lists.{byteAt}
-use lib.IntN.{ℤ}
-use Rattle.numbers.specs.Clamp.{upTo}
+use lib.IntN.{ℤ, pos}
+use Rattle.numbers.specs.Clamp.{upTo, signedByteZ}
 use Rattle.numbers.specs.Wrap.{wrap16Of}
 use Rattle.reader.specs.Boolean.{validOf, firstReader, symbolAnswer}
 use Rattle.reader.specs.Reading.{run}
@@ -27,8 +27,8 @@ use Rattle.coefficients.specs.Block.{numberAnswer, signedAnswer, tableOf}
 use Rattle.transform.specs.Lanes.{residualsOf, macroblockBlocks}
 use Rattle.transform.specs.Transform.{transformOf}
 use Rattle.filter.specs.declared.answers.Rule.{Rule}
-use Rattle.filter.specs.Kernel.{samplesAcross, ruleOf, stepsOf, movedOf, filterOf, pixelOf}
-use Rattle.filter.specs.Straight.{actsOf, straightOf}
+use Rattle.filter.specs.Kernel.{samplesAcross, apart, withinLimit, ruleOf, stepsOf, movedOf, filterOf, pixelOf}
+use Rattle.straight.specs.Straight.{actsOf, straightOf}
 use Rattle.modes.specs.Answers.{eachBelow, macroblockOf, prefixAnswer, mainAnswer, blockAnswer, smallAnswer, modesAnswer}
 use Rattle.filter.specs.Explain.{explainOf}
 use Rattle.modes.specs.Modes as Modes
@@ -283,13 +283,17 @@ filter-rule e simple edge limit inner threshold = determined (ruleOf (samplesAcr
 pub filter-acted : (e : List ℕ) (rule : Rule) → One (λ o. o ≡ movedOf e (stepsOf rule (samplesAcross e)))
 filter-acted e rule = determined (movedOf e (stepsOf rule (samplesAcross e)))
 
--- filter::straight::acts
-pub filter-acts : (e : List ℕ) (simple : Bool) (limit inner : ℕ) → One (λ o. o ≡ actsOf (samplesAcross e) simple limit inner)
-filter-acts e simple limit inner = determined (actsOf (samplesAcross e) simple limit inner)
+-- filter::rules::distance
+pub filter-distance : (a b : ℕ) → One (λ o. o ≡ apart (pos a) (pos b))
+filter-distance a b = determined (apart (pos a) (pos b))
 
--- filter::straight::straight
-pub filter-straight : (e : List ℕ) (simple edge : Bool) (threshold : ℕ) (acts : Bool) → One (λ o. o ≡ straightOf e simple edge threshold acts)
-filter-straight e simple edge threshold acts = determined (straightOf e simple edge threshold acts)
+-- filter::rules::within_limit
+pub filter-within-limit : (e : List ℕ) (limit : ℕ) → One (λ o. o ≡ withinLimit (samplesAcross e) limit)
+filter-within-limit e limit = determined (withinLimit (samplesAcross e) limit)
+
+-- filter::steps::signed_byte
+pub filter-signed-byte : (v : ℤ) → One (λ o. o ≡ signedByteZ v)
+filter-signed-byte v = determined (signedByteZ v)
 
 -- filter::strengths::at_level
 pub filter-at-level : (level sharp : ℕ) (inside : Bool) → One (λ o. o ≡ strengthAnswer level sharp inside)
@@ -306,6 +310,15 @@ filter-added e rule = determined (stepsOf rule (samplesAcross e))
 -- filter::explain::explain
 pub filter-explain : (e : List ℕ) (simple edge : Bool) (limit inner threshold : ℕ) → One (λ o. o ≡ explainOf e simple edge limit inner threshold)
 filter-explain e simple edge limit inner threshold = determined (explainOf e simple edge limit inner threshold)
+
+-- ---- straight
+-- straight::limits::acts
+pub straight-acts : (e : List ℕ) (simple : Bool) (limit inner : ℕ) → One (λ o. o ≡ actsOf (samplesAcross e) simple limit inner)
+straight-acts e simple limit inner = determined (actsOf (samplesAcross e) simple limit inner)
+
+-- straight::steps::straight
+pub straight-straight : (e : List ℕ) (simple edge : Bool) (threshold : ℕ) (acts : Bool) → One (λ o. o ≡ straightOf e simple edge threshold acts)
+straight-straight e simple edge threshold acts = determined (straightOf e simple edge threshold acts)
 
 -- ---- modes
 -- modes::prefix::prefix

@@ -6,7 +6,7 @@ use native.Mathlib.Omega.{arith}
 use borrow.Author.Needs.{needs}
 use Rattle.numbers.specs.Lists.{Filled, filled-none, filled-next, filled-all}
 use Rattle.filter.specs.Kernel.{samplesAcross}
-use Rattle.filter.specs.Straight.{actsOf}
+use Rattle.straight.specs.Straight.{actsOf}
 use Rattle.deblock.specs.Deblock.{acrossOf}
 use Rattle.deblock.specs.Block.{actingOf}
 use Rattle.deblock.proofs.edges.acting.Statement.{statement}

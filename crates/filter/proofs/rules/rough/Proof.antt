@@ -3,8 +3,8 @@ use Prim.Native.Nat.{_-_, _≤_}
 use mathlib.Core.Path.{sym, _∙_}
 use native.Mathlib.Omega.{arith}
 use borrow.Author.Tests.{not-true, not-false}
-use Rattle.filter.specs.Kernel.{samplesAcross, firstFalse, roughAt}
-use Rattle.filter.specs.KernelLaws.{pairs, first-here, first-later, first-end}
+use Rattle.filter.specs.Kernel.{samplesAcross, firstFalse, pairs, roughAt}
+use Rattle.filter.specs.KernelLaws.{first-here, first-later, first-end}
 use Rattle.filter.proofs.rules.rough.Statement.{statement}
 use Rattle.filter.proofs.rules.rough.Tie as tie
 
