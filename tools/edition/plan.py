@@ -16,7 +16,7 @@ CHAPTERS = [
     ("The inverse transforms", "section 14", ["transform"]),
     ("The loop filter", "section 15", ["filter/Strengths", "filter/Kernel", "filter", "straight", "deblock"]),
     ("Lent memory", "", ["column", "lent"]),
-    ("One macroblock, all of them, the picture call", "sections 2 and 19.3", ["macroblock", "picture"]),
+    ("One macroblock, all of them, the picture call", "sections 2 and 19.3", ["macroblock", "choices", "picture"]),
     ("From a frame's bytes to the screen", "sections 9 to 15", ["key_frame"]),
     ("What a cut tile still tells", "request M-108", ["macroblock/Rebuilt", "picture/Halt", "rescue"]),
     ("Whether a tile fits the cockpit profile", "request M-111", ["profile"]),
@@ -25,7 +25,7 @@ CHAPTERS = [
     ("The WebP file", "RFC 9649; request M-113", ["webp"]),
     ("The fast way", "section 7.3", ["wide"]),
     ("Case files", "", ["casefile"]),
-    ("The calls as C sees them", "", ["boundary", "samples", "files", "hookbarley"]),
+    ("The calls as C sees them", "", ["boundary", "samples", "files", "told", "hookbarley"]),
 ]
 
 # The crate whose public functions C and Rust link: its contracts are roots of docs/DEFINITIONS.md.

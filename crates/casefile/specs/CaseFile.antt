@@ -11,7 +11,7 @@ use Rattle.reader.specs.Boolean.{firstReader}
 use Rattle.tile.specs.declared.Span.{Span}
 use Rattle.tile.specs.declared.Tile.{Tile}
 use Rattle.tile.specs.Partitions.{contentsOf, noSpan}
-use Rattle.picture.specs.Checks.{Call, callOf}
+use Rattle.choices.specs.Checks.{Call, callOf}
 
 -- ---- numbers of one, two and four bytes
 -- two bytes, the higher first

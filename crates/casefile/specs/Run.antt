@@ -7,7 +7,8 @@ use lib.ListN.{replicate}
 use Rattle.tile.specs.Checks.{blocksOf}
 use Rattle.lent.specs.Memory.{Memory, memoryOf}
 use Rattle.lent.specs.Records.{columnWidth, modeWidth, strengthWidth}
-use Rattle.picture.specs.Picture.{Ended, numberOf, valuesOf, pictureOf}
+use Rattle.choices.specs.Answer.{numberOf, valuesOf}
+use Rattle.picture.specs.Picture.{Ended, pictureOf}
 use Rattle.casefile.specs.declared.run.Sums.{Sums}
 use Rattle.casefile.specs.declared.run.Hashes.{Hashes}
 use Rattle.casefile.specs.declared.run.Ran.{Ran}

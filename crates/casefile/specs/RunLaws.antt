@@ -10,7 +10,7 @@ use lib.Seq.{getD-take, length-take-le}
 use Rattle.numbers.specs.Lists.{constant, getD-constant}
 use Rattle.tile.specs.declared.Tile.{Tile}
 use Rattle.lent.specs.Memory.{Memory, memoryOf}
-use Rattle.picture.specs.Checks.{callOf}
+use Rattle.choices.specs.Checks.{callOf}
 use Rattle.picture.specs.Picture.{Ended, pictureOf}
 use Rattle.casefile.specs.declared.run.Ran.{Ran}
 use Rattle.casefile.specs.CaseFile.{caseWidth, caseHeight, caseHeader, wellFormed, caseTile, givenOf}

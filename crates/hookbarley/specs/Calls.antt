@@ -7,8 +7,9 @@ use lib.IntN.{ℤ}
 use lib.ListN.{length}
 use Rattle.macroblock.specs.declared.arguments.SymbolCounts.{SymbolCounts}
 use Rattle.lent.specs.Memory.{Memory}
-use Rattle.picture.specs.Checks.{Call, callOf}
-use Rattle.picture.specs.Picture.{Ended, numberOf, valuesOf, pictureOf}
+use Rattle.choices.specs.Checks.{Call, callOf}
+use Rattle.choices.specs.Answer.{numberOf, valuesOf}
+use Rattle.picture.specs.Picture.{Ended, pictureOf}
 use Rattle.picture.specs.Counts.{costOf}
 use Rattle.boundary.specs.TileNumbers.{tileOfNumbers}
 

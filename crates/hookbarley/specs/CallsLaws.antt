@@ -7,12 +7,14 @@ use lib.ListN.{length}
 use borrow.Author.Tests.{eq-eqb, ne-eqb}
 use Rattle.tile.specs.declared.Tile.{Tile}
 use Rattle.lent.specs.Memory.{Memory}
-use Rattle.picture.specs.Checks.{callOf}
-use Rattle.picture.specs.declared.rows.Decoded.{Decoded}
-use Rattle.picture.specs.Picture.{endedOf, numberOf, valuesOf, pictureOf}
+use Rattle.choices.specs.Checks.{callOf}
+use Rattle.choices.specs.declared.answer.Decoded.{Decoded}
+use Rattle.choices.specs.Answer.{numberOf, valuesOf}
+use Rattle.picture.specs.Picture.{endedOf, pictureOf}
 use Rattle.picture.specs.Counts.{costOf}
 use Rattle.macroblock.specs.declared.arguments.SymbolCounts.{SymbolCounts}
 use Rattle.boundary.specs.TileNumbers.{tileOfNumbers}
+use Rattle.told.specs.Told.{countsTold, countsOf}
 use Rattle.hookbarley.specs.Calls.{toPictureCalled, calledNumbers, handedCall, calledOf}
 
 module _ (bytes : List ℕ) (header : List ℤ) (tile : List ℕ) (m : Memory) where
@@ -26,8 +28,9 @@ module _ (bytes : List ℕ) (header : List ℤ) (tile : List ℕ) (m : Memory) w
 
   -- as the code finds it, of the tile that it made of the numbers
   pub called-found : length tile ≡ 28 → {t : Tile} → t ≡ tileOfNumbers tile → {d : Decoded} {r : SymbolCounts} {q : Memory} → (endedOf d q ≡ pictureOf (callOf bytes t header) m) × (r ≡ costOf (callOf bytes t header) m)
-      → {n k : ℕ} → n ≡ numberOf d → k ≡ valuesOf d → calledNumbers n k (r .first) (r .tokens) q ≡ calledOf bytes header tile m
-  called-found e t {d} {r} {q} h f g =
-      (λ i. calledNumbers (f i) (g i) (r .first) (r .tokens) q)
+      → {n k x a b : ℕ} → n ≡ numberOf d → k ≡ valuesOf d → countsTold x a b ≡ countsOf k r → calledNumbers n x a b q ≡ calledOf bytes header tile m
+  called-found e t {d} {r} {q} h f g c =
+      (λ i. calledNumbers (f i) (c i .finished) (c i .first) (c i .tokens) q)
+      ∙ (λ i. calledNumbers (numberOf d) (g i) (r .first) (r .tokens) q)
       ∙ ap₂ toPictureCalled (h .0 ∙ (λ i. pictureOf (callOf bytes (t i) header) m)) (h .1 ∙ (λ i. costOf (callOf bytes (t i) header) m))
       ∙ sym (called-picture e)

@@ -7,10 +7,11 @@ use lib.ListN.{length}
 use borrow.Author.Tests.{eq-eqb, ne-eqb}
 use Rattle.tile.specs.declared.Tile.{Tile}
 use Rattle.lent.specs.Memory.{Memory}
-use Rattle.picture.specs.Checks.{callOf}
+use Rattle.choices.specs.Checks.{callOf}
 use Rattle.profile.specs.declared.Profiled.{Profiled}
-use Rattle.profile.specs.Profile.{profiled, profileOf, profileRuleOf, profileBlockOf, profileNumberOf}
+use Rattle.profile.specs.Profile.{profiled, profileOf}
 use Rattle.boundary.specs.TileNumbers.{tileOfNumbers}
+use Rattle.told.specs.Told.{profileTold, profileToldOf}
 use Rattle.hookbarley.specs.Calls.{handedCall}
 use Rattle.hookbarley.specs.ProfileCalls.{profileNumbers, toProfileCalled, profileCalledOf}
 
@@ -25,6 +26,6 @@ module _ (bytes : List ℕ) (header : List ℤ) (tile : List ℕ) (m : Memory) w
 
   -- as the code finds it, of the tile that it made of the numbers
   pub profile-called-found : length tile ≡ 28 → {t : Tile} → t ≡ tileOfNumbers tile → {x : Profiled} {q : Memory} → profiled x q ≡ profileOf (callOf bytes t header) m
-      → {n r k : ℕ} → n ≡ profileNumberOf x → r ≡ profileRuleOf x → k ≡ profileBlockOf x → profileNumbers n r k q ≡ profileCalledOf bytes header tile m
-  profile-called-found e t {x} {q} h f g k =
-      (λ i. profileNumbers (f i) (g i) (k i) q) ∙ ap toProfileCalled (h ∙ (λ i. profileOf (callOf bytes (t i) header) m)) ∙ sym (profile-called e)
+      → {n r k : ℕ} → profileTold n r k ≡ profileToldOf x → profileNumbers n r k q ≡ profileCalledOf bytes header tile m
+  profile-called-found e t {x} {q} h f =
+      (λ i. profileNumbers (f i .number) (f i .rule) (f i .macroblock) q) ∙ ap toProfileCalled (h ∙ (λ i. profileOf (callOf bytes (t i) header) m)) ∙ sym (profile-called e)

@@ -7,7 +7,7 @@ use lib.ListN.{length, getD, replicate}
 use borrow.Author.Tests.{eq-eqb, ne-eqb}
 use Rattle.tile.specs.declared.Tile.{Tile}
 use Rattle.lent.specs.Memory.{Memory}
-use Rattle.picture.specs.Checks.{callOf}
+use Rattle.choices.specs.Checks.{callOf}
 use Rattle.recode.specs.declared.Recoded.{Recoded}
 use Rattle.recode.specs.Recode.{recodeEnded, recodeOf}
 use Rattle.boundary.specs.TileNumbers.{numbersOfTile, putOf, FieldsFit, tileOfNumbers, shownOfNumbers}

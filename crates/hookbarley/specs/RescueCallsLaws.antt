@@ -7,10 +7,11 @@ use lib.ListN.{length}
 use borrow.Author.Tests.{eq-eqb, ne-eqb}
 use Rattle.tile.specs.declared.Tile.{Tile}
 use Rattle.lent.specs.Memory.{Memory}
-use Rattle.picture.specs.Checks.{callOf}
+use Rattle.choices.specs.Checks.{callOf}
 use Rattle.rescue.specs.declared.Rescued.{Rescued}
-use Rattle.rescue.specs.Rescue.{rescueEnded, rescueOf, rescueNumberOf, savedCountOf}
+use Rattle.rescue.specs.Rescue.{rescueEnded, rescueOf}
 use Rattle.boundary.specs.TileNumbers.{tileOfNumbers}
+use Rattle.told.specs.Told.{rescueTold, rescueToldOf}
 use Rattle.hookbarley.specs.Calls.{handedCall}
 use Rattle.hookbarley.specs.RescueCalls.{rescueNumbers, toRescueCalled, rescueCalledOf}
 
@@ -25,6 +26,6 @@ module _ (bytes : List ℕ) (header : List ℤ) (tile : List ℕ) (m : Memory) (
 
   -- as the code finds it, of the tile that it made of the numbers
   pub rescue-called-found : length tile ≡ 28 → {t : Tile} → t ≡ tileOfNumbers tile → {x : Rescued} {q : Memory} {l : List ℕ} → rescueEnded x q l ≡ rescueOf (callOf bytes t header) m marks
-      → {n k : ℕ} → n ≡ rescueNumberOf x → k ≡ savedCountOf x → rescueNumbers n k q l ≡ rescueCalledOf bytes header tile m marks
-  rescue-called-found e t {x} {q} {l} h f g =
-      (λ i. rescueNumbers (f i) (g i) q l) ∙ ap toRescueCalled (h ∙ (λ i. rescueOf (callOf bytes (t i) header) m marks)) ∙ sym (rescue-called e)
+      → {n k : ℕ} → rescueTold n k ≡ rescueToldOf x → rescueNumbers n k q l ≡ rescueCalledOf bytes header tile m marks
+  rescue-called-found e t {x} {q} {l} h f =
+      (λ i. rescueNumbers (f i .number) (f i .kept) q l) ∙ ap toRescueCalled (h ∙ (λ i. rescueOf (callOf bytes (t i) header) m marks)) ∙ sym (rescue-called e)

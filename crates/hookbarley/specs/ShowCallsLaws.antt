@@ -9,6 +9,7 @@ use Rattle.lent.specs.Memory.{Memory}
 use Rattle.key_frame.specs.declared.Shown.{Shown}
 use Rattle.key_frame.specs.KeyFrame.{KeyFramed, keyFramed, keyFrameOf}
 use Rattle.boundary.specs.FrameCalls.{tileAfter}
+use Rattle.told.specs.Told.{countsTold, countsOf}
 use Rattle.hookbarley.specs.ShowCalls.{ShowCalled, shownNumbers, toShowCalled, showCalledOf}
 
 module _ (b : List ℕ) (header : List ℤ) (tile : List ℕ) (m : Memory) where
@@ -21,6 +22,7 @@ module _ (b : List ℕ) (header : List ℤ) (tile : List ℕ) (m : Memory) where
   show-called e = rw (eq-eqb _ _ e, showCalledOf)
 
   pub show-found : length tile ≡ 28 → {q : Shown} {h : List ℤ} {n : Memory} {l : List ℕ} → keyFramed q h n ≡ keyFrameOf b header m → l ≡ tileAfter tile (q .taken)
-      → shownNumbers (q .number) (q .finished) (q .reads .first) (q .reads .tokens) h l n ≡ showCalledOf b header tile m
-  show-found e {q} {h} {n} f g =
-      ap (λ (l : List ℕ). shownNumbers (q .number) (q .finished) (q .reads .first) (q .reads .tokens) h l n) g ∙ ap (toShowCalled tile) f ∙ sym (show-called e)
+      → {k x y : ℕ} → countsTold k x y ≡ countsOf (q .finished) (q .reads) → shownNumbers (q .number) k x y h l n ≡ showCalledOf b header tile m
+  show-found e {q} {h} {n} {l} f g c =
+      (λ i. shownNumbers (q .number) (c i .finished) (c i .first) (c i .tokens) h l n)
+      ∙ ap (λ (l : List ℕ). shownNumbers (q .number) (q .finished) (q .reads .first) (q .reads .tokens) h l n) g ∙ ap (toShowCalled tile) f ∙ sym (show-called e)

@@ -2,6 +2,7 @@
 use boundary::tile_numbers::TILE_NUMBERS;
 use boundary::tile_numbers::tile_of;
 use picture::decode;
+use told::counts::tell_counts;
 ghost use mathlib.Core.Path.{_≡_};
 ghost use Rattle.lent.specs.Memory.{memoryOf};
 ghost use Rattle.hookbarley.specs.Calls.{calledNumbers, calledOf};
@@ -48,8 +49,6 @@ pub extern "C" fn hookbarley_decode(
     );
     let answer = d.answer;
     let reads = d.reads;
-    *finished = answer.finished();
-    *first_reads = reads.first;
-    *token_reads = reads.tokens;
+    tell_counts(answer.finished(), reads, finished, first_reads, token_reads);
     answer.number()
 }

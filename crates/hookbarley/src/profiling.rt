@@ -2,6 +2,7 @@
 use boundary::tile_numbers::TILE_NUMBERS;
 use boundary::tile_numbers::tile_of;
 use profile::profile;
+use told::profiled::tell_profile;
 ghost use mathlib.Core.Path.{_≡_};
 ghost use Rattle.lent.specs.Memory.{memoryOf};
 ghost use Rattle.hookbarley.specs.ProfileCalls.{profileNumbers, profileCalledOf};
@@ -44,7 +45,5 @@ pub extern "C" fn hookbarley_profile(
         modes,
         strengths,
     );
-    *rule = answer.rule();
-    *macroblock = answer.macroblock();
-    answer.number()
+    tell_profile(answer, rule, macroblock)
 }

@@ -2,6 +2,7 @@
 use boundary::tile_numbers::TILE_NUMBERS;
 use boundary::tile_numbers::tile_of;
 use rescue::rescue;
+use told::rescued::tell_rescue;
 ghost use mathlib.Core.Path.{_≡_};
 ghost use Rattle.lent.specs.Memory.{memoryOf};
 ghost use Rattle.hookbarley.specs.RescueCalls.{rescueNumbers, rescueCalledOf};
@@ -45,6 +46,5 @@ pub extern "C" fn hookbarley_rescue(
         strengths,
         marks,
     );
-    *kept = answer.saved();
-    answer.number()
+    tell_rescue(answer, kept)
 }

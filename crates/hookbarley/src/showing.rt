@@ -2,6 +2,7 @@
 use boundary::frame_header::put_shown;
 use boundary::tile_numbers::TILE_NUMBERS;
 use key_frame::key_frame;
+use told::counts::tell_counts;
 ghost use mathlib.Core.Path.{_≡_};
 ghost use Rattle.lent.specs.Memory.{memoryOf};
 ghost use Rattle.hookbarley.specs.ShowCalls.{shownNumbers, showCalledOf};
@@ -39,9 +40,7 @@ pub extern "C" fn hookbarley_key_frame(
     let shown = key_frame(bytes, header, y, u, v, columns, modes, strengths);
     let taken = shown.taken;
     let reads = shown.reads;
-    *finished = shown.finished;
-    *first_reads = reads.first;
-    *token_reads = reads.tokens;
+    tell_counts(shown.finished, reads, finished, first_reads, token_reads);
     put_shown(&mut tile[..], taken);
     shown.number
 }

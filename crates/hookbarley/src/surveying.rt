@@ -3,6 +3,7 @@ use boundary::tile_numbers::TILE_NUMBERS;
 use boundary::tile_numbers::tile_of;
 use survey::sums::add;
 use survey::survey;
+use told::counts::tell_counts;
 ghost use mathlib.Core.Path.{_≡_};
 ghost use Rattle.lent.specs.Memory.{memoryOf};
 ghost use Rattle.hookbarley.specs.Calls.{calledNumbers};
@@ -53,9 +54,7 @@ pub extern "C" fn hookbarley_survey(
         counts,
     );
     let reads = s.reads;
-    *finished = s.finished;
-    *first_reads = reads.first;
-    *token_reads = reads.tokens;
+    tell_counts(s.finished, reads, finished, first_reads, token_reads);
     s.number
 }
 

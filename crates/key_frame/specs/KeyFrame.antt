@@ -10,8 +10,9 @@ use Rattle.tile.specs.declared.Tile.{Tile}
 use Rattle.lent.specs.Memory.{Memory, memoryOf, sizesOf}
 use Rattle.macroblock.specs.declared.arguments.SymbolCounts.{SymbolCounts}
 use Rattle.macroblock.specs.Macroblock.{Planes, planesOf}
-use Rattle.picture.specs.Checks.{Call, callOf, refusalOf}
-use Rattle.picture.specs.Picture.{Ended, pictureOf, planesIn, numberOf, valuesOf}
+use Rattle.choices.specs.Checks.{Call, callOf, refusalOf}
+use Rattle.choices.specs.Answer.{numberOf, valuesOf}
+use Rattle.picture.specs.Picture.{Ended, pictureOf, planesIn}
 use Rattle.picture.specs.Counts.{costOf}
 use Rattle.deblock.specs.Deblock.{deblockOf}
 use Rattle.frame.specs.declared.take.Answer.{Answer}

@@ -11,8 +11,9 @@ use Rattle.header.specs.Header.{presentAt}
 use Rattle.lent.specs.Memory.{Memory, sizesOf}
 use Rattle.macroblock.specs.declared.arguments.SymbolCounts.{SymbolCounts}
 use Rattle.macroblock.specs.Macroblock.{Planes}
-use Rattle.picture.specs.Checks.{callOf, refusalOf}
-use Rattle.picture.specs.Picture.{Ended, pictureOf, planesIn, numberOf, valuesOf}
+use Rattle.choices.specs.Checks.{callOf, refusalOf}
+use Rattle.choices.specs.Answer.{numberOf, valuesOf}
+use Rattle.picture.specs.Picture.{Ended, pictureOf, planesIn}
 use Rattle.picture.specs.Counts.{costOf}
 use Rattle.deblock.specs.Deblock.{DeblockAnswer, deblockOf}
 use Rattle.frame.specs.declared.take.Answer.{Answer}

@@ -1,5 +1,6 @@
 // From a key frame's bytes to the picture on the screen (RFC 6386): its header is taken (sections 9 and 19.2), its macroblocks are decoded
 // (sections 11 to 14), and the loop filter runs over them (section 15).
+use choices::checks::refusal;
 use deblock::deblock;
 use frame::take::Answer;
 use frame::take::refused;
@@ -7,7 +8,6 @@ use header::entries;
 use header::entries::present_at;
 use lent::sizes::Sizes;
 use macroblock::arguments::SymbolCounts;
-use picture::checks::refusal;
 use picture::decode;
 use take::store;
 use take::take;

@@ -152,8 +152,8 @@ fn told(frame: Frame, m: ModeData, residue: Residue) -> Outcome
     }
 }
 
-// The end of a macroblock with these modes, this residual and these coefficients, by lanes. Whatever does not fit stays as it was: a
-// square that cannot be painted, strengths of a level out of range.
+// The end of a macroblock with these modes, this residual and these coefficients, by lanes. A square that cannot be painted stays as it
+// was; strengths of a level out of range are zeros.
 pub fn complete(
     frame: Frame,
     place: Place,

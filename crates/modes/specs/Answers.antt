@@ -45,7 +45,7 @@ toSixteen old missing = record { answer = N.Missing; modes = old }
 abbrev pub kindsOf : Macroblock → Kinds
 kindsOf m = record { segment = m .segment; skip = m .skip; small = m .small; chroma = m .chroma }
 
--- and back: a macroblock's modes from the kinds and the sixteen
+-- and with the sixteen
 abbrev pub macroblockOf : Kinds → List ℕ → Macroblock
 macroblockOf k modes = record { segment = k .segment; skip = k .skip; small = k .small; modes = modes; chroma = k .chroma }
 

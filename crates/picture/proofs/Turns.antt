@@ -13,10 +13,11 @@ use Rattle.macroblock.specs.declared.arguments.Readers.{Readers}
 use Rattle.macroblock.specs.declared.ending.Finish.{Finish}
 use Rattle.macroblock.specs.declared.ending.Finish.the-variants as F
 use Rattle.macroblock.specs.Macroblock.{Finished, Step, finished, no-modes, no-tokens, finishNumberOf}
-use Rattle.picture.specs.declared.rows.Decoded.{Decoded}
-use Rattle.picture.specs.declared.rows.Decoded.the-variants as D
+use Rattle.choices.specs.declared.answer.Decoded.{Decoded}
+use Rattle.choices.specs.declared.answer.Decoded.the-variants as D
 use Rattle.lent.specs.Memory.{Memory}
-use Rattle.picture.specs.Picture.{Picture, State, columnOf, rowOf, partitionOf, planesIn, stepAt, nextOf, stoppedOf}
+use Rattle.choices.specs.Answer.{stoppedOf}
+use Rattle.picture.specs.Picture.{Picture, State, columnOf, rowOf, partitionOf, planesIn, stepAt, nextOf}
 use Rattle.picture.specs.Halt.{Halted, stateOf, haltOf}
 use Rattle.picture.specs.HaltLaws.{halt-none, halt-finished, halt-no-modes, halt-no-tokens}
 use Rattle.picture.specs.Turn.{Turned, turned}
@@ -25,7 +26,8 @@ use Rattle.macroblock.specs.declared.arguments.SymbolCounts.{SymbolCounts}
 use Rattle.macroblock.specs.Counts.{noReads, AtMost}
 use Rattle.picture.specs.Counts.{plus, readsAt, readsFrom}
 use Rattle.picture.specs.CountsLaws.{reads-none, reads-finished, reads-no-modes, reads-no-tokens, reads-over}
-use Rattle.picture.specs.PictureLaws.{Shared, Live, live-next}
+use Rattle.picture.specs.Live.{Shared, Live}
+use Rattle.picture.specs.PictureLaws.{live-next}
 
 -- ---- how a picture ends, and all that it reads
 pub record Total : Type 0 where

@@ -17,12 +17,12 @@ use Rattle.header.specs.Frame.{frameOf, framedOf}
 use Rattle.header.specs.FrameLaws.{frame-good, frame-sound}
 use Rattle.tile.specs.PartitionsLaws.{readers-length}
 use Rattle.tile.specs.Checks.{blocksOf}
-use Rattle.picture.specs.declared.rows.Decoded.the-variants as D
+use Rattle.choices.specs.declared.answer.Decoded.the-variants as D
 use Rattle.lent.specs.Memory.{Memory, sizesOf, blankOf}
-use Rattle.picture.specs.Checks.{Call, refusalOf}
-use Rattle.picture.specs.ChecksLaws.{fine-side, fine-count, fine-lengths, fine-header, fine-partitions, fine-readers}
+use Rattle.choices.specs.Checks.{Call, refusalOf}
+use Rattle.choices.specs.ChecksLaws.{fine-side, fine-count, fine-lengths, fine-header, fine-partitions, fine-readers}
 use Rattle.picture.specs.Picture.{Picture, Ended, cutOut, picturedOf, startOf, runOf, pictureOf}
-use Rattle.picture.specs.PictureLaws.{Shared, Live}
+use Rattle.picture.specs.Live.{Shared, Live}
 
 module _ (t : Call) (m : Memory) {n : ℕ} (e : n ≡ refusalOf t (sizesOf m)) where
   pub picture-bad : (n ≡ 0 → ⊥) → record { answer = D.Refused n; mem = m } ≡ pictureOf t m

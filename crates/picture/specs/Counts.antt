@@ -6,9 +6,9 @@ use Rattle.tile.specs.Checks.{blocksOf}
 use Rattle.macroblock.specs.declared.arguments.SymbolCounts.{SymbolCounts}
 use Rattle.macroblock.specs.Macroblock.{finished, no-modes, no-tokens}
 use Rattle.macroblock.specs.Counts.{noReads, readsOf}
-use Rattle.picture.specs.declared.rows.Decoded.{Decoded}
-use Rattle.picture.specs.declared.rows.Decoded.the-variants as D
-use Rattle.picture.specs.Checks.{Call, refusalOf}
+use Rattle.choices.specs.declared.answer.Decoded.{Decoded}
+use Rattle.choices.specs.declared.answer.Decoded.the-variants as D
+use Rattle.choices.specs.Checks.{Call, refusalOf}
 use Rattle.picture.specs.Picture.{Picture, State, columnOf, partitionOf, readersAt, aroundAt, stepAt, nextOf, picturedOf, begunOf}
 
 -- both added up

@@ -16,10 +16,11 @@ use Rattle.macroblock.specs.declared.arguments.SymbolCounts.{SymbolCounts}
 use Rattle.macroblock.specs.Macroblock.{Finished, Step, finished, no-modes, no-tokens}
 use Rattle.macroblock.specs.Counts.{noReads, readsOf, AtMost}
 use Rattle.macroblock.specs.CountsLaws.{reads-most}
-use Rattle.picture.specs.declared.rows.Decoded.{Decoded}
-use Rattle.picture.specs.Checks.{Call, refusalOf}
+use Rattle.choices.specs.declared.answer.Decoded.{Decoded}
+use Rattle.choices.specs.Checks.{Call, refusalOf}
 use Rattle.picture.specs.Picture.{Picture, State, columnOf, partitionOf, readersAt, aroundAt, stepAt, nextOf, cutOut, picturedOf, startOf, begunOf, runOf, pictureOf}
-use Rattle.picture.specs.PictureLaws.{Shared, Live, column-below, partition-below, ready-at, ends-at, live-next, run-none, run-finished, run-no-modes, run-no-tokens}
+use Rattle.picture.specs.Live.{Shared, Live}
+use Rattle.picture.specs.PictureLaws.{column-below, partition-below, ready-at, ends-at, live-next, run-none, run-finished, run-no-modes, run-no-tokens}
 use Rattle.picture.specs.CallLaws.{picture-bad, picture-good, picture-found, shared-start, live-start}
 use Rattle.picture.specs.Counts.{plus, readsAt, readsFrom, costOf, askedOf}
 

@@ -22,9 +22,10 @@ use Rattle.lent.specs.Memory.{Memory, sizesOf, blankOf}
 use Rattle.tile.specs.Partitions.{spanAt}
 use Rattle.tile.specs.PartitionsLaws.{part-bytes}
 use Rattle.tile.specs.Checks.{blocksOf}
-use Rattle.picture.specs.Checks.{Call, refusalOf}
+use Rattle.choices.specs.Checks.{Call, refusalOf}
 use Rattle.picture.specs.Picture.{Picture, State, picturedOf, startOf, partitionOf, stepAt, nextOf, runOf, pictureOf}
-use Rattle.picture.specs.PictureLaws.{Shared, Live, live-next, ends-at, room-at, partition-below, run-none, run-finished, run-no-modes, run-no-tokens}
+use Rattle.picture.specs.Live.{Shared, Live}
+use Rattle.picture.specs.PictureLaws.{live-next, ends-at, room-at, partition-below, run-none, run-finished, run-no-modes, run-no-tokens}
 use Rattle.picture.specs.CallLaws.{picture-good, shared-start, live-start}
 
 abbrev pub Limits : List ℕ → Type 0

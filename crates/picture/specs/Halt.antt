@@ -7,9 +7,9 @@ use Rattle.modes.specs.declared.contexts.Context.{Context}
 use Rattle.macroblock.specs.Macroblock.{finished, no-modes, no-tokens}
 use Rattle.lent.specs.Memory.{Memory, sizesOf}
 use Rattle.tile.specs.Checks.{blocksOf}
-use Rattle.picture.specs.declared.rows.Decoded.{Decoded}
-use Rattle.picture.specs.declared.rows.Decoded.the-variants as D
-use Rattle.picture.specs.Checks.{Call, refusalOf}
+use Rattle.choices.specs.declared.answer.Decoded.{Decoded}
+use Rattle.choices.specs.declared.answer.Decoded.the-variants as D
+use Rattle.choices.specs.Checks.{Call, refusalOf}
 use Rattle.picture.specs.Picture.{Picture, State, stepAt, nextOf, picturedOf, startOf, begunOf}
 
 -- how it ended, and the state in which it did

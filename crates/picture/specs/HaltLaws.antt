@@ -16,10 +16,12 @@ use Rattle.tile.specs.Partitions.{spanAt, readersOf}
 use Rattle.tile.specs.PartitionsLaws.{part-bytes}
 use Rattle.tile.specs.Checks.{blocksOf}
 use Rattle.modes.specs.Contexts.{emptyContext}
-use Rattle.picture.specs.declared.rows.Decoded.the-variants as D
-use Rattle.picture.specs.Checks.{Call, refusalOf}
-use Rattle.picture.specs.Picture.{Picture, State, Ended, cutOut, picturedOf, startOf, begunOf, partitionOf, stepAt, nextOf, runOf, pictureOf, valuesOf}
-use Rattle.picture.specs.PictureLaws.{Shared, Live, live-next, ends-at, partition-below, run-none, run-finished, run-no-modes, run-no-tokens}
+use Rattle.choices.specs.declared.answer.Decoded.the-variants as D
+use Rattle.choices.specs.Checks.{Call, refusalOf}
+use Rattle.choices.specs.Answer.{valuesOf}
+use Rattle.picture.specs.Picture.{Picture, State, Ended, cutOut, picturedOf, startOf, begunOf, partitionOf, stepAt, nextOf, runOf, pictureOf}
+use Rattle.picture.specs.Live.{Shared, Live}
+use Rattle.picture.specs.PictureLaws.{live-next, ends-at, partition-below, run-none, run-finished, run-no-modes, run-no-tokens}
 use Rattle.picture.specs.CallLaws.{picture-bad, picture-good, picture-found, shared-start, live-start}
 use Rattle.picture.specs.Halt.{Halted, haltedAt, haltOf, haltedOf}
 

@@ -1,6 +1,5 @@
-pub mod Checks
 pub mod Picture
-pub mod ChecksLaws
+pub mod Live
 pub mod Turn
 pub mod TurnLaws
 pub mod PictureLaws

@@ -1,8 +1,6 @@
 -- The picture (the source's vp8_image): its macroblocks in raster order from blank memory, until one is refused.
 use Prim.Native.Nat.{ℕ, zero, suc, _+_, _*_, _/_, _%_}
-use mathlib.Core.Bool.{true, false}
 use mathlib.Core.List.{List}
-use lib.Dec.{eqb}
 use lib.ListN.{getD, set}
 use Rattle.reader.specs.declared.boolean.Reader.{Reader}
 use Rattle.reader.specs.Boolean.{noReader}
@@ -15,17 +13,16 @@ use Rattle.header.specs.Frame.{frameOf}
 use Rattle.macroblock.specs.declared.arguments.Place.{Place}
 use Rattle.macroblock.specs.declared.arguments.Readers.{Readers}
 use Rattle.macroblock.specs.declared.arguments.Around.{Around}
-use Rattle.macroblock.specs.declared.ending.Finish.{Finish}
-use Rattle.macroblock.specs.declared.ending.Finish.the-variants as F
 use Rattle.macroblock.specs.Macroblock.{Planes, planesOf, Finished, Step, finished, no-modes, no-tokens, stepOf}
-use Rattle.picture.specs.declared.rows.Decoded.{Decoded}
-use Rattle.picture.specs.declared.rows.Decoded.the-variants as D
+use Rattle.choices.specs.declared.answer.Decoded.{Decoded}
+use Rattle.choices.specs.declared.answer.Decoded.the-variants as D
 use Rattle.lent.specs.Memory.{Memory, sizesOf, blankOf}
 use Rattle.lent.specs.Records.{Form, columnAt, columnSet, modeSet, strengthSet}
 use Rattle.tile.specs.declared.Tile.{Tile}
 use Rattle.tile.specs.Partitions.{contentsOf, tokenContents, readersOf, pickOf}
 use Rattle.tile.specs.Checks.{blocksOf}
-use Rattle.picture.specs.Checks.{Call, refusalOf}
+use Rattle.choices.specs.Beside.{besideOf}
+use Rattle.choices.specs.Checks.{Call, refusalOf}
 
 -- ---- what the macroblocks share: the partitions' contents and their count, what the header gives to all (the frame and the table of
 -- coefficient probabilities), the macroblocks in a row and the rows, and the form of the column memory
@@ -85,10 +82,6 @@ rowOf P k = k / P .wide
 abbrev pub partitionOf : Picture → ℕ → ℕ
 partitionOf P k = pickOf (rowOf P k) (P .count)
 
--- at column 0 nothing lies to the left: DC modes (section 11.3, 2490-2493) and no coefficients (section 13.3, 3608-3612)
-unfoldable pub besideOf : ℕ → Context → Context
-besideOf column left = elim (eqb column 0) [ true ↦ emptyContext | false ↦ left ]
-
 -- the planes of the lent memory
 abbrev pub planesIn : Memory → Planes
 planesIn m = planesOf (m .y) (m .u) (m .v)
@@ -141,13 +134,6 @@ pub record Ended : Type 0 where
 abbrev pub endedOf : Decoded → Memory → Ended
 endedOf answer mem = record { answer = answer; mem = mem }
 
--- how the picture ends where macroblock k is not finished
-abbrev pub stoppedOf : Finish → ℕ → Decoded
-stoppedOf (F.Done readers) k = D.Whole k
-stoppedOf F.NoModes k = D.NoModes k
-stoppedOf F.NoTokens k = D.NoTokens k
-stoppedOf F.Refused k = D.Refused 9
-
 -- n macroblocks from number k on (modes section 19.3, 7239-7272, tokens 7316-7352), until one is refused: modes that run out (6), tokens that run
 -- out (7)
 unfoldable pub runOf : ℕ → Picture → ℕ → State → Ended
@@ -166,17 +152,3 @@ pictureOf c m =
       | zero ↦ runOf (blocksOf (c .tile .width) (c .tile .height)) (picturedOf c) 0 (begunOf c m)
       | suc n ↦ record { answer = D.Refused (suc n); mem = m }
     ]
-
--- ---- the answer as a number
-abbrev pub numberOf : Decoded → ℕ
-numberOf (D.Whole k) = 0
-numberOf (D.Refused n) = n
-numberOf (D.NoModes k) = 6
-numberOf (D.NoTokens k) = 7
-
--- k: the macroblocks finished, 0 where an argument is refused
-abbrev pub valuesOf : Decoded → ℕ
-valuesOf (D.Whole k) = k
-valuesOf (D.Refused n) = 0
-valuesOf (D.NoModes k) = k
-valuesOf (D.NoTokens k) = k

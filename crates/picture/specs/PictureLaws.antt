@@ -1,35 +1,34 @@
 -- The laws of the picture: one turn of its recursion; what every macroblock finds and leaves; what a macroblock's call asks.
-use Prim.Native.Nat.{ℕ, zero, suc, _+_, _*_, _/_, _%_, _≤_, _<_}
-use mathlib.Core.Path.{_≡_, refl, sym, _∙_, ap}
-use mathlib.Core.Bool.{Bool, true, false}
+use Prim.Native.Nat.{ℕ, zero, suc, _+_, _*_, _≤_, _<_}
+use mathlib.Core.Path.{_≡_, refl, _∙_, ap}
+use mathlib.Core.Bool.{true}
 use mathlib.Core.List.{List}
 use mathlib.Core.Logic.{⊎-elim}
 use native.Mathlib.Omega.{arith}
-use native.Mathlib.Nat.{mod-lt, div-lt-iff-lt-mul, mul-comm, mul-le-mul-right}
-use lib.ListN.{length, getD, set, length-set}
+use native.Mathlib.Nat.{mod-lt, div-lt-iff-lt-mul, mul-comm}
+use lib.ListN.{getD, set, length-set}
 use lib.Seq.{getD-set-same, getD-set-other}
-use Rattle.header.specs.Entries.{probabilityCount}
-use Rattle.numbers.specs.Tests.{eq-or, both-left, both-right}
-use Rattle.reader.specs.declared.boolean.Reader.{Reader}
+use Rattle.numbers.specs.Tests.{eq-or}
 use Rattle.reader.specs.Boolean.{noReader}
 use Rattle.reader.specs.BooleanLaws.{Bytes, Valid}
 use Rattle.modes.specs.declared.contexts.Context.{Context}
 use Rattle.modes.specs.Answers.{kindsOf}
-use Rattle.modes.specs.Contexts.{contextFine, emptyContext, Shaped}
+use Rattle.modes.specs.Contexts.{contextFine, Shaped}
 use Rattle.modes.specs.ContextsLaws.{contexts-fine}
-use Rattle.lent.specs.Records.{recordsIn, formWidth, modeWidth, strengthWidth, columnAt, columnSet, modeSet, Columns}
+use Rattle.lent.specs.Records.{recordsIn, formWidth, columnAt}
 use Rattle.lent.specs.ColumnsLaws.{column-room, columns-set, column-set-length, column-shaped}
 use Rattle.lent.specs.MacroblocksLaws.{mode-set-length, strength-set-length}
-use Rattle.header.specs.FrameLaws.{Sound}
 use Rattle.tile.specs.PartitionsLaws.{pick-below}
-use Rattle.macroblock.specs.Macroblock.{Finished, Step, finished, no-modes, no-tokens, stepOf}
+use Rattle.macroblock.specs.Macroblock.{Finished, finished, no-modes, no-tokens, stepOf}
 use Rattle.macroblock.specs.Asked.{Ready, Laid}
 use Rattle.macroblock.specs.DecodeLaws.{flags-of}
-use Rattle.picture.specs.declared.rows.Decoded.the-variants as D
-use Rattle.lent.specs.Memory.{Memory}
+use Rattle.choices.specs.declared.answer.Decoded.the-variants as D
 use Rattle.picture.specs.Turn.{Turned, turned, Room}
-use Rattle.picture.specs.TurnLaws.{Ends, ends-of, beside-none, beside-left}
-use Rattle.picture.specs.Picture.{Picture, State, Ended, columnOf, rowOf, partitionOf, besideOf, planesIn, placeOf, readersAt, aroundAt, stepAt, written, nextOf, runOf}
+use Rattle.choices.specs.BesideLaws.{beside-none, beside-left}
+use Rattle.picture.specs.TurnLaws.{Ends, ends-of}
+use Rattle.choices.specs.Beside.{besideOf}
+use Rattle.picture.specs.Live.{Shared, Live}
+use Rattle.picture.specs.Picture.{Picture, State, columnOf, rowOf, partitionOf, planesIn, placeOf, readersAt, aroundAt, stepAt, written, nextOf, runOf}
 
 -- ---- one turn
 pub run-none : (P : Picture) (k : ℕ) (S : State) → runOf 0 P k S ≡ record { answer = D.Whole k; mem = S .mem }
@@ -54,31 +53,6 @@ pub step-at : (P : Picture) (k : ℕ) (S : State)
     → stepAt P k S ≡ stepOf (P .first) (P .token (partitionOf P k)) (readersAt S (partitionOf P k)) (P .frame) (P .table) (aroundAt P S (columnOf P k)) (placeOf P k) (planesIn (S .mem))
 unfolding stepAt
 step-at P k S = refl
-
--- ---- what the macroblocks share is in range
-pub record Shared (P : Picture) : Type 0 where
-  pub least : 1 ≤ P .count
-  pub most : P .count ≤ 8
-  pub size : length (P .table) ≡ probabilityCount
-  pub bytes : Bytes (P .table)
-  pub sound : Sound (P .frame)
-  pub wide : P .wide ≤ 1024
-  pub high : P .high ≤ 1024
-
--- ---- what every macroblock finds, and leaves: readers in range, contexts in range, memory of the right lengths
-pub record Live (P : Picture) (S : State) : Type 0 where
-  pub reader : Valid (P .first) (S .reader)
-  pub eight : length (S .readers) ≡ 8
-  pub tokens : (q : ℕ) → q < P .count → Valid (P .token q) (getD (S .readers) q noReader)
-  pub left : contextFine (S .left) ≡ true
-  pub beside : Shaped (S .left)
-  pub contexts : Columns (P .form) (S .mem .columns)
-  pub y : length (S .mem .y) ≡ P .high * 16 * (P .wide * 16)
-  pub u : length (S .mem .u) ≡ P .high * 8 * (P .wide * 16 / 2)
-  pub v : length (S .mem .v) ≡ P .high * 8 * (P .wide * 16 / 2)
-  pub columns : length (S .mem .columns) ≡ formWidth (P .form) * P .wide
-  pub modes : length (S .mem .modes) ≡ modeWidth * (P .wide * P .high)
-  pub strengths : length (S .mem .strengths) ≡ strengthWidth * (P .wide * P .high)
 
 -- ---- the place of macroblock k
 module _ (P : Picture) (k : ℕ) (h : k < P .wide * P .high) where

@@ -1,17 +1,16 @@
 -- What one macroblock leaves, from the answers of the calls that make it.
 use Prim.Native.Nat.{ℕ, _<_}
 use mathlib.Core.Path.{_≡_, refl, sym, _∙_, ap, ap₂}
-use mathlib.Core.Bool.{true, false, _&&_}
+use mathlib.Core.Bool.{true, _&&_}
 use mathlib.Core.List.{List}
 use native.Mathlib.Omega.{arith}
-use lib.Dec.{eqb, ltb}
+use lib.Dec.{ltb}
 use lib.ListN.{length}
-use borrow.Author.Tests.{eq-eqb, ne-eqb}
 use Rattle.numbers.specs.Tests.{both-true}
 use Rattle.reader.specs.BooleanLaws.{Bytes, Valid}
 use Rattle.modes.specs.declared.contexts.Context.{Context}
 use Rattle.modes.specs.Answers.{kindsOf, eachBelow}
-use Rattle.modes.specs.Contexts.{contextFine, emptyContext, Shaped}
+use Rattle.modes.specs.Contexts.{contextFine, Shaped}
 use Rattle.modes.specs.ModesLaws.{modes-test}
 use Rattle.filter.specs.Strengths.{strengthFine}
 use Rattle.lent.specs.declared.columns.ColumnRecord.{ColumnRecord}
@@ -20,7 +19,6 @@ use Rattle.lent.specs.Records.{Written, recordsIn, columnWidth, modeWidth, stre
 use Rattle.lent.specs.RecordsLaws.{write-good}
 use Rattle.lent.specs.ColumnsLaws.{column-read}
 use Rattle.lent.specs.MacroblocksLaws.{kinds-fine, strength-fine}
-use Rattle.macroblock.specs.declared.ending.Finish.{Finish}
 use Rattle.macroblock.specs.declared.ending.Finish.the-variants as F
 use Rattle.macroblock.specs.declared.ending.Outcome.{Outcome}
 use Rattle.macroblock.specs.declared.arguments.Place.{Place}
@@ -36,18 +34,8 @@ use Rattle.macroblock.specs.StepRecords.{step-strength}
 use Rattle.macroblock.specs.Macroblock.{stepOf, macroblockCallOf, Planes, Finished, Step, finished, no-modes, no-tokens, MacroblockCalled, toMacroblockCalled, shown, finishNumberOf}
 use Rattle.macroblock.specs.Asked.{Ready, Laid}
 use Rattle.lent.specs.Memory.{Memory, memoryOf}
-use Rattle.picture.specs.Picture.{besideOf, planesIn, written}
+use Rattle.picture.specs.Picture.{planesIn, written}
 use Rattle.picture.specs.Turn.{Turned, turnedOf, turned, Room}
-
--- ---- what lies to the left
-module _ (column : ℕ) (left : Context) where
-  pub beside-none : column ≡ 0 → besideOf column left ≡ emptyContext
-  unfolding besideOf
-  beside-none e = rw (eq-eqb _ _ e, besideOf)
-
-  pub beside-left : (column ≡ 0 → ⊥) → left ≡ besideOf column left
-  unfolding besideOf
-  beside-left e = rw (ne-eqb _ _ e, besideOf)
 
 -- ---- the call of a macroblock, its arguments being good
 pub call-is : (first tokens : List ℕ) (readers : Readers) (f : Frame) (table : List ℕ) {a b : Context} (top left : Context) (place : Place) (p : Planes) {x : MacroblockCalled}

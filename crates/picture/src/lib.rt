@@ -1,14 +1,13 @@
-// The picture: the argument checks (checks), one macroblock in its place (turn), all of them in order (rows), and the call.
-pub mod checks;
+// The picture: one macroblock in its place (turn), all of them in order (rows), and the call.
 pub mod rows;
 pub mod turn;
 
-use crate::checks::refusal;
-use crate::rows::Decoded;
 use crate::rows::PictureRead;
 use crate::rows::PictureStop;
 use crate::rows::rows;
 use blank::blank;
+use choices::answer::Decoded;
+use choices::checks::refusal;
 use coefficients::block::probabilities;
 use header::frame::take;
 use lent::sizes::Sizes;
@@ -18,7 +17,7 @@ use tile::Tile;
 use tile::partitions::openers;
 ghost use mathlib.Core.Path.{_≡_};
 ghost use Rattle.lent.specs.Memory.{memoryOf};
-ghost use Rattle.picture.specs.Checks.{callOf};
+ghost use Rattle.choices.specs.Checks.{callOf};
 ghost use Rattle.picture.specs.Picture.{endedOf, pictureOf};
 ghost use Rattle.picture.specs.Counts.{costOf};
 ghost use Rattle.picture.specs.Halt.{haltedAt, haltedOf};

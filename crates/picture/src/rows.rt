@@ -1,6 +1,8 @@
 // The macroblocks of a picture in raster order (the source's vp8_image), until one is refused.
 use crate::turn::Task;
 use crate::turn::turn;
+use choices::answer::Decoded;
+use choices::answer::stopped;
 use header::frame::Frame;
 use macroblock::arguments::Place;
 use macroblock::arguments::Readers;
@@ -17,45 +19,11 @@ ghost use mathlib.Core.Path.{_≡_};
 ghost use Rattle.tile.specs.Checks.{blocksOf};
 ghost use Rattle.lent.specs.Memory.{memoryOf};
 ghost use Rattle.lent.specs.Records.{packed};
-ghost use Rattle.picture.specs.Picture.{cutOut, numberOf, startOf, stoppedOf, valuesOf};
+ghost use Rattle.picture.specs.Picture.{cutOut, startOf};
 ghost use Rattle.picture.specs.Halt.{haltedAt, haltOf};
 ghost use Rattle.macroblock.specs.Counts.{AtMost};
 ghost use Rattle.picture.specs.Counts.{plus, readsFrom};
-ghost use Rattle.picture.specs.PictureLaws.{Shared, Live};
-
-// How the picture call ended: every macroblock is finished; an argument was refused, 1 to 5; the first partition or a token
-// partition ran out in macroblock k.
-pub enum Decoded {
-    Whole(usize),
-    Refused(u32),
-    NoModes(usize),
-    NoTokens(usize),
-}
-
-impl Decoded {
-    pub fn number(self) -> u32
-        ensures { λ r. ⌜ r ≡ numberOf self ⌝ }
-    {
-        match self {
-            Decoded::Whole(_) => 0,
-            Decoded::Refused(n) => n,
-            Decoded::NoModes(_) => 6,
-            Decoded::NoTokens(_) => 7,
-        }
-    }
-
-    // The macroblocks finished, 0 where an argument was refused.
-    pub fn finished(self) -> usize
-        ensures { λ r. ⌜ r ≡ valuesOf self ⌝ }
-    {
-        match self {
-            Decoded::Whole(k) => k,
-            Decoded::Refused(_) => 0,
-            Decoded::NoModes(k) => k,
-            Decoded::NoTokens(k) => k,
-        }
-    }
-}
+ghost use Rattle.picture.specs.Live.{Shared, Live};
 
 // How it ended, and how many symbols were read.
 pub struct PictureRead {
@@ -81,18 +49,6 @@ fn plus(a: SymbolCounts, b: SymbolCounts) -> SymbolCounts
     SymbolCounts {
         first: a.first + b.first,
         tokens: a.tokens + b.tokens,
-    }
-}
-
-// How the picture ends where macroblock k is not finished.
-fn stopped(answer: Finish, k: usize) -> Decoded
-    ensures { λ r. ⌜ r ≡ stoppedOf answer k ⌝ }
-{
-    match answer {
-        Finish::Done(_) => Decoded::Whole(k),
-        Finish::NoModes => Decoded::NoModes(k),
-        Finish::NoTokens => Decoded::NoTokens(k),
-        Finish::Refused => Decoded::Refused(9),
     }
 }
 

@@ -1,5 +1,6 @@
 // One macroblock in its place: the context above it from column memory, then its modes, samples, strengths and what it leaves
 // below it and to its right. Where a byte is missing nothing is written.
+use choices::beside::beside;
 use header::frame::Frame;
 use lent::columns::read_column;
 use lent::columns::write_column;
@@ -18,7 +19,7 @@ ghost use Rattle.lent.specs.Records.{packed, columnAt};
 ghost use Rattle.macroblock.specs.Macroblock.{planesOf, stepOf};
 ghost use Rattle.macroblock.specs.Counts.{readsOf};
 ghost use Rattle.macroblock.specs.Asked.{Ready, Laid};
-ghost use Rattle.picture.specs.Picture.{besideOf};
+ghost use Rattle.choices.specs.Beside.{besideOf};
 ghost use Rattle.picture.specs.Turn.{Room, turnedOf, turned};
 
 // Where it ended, what the next macroblock of the row sees to its left, and how many symbols were read.
@@ -35,16 +36,6 @@ pub struct Task {
     pub left: Context,
     pub place: Place,
     pub k: usize,
-}
-
-// At column 0 nothing lies to the left.
-pub fn beside(column: usize, left: Context) -> Context
-    ensures { λ r. ⌜ r ≡ besideOf column left ⌝ }
-{
-    if column == 0 {
-        return Context::empty();
-    }
-    left
 }
 
 pub(crate) fn turn(

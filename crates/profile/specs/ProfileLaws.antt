@@ -10,9 +10,10 @@ use lib.IntN.{ℤ}
 use borrow.Author.Tests.{lt-ltb, le-ltb}
 use Rattle.tile.specs.declared.Tile.{Tile}
 use Rattle.lent.specs.Memory.{Memory, sizesOf}
-use Rattle.picture.specs.declared.rows.Decoded.{Decoded}
-use Rattle.picture.specs.Checks.{Call, failed, refusalOf}
-use Rattle.picture.specs.Picture.{Ended, numberOf, pictureOf, valuesOf}
+use Rattle.choices.specs.declared.answer.Decoded.{Decoded}
+use Rattle.choices.specs.Checks.{Call, failed, refusalOf}
+use Rattle.choices.specs.Answer.{numberOf, valuesOf}
+use Rattle.picture.specs.Picture.{Ended, pictureOf}
 use Rattle.profile.specs.declared.Profiled.{Profiled}
 use Rattle.profile.specs.declared.Profiled.the-variants as P
 use Rattle.profile.specs.Profile.{sizeFits, countFits, segmentsFit, sharpnessFits, tileRulesOf, headerRulesOf, bothAt, firstBoth, judgedOf, decodedOf, profiled, profileOf}

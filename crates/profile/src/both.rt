@@ -1,7 +1,7 @@
 // The rules that the picture call decides: 5, it answers 0; 6, no macroblock is both skipped and small.
 use crate::Profiled;
+use choices::answer::Decoded;
 use lent::macroblocks::read_mode_record;
-use picture::rows::Decoded;
 ghost use mathlib.Core.Path.{_≡_};
 ghost use Rattle.profile.specs.Profile.{bothAt, firstBoth, judgedOf, decodedOf};
 

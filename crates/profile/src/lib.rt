@@ -5,13 +5,13 @@ mod rules;
 use crate::both::decoded;
 use crate::rules::header_rules;
 use crate::rules::tile_rules;
+use choices::checks::refusal;
 use lent::sizes::Sizes;
-use picture::checks::refusal;
 use picture::decode;
 use tile::Tile;
 ghost use mathlib.Core.Path.{_≡_};
 ghost use Rattle.lent.specs.Memory.{memoryOf};
-ghost use Rattle.picture.specs.Checks.{callOf};
+ghost use Rattle.choices.specs.Checks.{callOf};
 ghost use Rattle.profile.specs.Profile.{profiled, profileOf, profileRuleOf, profileBlockOf, profileNumberOf};
 
 // It fits; or the first rule that fails, 1 to 5, or 6 with the first macroblock that is both skipped and small; or an argument was

@@ -12,7 +12,7 @@ use Rattle.modes.specs.Modes.{Macroblock}
 use Rattle.tile.specs.Checks.{Sides, Counted, Cut}
 use Rattle.lent.specs.Memory.{Memory, sizesOf}
 use Rattle.lent.specs.Records.{modeWidth, strengthWidth}
-use Rattle.picture.specs.Checks.{Call, Bounded, Lengths}
+use Rattle.choices.specs.Checks.{Call, Bounded, Lengths}
 use Rattle.picture.specs.Picture.{State, picturedOf, begunOf, pictureOf}
 use Rattle.picture.specs.Counts.{costOf}
 use Rattle.boundary.specs.TileNumbers.{FieldsFit}

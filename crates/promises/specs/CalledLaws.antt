@@ -9,8 +9,9 @@ use lib.ListN.{length}
 use Rattle.numbers.specs.Tests.{eq-or}
 use Rattle.reader.specs.Boolean.{Bytes}
 use Rattle.lent.specs.Memory.{Memory, sizesOf}
-use Rattle.picture.specs.Checks.{Call, refusalOf}
-use Rattle.picture.specs.Picture.{Picture, State, Ended, pictureOf, numberOf, valuesOf}
+use Rattle.choices.specs.Checks.{Call, refusalOf}
+use Rattle.choices.specs.Answer.{numberOf, valuesOf}
+use Rattle.picture.specs.Picture.{Picture, State, Ended, pictureOf}
 use Rattle.macroblock.specs.declared.arguments.SymbolCounts.{SymbolCounts}
 use Rattle.picture.specs.Counts.{costOf}
 use Rattle.picture.specs.CountsLaws.{cost-bad}

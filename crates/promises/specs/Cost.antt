@@ -12,8 +12,9 @@ use Rattle.residual.specs.Residual.{residualOf}
 use Rattle.lent.specs.Memory.{Memory}
 use Rattle.macroblock.specs.Macroblock.{finished, no-modes, no-tokens}
 use Rattle.macroblock.specs.Counts.{noReads}
-use Rattle.picture.specs.Checks.{Call}
-use Rattle.picture.specs.Picture.{Picture, State, Ended, columnOf, partitionOf, aroundAt, stepAt, nextOf, picturedOf, begunOf, pictureOf, numberOf, valuesOf}
+use Rattle.choices.specs.Checks.{Call}
+use Rattle.choices.specs.Answer.{numberOf, valuesOf}
+use Rattle.picture.specs.Picture.{Picture, State, Ended, columnOf, partitionOf, aroundAt, stepAt, nextOf, picturedOf, begunOf, pictureOf}
 use Rattle.picture.specs.Counts.{costOf}
 use Rattle.promises.specs.Refusals.{Fine, Bad}
 use Rattle.promises.specs.Reached.{modesAsked}

@@ -16,10 +16,11 @@ use Rattle.tile.specs.Partitions.{pickOf}
 use Rattle.macroblock.specs.declared.arguments.SymbolCounts.{SymbolCounts}
 use Rattle.macroblock.specs.Macroblock.{Finished, Step, finished, no-modes, no-tokens}
 use Rattle.macroblock.specs.Counts.{noReads, macroblockTokenReads, readsOf, AtMost}
-use Rattle.picture.specs.declared.rows.Decoded.{Decoded}
-use Rattle.picture.specs.declared.rows.Decoded.the-variants as D
-use Rattle.picture.specs.Checks.{Call, refusalOf}
-use Rattle.picture.specs.Picture.{Picture, State, Ended, columnOf, partitionOf, readersAt, aroundAt, stepAt, nextOf, picturedOf, startOf, begunOf, pictureOf, numberOf, valuesOf}
+use Rattle.choices.specs.declared.answer.Decoded.{Decoded}
+use Rattle.choices.specs.declared.answer.Decoded.the-variants as D
+use Rattle.choices.specs.Checks.{Call, refusalOf}
+use Rattle.choices.specs.Answer.{numberOf, valuesOf}
+use Rattle.picture.specs.Picture.{Picture, State, Ended, columnOf, partitionOf, readersAt, aroundAt, stepAt, nextOf, picturedOf, startOf, begunOf, pictureOf}
 use Rattle.picture.specs.Counts.{plus, readsAt, readsFrom, costOf, askedOf}
 use Rattle.picture.specs.CountsLaws.{reads-none, reads-finished, reads-no-modes, reads-no-tokens, reads-at, cost-bad, cost-good, cost-most}
 use Rattle.promises.specs.Refusals.{Fine, Bad, blank-same, sizes-same}

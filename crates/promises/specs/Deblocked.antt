@@ -12,7 +12,7 @@ use Rattle.lent.specs.Records.{recordsIn, strengthWidth, strengthAt}
 use Rattle.macroblock.specs.Macroblock.{Planes}
 use Rattle.lent.specs.Memory.{Memory}
 use Rattle.tile.specs.Checks.{Sides}
-use Rattle.picture.specs.Checks.{Call}
+use Rattle.choices.specs.Checks.{Call}
 use Rattle.picture.specs.Picture.{planesIn}
 use Rattle.deblock.specs.declared.edges.Edge.{Edge}
 use Rattle.deblock.specs.declared.Deblocked.the-variants.{Done}

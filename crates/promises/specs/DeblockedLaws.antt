@@ -18,10 +18,10 @@ use Rattle.lent.specs.RecordsLaws.{record-byte, record-same}
 use Rattle.tile.specs.Checks.{Sides}
 use Rattle.macroblock.specs.Macroblock.{Planes}
 use Rattle.lent.specs.Memory.{Memory, sizesOf}
-use Rattle.picture.specs.Checks.{Call}
-use Rattle.picture.specs.ChecksLaws.{fine-side}
+use Rattle.choices.specs.Checks.{Call}
+use Rattle.choices.specs.ChecksLaws.{fine-side}
 use Rattle.picture.specs.Picture.{State, Ended, picturedOf, pictureOf, planesIn}
-use Rattle.picture.specs.PictureLaws.{Live}
+use Rattle.picture.specs.Live.{Live}
 use Rattle.picture.specs.Halt.{haltedOf}
 use Rattle.picture.specs.HaltLaws.{halted-picture, halted-alive}
 use Rattle.deblock.specs.declared.edges.Edge.{Edge}

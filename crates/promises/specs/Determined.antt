@@ -55,6 +55,7 @@ use Rattle.macroblock.specs.declared.arguments.Around.{Around}
 use Rattle.macroblock.specs.declared.ending.Finish.{Finish}
 use Rattle.macroblock.specs.declared.ending.ModeData.{ModeData}
 use Rattle.macroblock.specs.declared.ending.Residue.{Residue}
+use Rattle.macroblock.specs.declared.arguments.SymbolCounts.{SymbolCounts}
 use Rattle.macroblock.specs.Counts.{decodeReads}
 use Rattle.macroblock.specs.Ending.{macroblockEnded}
 use Rattle.macroblock.specs.Macroblock as Macroblock
@@ -63,15 +64,18 @@ use Rattle.macroblock.specs.Rebuilt.{rebuildCallOf}
 use Rattle.filter.specs.Strengths.{strengthAnswer, strengthFine}
 use Rattle.header.specs.declared.frame.Frame.{Frame}
 use Rattle.filter.specs.declared.strengths.Strength.{Strength}
-use Rattle.picture.specs.Checks.{callOf, refusalOf}
+use Rattle.choices.specs.Checks.{callOf, refusalOf}
 use Rattle.lent.specs.Memory.{memoryOf, filled, blankOf}
 use Rattle.casefile.specs.Run.{ranOf}
 use Rattle.deblock.specs.Deblock.{deblockOf}
 use Rattle.samples.specs.FilterCalls.{deblockCalledOf, filteredOf}
+use Rattle.told.specs.Told.{countsOf, rescueToldOf, profileToldOf}
 use Rattle.hookbarley.specs.Calls.{calledOf}
 use Rattle.samples.specs.ExplainCalls.{explainCalledOf}
-use Rattle.picture.specs.declared.rows.Decoded.{Decoded}
-use Rattle.picture.specs.Picture.{besideOf, numberOf, pictureOf, valuesOf}
+use Rattle.choices.specs.declared.answer.Decoded.{Decoded}
+use Rattle.choices.specs.Answer.{numberOf, valuesOf, stoppedOf}
+use Rattle.choices.specs.Beside.{besideOf}
+use Rattle.picture.specs.Picture.{pictureOf}
 use Rattle.picture.specs.Halt.{haltedOf}
 use Rattle.lent.specs.declared.sizes.Sizes.{Sizes}
 use Rattle.rescue.specs.declared.Rescued.{Rescued}
@@ -529,23 +533,28 @@ whole-decode-reads first tokens readers frame table around place y u v = determi
 pub rebuilt-rebuild : (first : List ℕ) (readers : Readers) (frame : Frame) (around : Around) (place : Place) (y u v : List ℕ) → One (λ o. o ≡ rebuildCallOf first readers frame around place (planesOf y u v))
 rebuilt-rebuild first readers frame around place y u v = determined (rebuildCallOf first readers frame around place (planesOf y u v))
 
+-- ---- choices
+-- choices::checks::refusal
+pub choices-refusal : (bytes : List ℕ) (tile : Tile) (header : List ℤ) (sizes : Sizes) → One (λ o. o ≡ refusalOf (callOf bytes tile header) sizes)
+choices-refusal bytes tile header sizes = determined (refusalOf (callOf bytes tile header) sizes)
+
+-- choices::beside::beside
+pub choices-beside : (column : ℕ) (left : Context) → One (λ o. o ≡ besideOf column left)
+choices-beside column left = determined (besideOf column left)
+
+-- choices::answer::Decoded::number
+pub choices-number : (self : Decoded) → One (λ o. o ≡ numberOf self)
+choices-number self = determined (numberOf self)
+
+-- choices::answer::Decoded::finished
+pub choices-finished : (self : Decoded) → One (λ o. o ≡ valuesOf self)
+choices-finished self = determined (valuesOf self)
+
+-- choices::answer::stopped
+pub choices-stopped : (answer : Finish) (k : ℕ) → One (λ o. o ≡ stoppedOf answer k)
+choices-stopped answer k = determined (stoppedOf answer k)
+
 -- ---- picture
--- picture::checks::refusal
-pub picture-refusal : (bytes : List ℕ) (tile : Tile) (header : List ℤ) (sizes : Sizes) → One (λ o. o ≡ refusalOf (callOf bytes tile header) sizes)
-picture-refusal bytes tile header sizes = determined (refusalOf (callOf bytes tile header) sizes)
-
--- picture::turn::beside
-pub picture-beside : (column : ℕ) (left : Context) → One (λ o. o ≡ besideOf column left)
-picture-beside column left = determined (besideOf column left)
-
--- picture::rows::Decoded::number
-pub picture-number : (self : Decoded) → One (λ o. o ≡ numberOf self)
-picture-number self = determined (numberOf self)
-
--- picture::rows::Decoded::finished
-pub picture-finished : (self : Decoded) → One (λ o. o ≡ valuesOf self)
-picture-finished self = determined (valuesOf self)
-
 -- picture::halt
 pub picture-halt : (bytes : List ℕ) (tile : Tile) (header : List ℤ) (y u v columns modes strengths : List ℕ)
     → One (λ o. o ≡ haltedOf (callOf bytes tile header) (memoryOf y u v columns modes strengths))
@@ -728,6 +737,19 @@ pub files-webp-wrapped : (frame out : List ℕ) → One (λ o. o ≡ webpWrapped
 files-webp-wrapped frame out = determined (webpWrappedOf frame out)
 
 -- ---- hookbarley
+-- ---- told
+-- told::counts::tell_counts
+pub told-counts : (k : ℕ) (reads : SymbolCounts) → One (λ o. o ≡ countsOf k reads)
+told-counts k reads = determined (countsOf k reads)
+
+-- told::rescued::tell_rescue
+pub told-rescue : (answer : Rescued) → One (λ o. o ≡ rescueToldOf answer)
+told-rescue answer = determined (rescueToldOf answer)
+
+-- told::profiled::tell_profile
+pub told-profile : (answer : Profiled) → One (λ o. o ≡ profileToldOf answer)
+told-profile answer = determined (profileToldOf answer)
+
 -- hookbarley::decoding::hookbarley_decode
 pub hookbarley-decode : (bytes : List ℕ) (header : List ℤ) (tile y u v columns modes strengths : List ℕ) → One (λ o. o ≡ calledOf bytes header tile (memoryOf y u v columns modes strengths))
 hookbarley-decode bytes header tile y u v columns modes strengths = determined (calledOf bytes header tile (memoryOf y u v columns modes strengths))

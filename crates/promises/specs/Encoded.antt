@@ -11,8 +11,9 @@ use Rattle.reader.specs.TraceLaws.{Each, nil, cons, Byte}
 use Rattle.modes.specs.Modes.{Macroblock}
 use Rattle.lent.specs.Memory.{Memory}
 use Rattle.macroblock.specs.Macroblock.{Step, finished, no-modes, no-tokens}
-use Rattle.picture.specs.Checks.{Call}
-use Rattle.picture.specs.Picture.{Picture, State, stepAt, nextOf, picturedOf, begunOf, pictureOf, numberOf}
+use Rattle.choices.specs.Checks.{Call}
+use Rattle.choices.specs.Answer.{numberOf}
+use Rattle.picture.specs.Picture.{Picture, State, stepAt, nextOf, picturedOf, begunOf, pictureOf}
 use Rattle.picture.specs.Counts.{costOf}
 use Rattle.writer.specs.Encoder.{encodeOf}
 use Rattle.writer.specs.EncoderLaws.{encoded}

@@ -8,8 +8,9 @@ use Rattle.reader.specs.Boolean.{Bytes}
 use Rattle.lent.specs.Memory.{Memory, sizesOf}
 use Rattle.lent.specs.Records.{packed}
 use Rattle.lent.specs.Sizes.{Sized}
-use Rattle.picture.specs.ChecksLaws.{refusal-none}
-use Rattle.picture.specs.Picture.{Picture, State, Ended, numberOf}
+use Rattle.choices.specs.ChecksLaws.{refusal-none}
+use Rattle.choices.specs.Answer.{numberOf}
+use Rattle.picture.specs.Picture.{Picture, State, Ended}
 use Rattle.frame.specs.Take.{takenOf}
 use Rattle.frame.specs.PassesLaws.{taken-is-fine}
 use Rattle.key_frame.specs.KeyFrame.{frameCall}

@@ -7,8 +7,9 @@ use Rattle.modes.specs.Answers.{kindsOf}
 use Rattle.macroblock.specs.Macroblock.{Finished, finished}
 use Rattle.lent.specs.Records.{modeWidth, strengthWidth, modeRecord, strengthRecord}
 use Rattle.lent.specs.Memory.{Memory}
-use Rattle.picture.specs.Checks.{Call}
-use Rattle.picture.specs.Picture.{State, picturedOf, begunOf, stepAt, nextOf, pictureOf, valuesOf}
+use Rattle.choices.specs.Checks.{Call}
+use Rattle.choices.specs.Answer.{valuesOf}
+use Rattle.picture.specs.Picture.{State, picturedOf, begunOf, stepAt, nextOf, pictureOf}
 use Rattle.promises.specs.Reached.{Reached}
 use Rattle.promises.specs.Places.{Plane, planeSide, sampleOf, modeByte, strengthByte, blockAt}
 

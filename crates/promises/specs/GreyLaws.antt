@@ -16,7 +16,7 @@ use Rattle.macroblock.specs.Macroblock.{Finished, finished}
 use Rattle.lent.specs.Records.{modeWidth, strengthWidth, modeRecord, strengthRecord}
 use Rattle.lent.specs.RecordsLaws.{record-set-in}
 use Rattle.lent.specs.Memory.{Memory}
-use Rattle.picture.specs.Checks.{Call}
+use Rattle.choices.specs.Checks.{Call}
 use Rattle.picture.specs.Picture.{State, Ended, picturedOf, begunOf, stepAt, nextOf, pictureOf}
 use Rattle.picture.specs.PictureLaws.{room-at}
 use Rattle.promises.specs.Refusals.{Fine, fine-is}

@@ -6,8 +6,8 @@ use mathlib.Core.Logic.{_⊎_, inl, inr}
 use native.Mathlib.Omega.{arith}
 use Rattle.numbers.specs.Tests.{lt-or}
 use Rattle.macroblock.specs.Macroblock.{Step, no-modes, no-tokens}
-use Rattle.picture.specs.declared.rows.Decoded.{Decoded}
-use Rattle.picture.specs.declared.rows.Decoded.the-variants as D
+use Rattle.choices.specs.declared.answer.Decoded.{Decoded}
+use Rattle.choices.specs.declared.answer.Decoded.the-variants as D
 use Rattle.picture.specs.Picture.{Picture, State, Ended, partitionOf, stepAt, nextOf}
 use Rattle.picture.specs.Halt.{Halted, haltOf}
 use Rattle.picture.specs.HaltLaws.{halt-none, halt-finished, halt-no-modes, halt-no-tokens}

@@ -6,8 +6,9 @@ use mathlib.Core.Path.{_≡_}
 use Rattle.lent.specs.Records.{modeWidth, strengthWidth}
 use Rattle.lent.specs.Memory.{Memory}
 use Rattle.tile.specs.Partitions.{contentsOf, tokenContents}
-use Rattle.picture.specs.Checks.{Call}
-use Rattle.picture.specs.Picture.{Ended, pictureOf, numberOf, valuesOf}
+use Rattle.choices.specs.Checks.{Call}
+use Rattle.choices.specs.Answer.{numberOf, valuesOf}
+use Rattle.picture.specs.Picture.{Ended, pictureOf}
 use Rattle.promises.specs.Places.{Plane, planeSide, sampleOf, modeByte, strengthByte}
 
 -- ---- what is compared

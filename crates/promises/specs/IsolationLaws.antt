@@ -16,9 +16,10 @@ use Rattle.header.specs.declared.frame.Frame.{Frame}
 use Rattle.header.specs.Frame.{frameOf}
 use Rattle.tile.specs.Partitions.{readersOf}
 use Rattle.tile.specs.PartitionsLaws.{readers-same, readers-length, pick-some, pick-below}
-use Rattle.picture.specs.Checks.{Call}
-use Rattle.picture.specs.ChecksLaws.{fine-side, fine-count}
-use Rattle.picture.specs.Picture.{Picture, State, Ended, picturedOf, begunOf, rowOf, partitionOf, runOf, pictureOf, valuesOf}
+use Rattle.choices.specs.Checks.{Call}
+use Rattle.choices.specs.ChecksLaws.{fine-side, fine-count}
+use Rattle.choices.specs.Answer.{valuesOf}
+use Rattle.picture.specs.Picture.{Picture, State, Ended, picturedOf, begunOf, rowOf, partitionOf, runOf, pictureOf}
 use Rattle.promises.specs.Refusals.{Fine, fine-is, blank-same, sizes-same}
 use Rattle.promises.specs.Reached.{Reached}
 use Rattle.promises.specs.ReachedLaws.{values-from, ending, last, reached-before}

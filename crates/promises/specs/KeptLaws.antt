@@ -14,10 +14,11 @@ use Rattle.tile.specs.Partitions.{spanAt}
 use Rattle.tile.specs.PartitionsLaws.{part-bytes}
 use Rattle.lent.specs.Records.{modeWidth, strengthWidth, modeRecord, strengthRecord}
 use Rattle.lent.specs.RecordsLaws.{record-set-off}
-use Rattle.picture.specs.Checks.{Call}
+use Rattle.choices.specs.Checks.{Call}
 use Rattle.picture.specs.CallLaws.{shared-start, live-start}
 use Rattle.picture.specs.Picture.{Picture, State, picturedOf, begunOf, columnOf, rowOf, partitionOf, planesIn, placeOf, readersAt, aroundAt, stepAt, nextOf, runOf}
-use Rattle.picture.specs.PictureLaws.{Shared, Live, step-at, column-below, partition-below, laid-at, ready-at, ends-at, live-next, run-none, run-finished, run-no-modes, run-no-tokens}
+use Rattle.picture.specs.Live.{Shared, Live}
+use Rattle.picture.specs.PictureLaws.{step-at, column-below, partition-below, laid-at, ready-at, ends-at, live-next, run-none, run-finished, run-no-modes, run-no-tokens}
 use Rattle.promises.specs.Refusals.{Fine}
 use Rattle.promises.specs.Reached.{Reached, start, after}
 use Rattle.promises.specs.ReachedLaws.{rest-of}

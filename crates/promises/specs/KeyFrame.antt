@@ -15,7 +15,8 @@ use Rattle.tile.specs.Partitions.{spanAt}
 use Rattle.lent.specs.Memory.{Memory, sizesOf}
 use Rattle.lent.specs.Records.{packed, modeWidth, strengthWidth}
 use Rattle.lent.specs.Sizes.{Sized}
-use Rattle.picture.specs.Picture.{pictureOf, planesIn, numberOf, valuesOf}
+use Rattle.choices.specs.Answer.{numberOf, valuesOf}
+use Rattle.picture.specs.Picture.{pictureOf, planesIn}
 use Rattle.picture.specs.Counts.{costOf}
 use Rattle.frame.specs.Take.{takenOf}
 use Rattle.frame.specs.Passes.{unplaced}

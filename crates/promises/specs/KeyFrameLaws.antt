@@ -19,9 +19,10 @@ use Rattle.lent.specs.Records.{packed}
 use Rattle.lent.specs.Sizes.{Sized}
 use Rattle.planes.specs.Paint.{sampleAt}
 use Rattle.macroblock.specs.Macroblock.{Planes}
-use Rattle.picture.specs.Checks.{refusalOf}
-use Rattle.picture.specs.ChecksLaws.{fine-lengths}
-use Rattle.picture.specs.Picture.{Ended, pictureOf, planesIn, numberOf, valuesOf}
+use Rattle.choices.specs.Checks.{refusalOf}
+use Rattle.choices.specs.ChecksLaws.{fine-lengths}
+use Rattle.choices.specs.Answer.{numberOf, valuesOf}
+use Rattle.picture.specs.Picture.{Ended, pictureOf, planesIn}
 use Rattle.picture.specs.Counts.{costOf}
 use Rattle.deblock.specs.Deblock.{deblockOf}
 use Rattle.frame.specs.declared.take.Answer.{Answer}

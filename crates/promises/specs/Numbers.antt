@@ -51,7 +51,8 @@ use Rattle.macroblock.specs.Macroblock as Macroblock
 use Rattle.macroblock.specs.Macroblock.{Planes, Finished, MacroblockCalled, noOutcome, shown, endOf, readyOf, placeFine, finishNumberOf}
 use Rattle.casefile.specs.CaseFile.{wellFormed, caseWidth, caseHeight, givenOf}
 use Rattle.casefile.specs.Run.{lentOf, malformedRan, ranOf}
-use Rattle.picture.specs.Picture.{pictureOf, numberOf, valuesOf}
+use Rattle.choices.specs.Answer.{numberOf, valuesOf}
+use Rattle.picture.specs.Picture.{pictureOf}
 use Rattle.frame.specs.declared.fields.Header.{Header}
 use Rattle.frame.specs.Tag as Tag
 use Rattle.frame.specs.Places.{partitionCount, tokensInside}

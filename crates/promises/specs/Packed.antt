@@ -7,7 +7,7 @@ use lib.ListN.{length}
 use Rattle.lent.specs.Records.{packed, old, formWidth, columnAt}
 use Rattle.lent.specs.Memory.{Memory}
 use Rattle.macroblock.specs.declared.arguments.SymbolCounts.{SymbolCounts}
-use Rattle.picture.specs.Checks.{Call, callIn}
+use Rattle.choices.specs.Checks.{Call, callIn}
 use Rattle.picture.specs.Picture.{Ended, picturedOf, begunOf, runOf, pictureOf}
 use Rattle.picture.specs.Counts.{readsFrom, costOf}
 use Rattle.promises.specs.Refusals.{Fine}

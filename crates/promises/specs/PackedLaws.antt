@@ -22,12 +22,14 @@ use Rattle.macroblock.specs.declared.arguments.Around.{Around}
 use Rattle.macroblock.specs.declared.arguments.Readers.{Readers}
 use Rattle.macroblock.specs.Counts.{noReads, readsOf}
 use Rattle.macroblock.specs.Macroblock.{Planes, Finished, Step, finished, no-modes, no-tokens, stepOf}
-use Rattle.picture.specs.declared.rows.Decoded.the-variants as D
-use Rattle.picture.specs.Checks.{Call, callIn, refusalOf}
-use Rattle.picture.specs.ChecksLaws.{refusal-forms, fine-lengths}
+use Rattle.choices.specs.declared.answer.Decoded.the-variants as D
+use Rattle.choices.specs.Checks.{Call, callIn, refusalOf}
+use Rattle.choices.specs.ChecksLaws.{refusal-forms, fine-lengths}
 use Rattle.picture.specs.CallLaws.{picture-bad, picture-good, shared-start, live-start}
-use Rattle.picture.specs.Picture.{Picture, State, Ended, columnOf, partitionOf, besideOf, planesIn, placeOf, readersAt, aroundAt, stepAt, nextOf, picturedOf, begunOf, runOf, pictureOf}
-use Rattle.picture.specs.PictureLaws.{Shared, Live, step-at, column-below, partition-below, ends-at, live-next, run-none, run-finished, run-no-modes, run-no-tokens}
+use Rattle.choices.specs.Beside.{besideOf}
+use Rattle.picture.specs.Picture.{Picture, State, Ended, columnOf, partitionOf, planesIn, placeOf, readersAt, aroundAt, stepAt, nextOf, picturedOf, begunOf, runOf, pictureOf}
+use Rattle.picture.specs.Live.{Shared, Live}
+use Rattle.picture.specs.PictureLaws.{step-at, column-below, partition-below, ends-at, live-next, run-none, run-finished, run-no-modes, run-no-tokens}
 use Rattle.picture.specs.Counts.{plus, readsAt, readsFrom, costOf}
 use Rattle.picture.specs.CountsLaws.{reads-none, reads-finished, reads-no-modes, reads-no-tokens, reads-at, cost-bad, cost-good}
 use Rattle.picture.specs.TurnLaws.{Ends}

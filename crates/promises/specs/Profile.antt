@@ -8,8 +8,8 @@ use lib.IntN.{pos}
 use Rattle.header.specs.Entries.{segmentsOn, mapOn, sharpness}
 use Rattle.header.specs.Header.{entry}
 use Rattle.lent.specs.Memory.{Memory}
-use Rattle.picture.specs.declared.rows.Decoded.the-variants as D
-use Rattle.picture.specs.Checks.{Call}
+use Rattle.choices.specs.declared.answer.Decoded.the-variants as D
+use Rattle.choices.specs.Checks.{Call}
 use Rattle.picture.specs.Picture.{pictureOf}
 use Rattle.profile.specs.declared.Profiled.the-variants as P
 use Rattle.profile.specs.Profile.{ProfileEnded, profiled, profileOf, profileNumberOf}

@@ -16,9 +16,10 @@ use Rattle.lent.specs.MacroblocksLaws.{mode-read}
 use Rattle.lent.specs.declared.macroblocks.ModeRecord.{ModeRecord}
 use Rattle.lent.specs.Memory.{Memory, sizesOf}
 use Rattle.tile.specs.Checks.{Sides, Counted}
-use Rattle.picture.specs.declared.rows.Decoded.the-variants as D
-use Rattle.picture.specs.Checks.{Call, refusalOf}
-use Rattle.picture.specs.Picture.{Picture, State, Ended, pictureOf, numberOf, valuesOf}
+use Rattle.choices.specs.declared.answer.Decoded.the-variants as D
+use Rattle.choices.specs.Checks.{Call, refusalOf}
+use Rattle.choices.specs.Answer.{numberOf, valuesOf}
+use Rattle.picture.specs.Picture.{Picture, State, Ended, pictureOf}
 use Rattle.profile.specs.declared.Profiled.{Profiled}
 use Rattle.profile.specs.declared.Profiled.the-variants as P
 use Rattle.profile.specs.Profile.{sizeFits, countFits, segmentsFit, sharpnessFits, tileRulesOf, bothAt, firstBoth, judgedOf, decodedOf, ProfileEnded, profiled, profileOf, profileNumberOf}

@@ -9,7 +9,7 @@ use Rattle.modes.specs.Modes.{Macroblock, modesOf}
 use Rattle.residual.specs.Residual.{Model, residualOf}
 use Rattle.header.specs.Frame.{factorsAt}
 use Rattle.macroblock.specs.Macroblock.{Finished, finished}
-use Rattle.picture.specs.declared.rows.Decoded.the-variants as D
+use Rattle.choices.specs.declared.answer.Decoded.the-variants as D
 use Rattle.picture.specs.Picture.{Picture, State, Ended, columnOf, partitionOf, aroundAt, stepAt, nextOf}
 
 -- from the state S₀, k macroblocks are finished one after the other, and the next one finds the state S

@@ -10,8 +10,9 @@ use Rattle.reader.specs.Boolean.{given, missing}
 use Rattle.modes.specs.Modes.{Macroblock}
 use Rattle.macroblock.specs.Macroblock.{Finished, Step, finished, no-modes, no-tokens}
 use Rattle.macroblock.specs.StepLaws.{NoTokens, step-no-modes, step-no-tokens, step-refused-modes, step-refused-tokens}
-use Rattle.picture.specs.declared.rows.Decoded.the-variants as D
-use Rattle.picture.specs.Picture.{Picture, State, Ended, columnOf, partitionOf, planesIn, placeOf, readersAt, aroundAt, stepAt, nextOf, runOf, valuesOf}
+use Rattle.choices.specs.declared.answer.Decoded.the-variants as D
+use Rattle.choices.specs.Answer.{valuesOf}
+use Rattle.picture.specs.Picture.{Picture, State, Ended, columnOf, partitionOf, planesIn, placeOf, readersAt, aroundAt, stepAt, nextOf, runOf}
 use Rattle.picture.specs.PictureLaws.{step-at, run-none, run-finished, run-no-modes, run-no-tokens}
 use Rattle.promises.specs.Reached.{Reached, start, after, modesAsked, tokensAsked, Ending, whole, modes-out, tokens-out}
 

@@ -10,8 +10,9 @@ use Rattle.numbers.specs.Tests.{eq-or}
 use Rattle.reader.specs.Boolean.{Bytes}
 use Rattle.tile.specs.declared.Tile.{Tile}
 use Rattle.lent.specs.Memory.{Memory}
-use Rattle.picture.specs.Checks.{Call, callOf}
-use Rattle.picture.specs.Picture.{Ended, pictureOf, numberOf, valuesOf}
+use Rattle.choices.specs.Checks.{Call, callOf}
+use Rattle.choices.specs.Answer.{numberOf, valuesOf}
+use Rattle.picture.specs.Picture.{Ended, pictureOf}
 use Rattle.recode.specs.Recode.{RecodeEnded, recodeOf}
 use Rattle.boundary.specs.TileNumbers.{FieldsFit, tileOfNumbers}
 use Rattle.boundary.specs.TileNumbersLaws.{fields-fit}

@@ -29,11 +29,13 @@ use Rattle.tile.specs.PartitionsLaws.{part-bytes, span-at, pick-below, readers-
 use Rattle.tile.specs.Checks.{blocksOf, Inside}
 use Rattle.macroblock.specs.Macroblock.{Finished, Step, finished, no-modes, no-tokens, stepOf, endOf}
 use Rattle.macroblock.specs.StepLaws.{Both, step-done}
-use Rattle.picture.specs.declared.rows.Decoded.the-variants as D
-use Rattle.picture.specs.Checks.{Call, refusalOf}
-use Rattle.picture.specs.ChecksLaws.{refusal-none, fine-side, fine-entries, fine-lengths, fine-partitions}
+use Rattle.choices.specs.declared.answer.Decoded.the-variants as D
+use Rattle.choices.specs.Checks.{Call, refusalOf}
+use Rattle.choices.specs.ChecksLaws.{refusal-none, fine-side, fine-entries, fine-lengths, fine-partitions}
 use Rattle.picture.specs.CallLaws.{picture-good, shared-start, live-start}
-use Rattle.picture.specs.Picture.{Picture, State, Ended, columnOf, rowOf, partitionOf, besideOf, planesIn, placeOf, readersAt, aroundAt, stepAt, written, nextOf, picturedOf, startOf, begunOf, runOf, pictureOf, numberOf}
+use Rattle.choices.specs.Answer.{numberOf}
+use Rattle.choices.specs.Beside.{besideOf}
+use Rattle.picture.specs.Picture.{Picture, State, Ended, columnOf, rowOf, partitionOf, planesIn, placeOf, readersAt, aroundAt, stepAt, written, nextOf, picturedOf, startOf, begunOf, runOf, pictureOf}
 use Rattle.picture.specs.PictureLaws.{step-at, run-none, run-finished, run-no-modes, run-no-tokens}
 use Rattle.writer.specs.Encoder.{encodeOf}
 use Rattle.writer.specs.EncoderLaws.{encoded}

@@ -3,15 +3,16 @@ use Prim.Native.Nat.{ℕ, zero, suc, _≤_}
 use mathlib.Core.Path.{_≡_, refl, sym, _∙_, ap}
 use native.Mathlib.Omega.{arith}
 use lib.ListN.{length, replicate}
-use Rattle.picture.specs.declared.rows.Decoded.the-variants as D
+use Rattle.choices.specs.declared.answer.Decoded.the-variants as D
 use Rattle.lent.specs.declared.sizes.Sizes.{Sizes}
 use Rattle.lent.specs.Memory.{Memory, sizesOf, blankOf}
 use Rattle.tile.specs.Checks.{blocksOf}
-use Rattle.picture.specs.Checks.{Call, Bounded, Lengths, refusalOf}
+use Rattle.choices.specs.Checks.{Call, Bounded, Lengths, refusalOf}
 use Rattle.tile.specs.Checks.{Sides, Counted, Cut}
-use Rattle.picture.specs.ChecksLaws.{refusal-most, refusal-none, refused-side, refused-count, refused-entries, refused-lengths, refused-partitions, fine-side, fine-count, fine-entries, fine-lengths, fine-partitions}
+use Rattle.choices.specs.ChecksLaws.{refusal-most, refusal-none, refused-side, refused-count, refused-entries, refused-lengths, refused-partitions, fine-side, fine-count, fine-entries, fine-lengths, fine-partitions}
 use Rattle.picture.specs.CallLaws.{picture-bad, picture-good}
-use Rattle.picture.specs.Picture.{Ended, picturedOf, startOf, begunOf, runOf, pictureOf, numberOf, valuesOf}
+use Rattle.choices.specs.Answer.{numberOf, valuesOf}
+use Rattle.picture.specs.Picture.{Ended, picturedOf, startOf, begunOf, runOf, pictureOf}
 
 -- an argument is refused where one of the five checks fails, and none is where all pass
 abbrev pub Bad : Call → Memory → Type 0

@@ -8,7 +8,7 @@ use Rattle.modes.specs.Answers.{kindsOf}
 use Rattle.macroblock.specs.Macroblock.{Finished, finished, strengthMade}
 use Rattle.lent.specs.Records.{modeWidth, strengthWidth, modeRecord, strengthRecord}
 use Rattle.lent.specs.Memory.{Memory}
-use Rattle.picture.specs.Checks.{Call}
+use Rattle.choices.specs.Checks.{Call}
 use Rattle.picture.specs.Picture.{Picture, State, picturedOf, nextOf}
 use Rattle.picture.specs.Halt.{haltedOf}
 use Rattle.rescue.specs.Rescue.{rebuiltAt, rescueOf}

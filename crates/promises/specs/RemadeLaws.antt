@@ -15,11 +15,13 @@ use Rattle.macroblock.specs.RebuiltLaws.{From, rebuilt-from}
 use Rattle.lent.specs.Records.{modeWidth, strengthWidth, modeRecord, strengthRecord}
 use Rattle.lent.specs.RecordsLaws.{record-set-in}
 use Rattle.lent.specs.Memory.{Memory}
-use Rattle.picture.specs.declared.rows.Decoded.{Decoded}
-use Rattle.picture.specs.declared.rows.Decoded.the-variants as D
-use Rattle.picture.specs.Checks.{Call}
-use Rattle.picture.specs.Picture.{Picture, State, Ended, picturedOf, begunOf, columnOf, partitionOf, planesIn, placeOf, readersAt, aroundAt, nextOf, pictureOf, valuesOf}
-use Rattle.picture.specs.PictureLaws.{Shared, Live, live-next, room-at}
+use Rattle.choices.specs.declared.answer.Decoded.{Decoded}
+use Rattle.choices.specs.declared.answer.Decoded.the-variants as D
+use Rattle.choices.specs.Checks.{Call}
+use Rattle.choices.specs.Answer.{valuesOf}
+use Rattle.picture.specs.Picture.{Picture, State, Ended, picturedOf, begunOf, columnOf, partitionOf, planesIn, placeOf, readersAt, aroundAt, nextOf, pictureOf}
+use Rattle.picture.specs.Live.{Shared, Live}
+use Rattle.picture.specs.PictureLaws.{live-next, room-at}
 use Rattle.picture.specs.Halt.{Halted, haltedOf}
 use Rattle.picture.specs.HaltLaws.{halted-picture, Alive, halted-alive}
 use Rattle.rescue.specs.Rescue.{rebuiltAt, Saved, savedAt, restOf, goneOn, RescueEnded, savedOf, rescueOf, savedCountOf}

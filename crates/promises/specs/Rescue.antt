@@ -7,8 +7,9 @@ use mathlib.Core.Logic.{_⊎_}
 use lib.ListN.{length, getD}
 use Rattle.lent.specs.Records.{modeWidth, strengthWidth}
 use Rattle.lent.specs.Memory.{Memory, sizesOf}
-use Rattle.picture.specs.Checks.{Call, refusalOf}
-use Rattle.picture.specs.Picture.{pictureOf, numberOf}
+use Rattle.choices.specs.Checks.{Call, refusalOf}
+use Rattle.choices.specs.Answer.{numberOf}
+use Rattle.picture.specs.Picture.{pictureOf}
 use Rattle.rescue.specs.declared.Rescued.the-variants as R
 use Rattle.rescue.specs.Rescue.{rescueRefusalOf, RescueEnded, rescueEnded, rescueOf, rescueNumberOf, savedCountOf}
 use Rattle.promises.specs.Stops.{macroblocks}

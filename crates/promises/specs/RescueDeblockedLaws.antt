@@ -17,8 +17,8 @@ use Rattle.modes.specs.Answers.{kindsOf}
 use Rattle.macroblock.specs.Macroblock.{Finished}
 use Rattle.lent.specs.Records.{Columns, modeWidth, strengthWidth, modeRecord, strengthRecord, strengthAt}
 use Rattle.lent.specs.Memory.{Memory, sizesOf}
-use Rattle.picture.specs.Checks.{Call}
-use Rattle.picture.specs.ChecksLaws.{fine-side}
+use Rattle.choices.specs.Checks.{Call}
+use Rattle.choices.specs.ChecksLaws.{fine-side}
 use Rattle.picture.specs.Picture.{picturedOf, pictureOf}
 use Rattle.rescue.specs.Rescue.{RescueEnded, rescueOf}
 use Rattle.promises.specs.Refusals.{Fine}

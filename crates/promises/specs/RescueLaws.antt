@@ -16,12 +16,13 @@ use Rattle.macroblock.specs.StepLaws.{Kept, Elsewhere}
 use Rattle.lent.specs.Records.{modeWidth, strengthWidth, modeRecord, strengthRecord}
 use Rattle.lent.specs.RecordsLaws.{record-set-off}
 use Rattle.lent.specs.Memory.{Memory, sizesOf}
-use Rattle.picture.specs.declared.rows.Decoded.{Decoded}
-use Rattle.picture.specs.declared.rows.Decoded.the-variants as D
-use Rattle.picture.specs.Checks.{Call, refusalOf}
-use Rattle.picture.specs.ChecksLaws.{refusal-most}
-use Rattle.picture.specs.Picture.{Picture, State, Ended, picturedOf, begunOf, columnOf, rowOf, partitionOf, planesIn, placeOf, nextOf, pictureOf, numberOf, valuesOf}
-use Rattle.picture.specs.PictureLaws.{Shared, Live}
+use Rattle.choices.specs.declared.answer.Decoded.{Decoded}
+use Rattle.choices.specs.declared.answer.Decoded.the-variants as D
+use Rattle.choices.specs.Checks.{Call, refusalOf}
+use Rattle.choices.specs.ChecksLaws.{refusal-most}
+use Rattle.choices.specs.Answer.{numberOf, valuesOf}
+use Rattle.picture.specs.Picture.{Picture, State, Ended, picturedOf, begunOf, columnOf, rowOf, partitionOf, planesIn, placeOf, nextOf, pictureOf}
+use Rattle.picture.specs.Live.{Shared, Live}
 use Rattle.picture.specs.Halt.{Halted, haltOf, haltedOf}
 use Rattle.picture.specs.HaltLaws.{endedIn, halted-picture, halted-good, Alive, halted-alive}
 use Rattle.rescue.specs.declared.Rescued.the-variants as R

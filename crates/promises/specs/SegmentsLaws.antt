@@ -13,7 +13,7 @@ use Rattle.lent.specs.Records.{recordAt, modeWidth, strengthWidth, strengthAt}
 use Rattle.lent.specs.RecordsLaws.{record-byte}
 use Rattle.lent.specs.Memory.{Memory}
 use Rattle.macroblock.specs.Macroblock.{Planes}
-use Rattle.picture.specs.Checks.{Call}
+use Rattle.choices.specs.Checks.{Call}
 use Rattle.picture.specs.Picture.{pictureOf}
 use Rattle.deblock.specs.Deblock.{deblockOf}
 use Rattle.deblock.specs.LocalLaws.{deblock-same}

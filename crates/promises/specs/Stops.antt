@@ -4,10 +4,10 @@ use mathlib.Core.Path.{_≡_, sym, _∙_, subst}
 use Rattle.reader.specs.declared.boolean.Reader.{Reader}
 use Rattle.reader.specs.Boolean.{given, missing}
 use Rattle.modes.specs.Modes.{Macroblock}
-use Rattle.picture.specs.declared.rows.Decoded.the-variants as D
+use Rattle.choices.specs.declared.answer.Decoded.the-variants as D
 use Rattle.lent.specs.Memory.{Memory}
 use Rattle.tile.specs.Checks.{blocksOf}
-use Rattle.picture.specs.Checks.{Call}
+use Rattle.choices.specs.Checks.{Call}
 use Rattle.picture.specs.Picture.{State, picturedOf, begunOf, pictureOf}
 use Rattle.promises.specs.Refusals.{Fine, fine-is}
 use Rattle.promises.specs.Reached.{Reached, modesAsked, tokensAsked, Ending}

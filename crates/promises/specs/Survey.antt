@@ -8,8 +8,9 @@ use Rattle.numbers.specs.Flags.{bitOf}
 use Rattle.reader.specs.Boolean.{Bytes}
 use Rattle.lent.specs.Memory.{Memory}
 use Rattle.macroblock.specs.Counts.{noReads}
-use Rattle.picture.specs.Checks.{Call}
-use Rattle.picture.specs.Picture.{pictureOf, numberOf}
+use Rattle.choices.specs.Checks.{Call}
+use Rattle.choices.specs.Answer.{numberOf}
+use Rattle.picture.specs.Picture.{pictureOf}
 use Rattle.picture.specs.Counts.{costOf}
 use Rattle.survey.specs.Survey.{sumTo, same, howMany, segmentAt, smallAt, lumaAt, chromaAt, skipAt, insideAt, subBlocksTo, totalOf, addedOf, countLimit, Passed, sumOf, addOf, surveyEnded, surveyOf}
 use Rattle.promises.specs.Grey.{done}

@@ -22,9 +22,11 @@ use Rattle.lent.specs.MacroblocksLaws.{kinds-back, modes-back, mode-read, stren
 use Rattle.lent.specs.Memory.{Memory}
 use Rattle.macroblock.specs.Macroblock.{Finished}
 use Rattle.macroblock.specs.StepLaws.{step-ends}
-use Rattle.picture.specs.Checks.{Call, refusalOf}
-use Rattle.picture.specs.Picture.{Picture, State, Ended, picturedOf, begunOf, columnOf, partitionOf, planesIn, placeOf, readersAt, aroundAt, pictureOf, numberOf}
-use Rattle.picture.specs.PictureLaws.{Live, step-at, column-below, partition-below, ready-at, ends-at, room-at}
+use Rattle.choices.specs.Checks.{Call, refusalOf}
+use Rattle.choices.specs.Answer.{numberOf}
+use Rattle.picture.specs.Picture.{Picture, State, Ended, picturedOf, begunOf, columnOf, partitionOf, planesIn, placeOf, readersAt, aroundAt, pictureOf}
+use Rattle.picture.specs.Live.{Live}
+use Rattle.picture.specs.PictureLaws.{step-at, column-below, partition-below, ready-at, ends-at, room-at}
 use Rattle.lent.specs.Memory.{sizesOf}
 use Rattle.survey.specs.TotalLaws.{InTables}
 use Rattle.promises.specs.Refusals.{Fine, refused-changes-nothing}

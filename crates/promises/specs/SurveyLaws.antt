@@ -9,8 +9,9 @@ use lib.Seq.{ext-getD}
 use Rattle.numbers.specs.Lists.{getD-constant}
 use Rattle.numbers.specs.Tests.{eq-or}
 use Rattle.lent.specs.Memory.{Memory}
-use Rattle.picture.specs.Checks.{Call}
-use Rattle.picture.specs.Picture.{pictureOf, numberOf}
+use Rattle.choices.specs.Checks.{Call}
+use Rattle.choices.specs.Answer.{numberOf}
+use Rattle.picture.specs.Picture.{pictureOf}
 use Rattle.picture.specs.Counts.{costOf}
 use Rattle.survey.specs.Survey.{sumTo, totalOf, addedOf, countLimit, Passed, sumOf, Added, addOf, SurveyEnded, surveyOf}
 use Rattle.survey.specs.TallyLaws.{tallied-answer, tallied-segment, tallied-luma, tallied-chroma, tallied-skip, tallied-inside, tallied-subs, tallied-first, tallied-tokens}

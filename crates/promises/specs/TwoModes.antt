@@ -10,9 +10,11 @@ use Rattle.lent.specs.Records.{Form, columnAt, columnSet, modeSet}
 use Rattle.lent.specs.ColumnsLaws.{column-back, column-other}
 use Rattle.macroblock.specs.Macroblock.{Finished, finished, stepOf}
 use Rattle.macroblock.specs.StepLaws.{SameModes, step-modes-only-first}
-use Rattle.picture.specs.Picture.{Picture, State, columnOf, partitionOf, besideOf, planesIn, placeOf, readersAt, aroundAt, stepAt, nextOf}
-use Rattle.picture.specs.TurnLaws.{beside-none, beside-left}
-use Rattle.picture.specs.PictureLaws.{Live, step-at, column-below, partition-below, room-at, ends-at}
+use Rattle.choices.specs.Beside.{besideOf}
+use Rattle.picture.specs.Picture.{Picture, State, columnOf, partitionOf, planesIn, placeOf, readersAt, aroundAt, stepAt, nextOf}
+use Rattle.choices.specs.BesideLaws.{beside-none, beside-left}
+use Rattle.picture.specs.Live.{Live}
+use Rattle.picture.specs.PictureLaws.{step-at, column-below, partition-below, room-at, ends-at}
 use Rattle.promises.specs.Reached.{Reached, start, after}
 use Rattle.promises.specs.KeptLaws.{Sound, live-reached}
 

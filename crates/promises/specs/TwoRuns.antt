@@ -16,13 +16,14 @@ use Rattle.macroblock.specs.declared.arguments.Place.{Place}
 use Rattle.macroblock.specs.declared.arguments.Readers.{Readers}
 use Rattle.macroblock.specs.Counts.{readsOf}
 use Rattle.macroblock.specs.Macroblock.{Planes, Finished, Step, no-modes, no-tokens, stepOf}
-use Rattle.picture.specs.declared.rows.Decoded.{Decoded}
-use Rattle.picture.specs.declared.rows.Decoded.the-variants as D
+use Rattle.choices.specs.declared.answer.Decoded.{Decoded}
+use Rattle.choices.specs.declared.answer.Decoded.the-variants as D
 use Rattle.lent.specs.Memory.{Memory}
 use Rattle.picture.specs.Counts.{readsAt}
 use Rattle.picture.specs.CountsLaws.{reads-at}
 use Rattle.picture.specs.PictureLaws.{step-at}
-use Rattle.picture.specs.Picture.{Picture, State, Ended, columnOf, partitionOf, besideOf, planesIn, placeOf, readersAt, aroundAt, stepAt, written, nextOf, runOf}
+use Rattle.choices.specs.Beside.{besideOf}
+use Rattle.picture.specs.Picture.{Picture, State, Ended, columnOf, partitionOf, planesIn, placeOf, readersAt, aroundAt, stepAt, written, nextOf, runOf}
 use Rattle.promises.specs.Reached.{Reached, start, after, Ending, whole, modes-out, tokens-out}
 use Rattle.promises.specs.ReachedLaws.{missing-modes, missing-tokens, ending, ends-whole, stops-modes, stops-tokens, reached-before}
 

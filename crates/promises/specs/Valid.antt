@@ -3,7 +3,7 @@ use Prim.Native.Nat.{ℕ, _≤_}
 use Rattle.reader.specs.Boolean.{Bytes}
 use Rattle.lent.specs.Records.{Columns, strengthAt}
 use Rattle.lent.specs.Memory.{Memory}
-use Rattle.picture.specs.Checks.{Call}
+use Rattle.choices.specs.Checks.{Call}
 use Rattle.picture.specs.Picture.{pictureOf}
 use Rattle.picture.specs.FinalLaws.{picture-final}
 use Rattle.promises.specs.Refusals.{Fine}

@@ -24,15 +24,17 @@ use Rattle.tile.specs.PartitionsLaws.{part-bytes}
 use Rattle.tile.specs.Checks.{blocksOf}
 use Rattle.macroblock.specs.declared.arguments.SymbolCounts.{SymbolCounts}
 use Rattle.macroblock.specs.Macroblock.{Step, finished, no-modes, no-tokens}
-use Rattle.picture.specs.declared.rows.Decoded.{Decoded}
-use Rattle.picture.specs.declared.rows.Decoded.the-variants as D
-use Rattle.picture.specs.Checks.{Call, callOf, callIn, refusalOf}
-use Rattle.picture.specs.ChecksLaws.{fine-side, fine-count}
+use Rattle.choices.specs.declared.answer.Decoded.{Decoded}
+use Rattle.choices.specs.declared.answer.Decoded.the-variants as D
+use Rattle.choices.specs.Checks.{Call, callOf, callIn, refusalOf}
+use Rattle.choices.specs.ChecksLaws.{fine-side, fine-count}
 use Rattle.picture.specs.CallLaws.{picture-bad, picture-good, picture-found, shared-start, live-start, shared-found, live-found, run-found}
 use Rattle.picture.specs.Counts.{costOf}
 use Rattle.picture.specs.CountsLaws.{cost-good}
-use Rattle.picture.specs.Picture.{Picture, State, Ended, cutOut, picturedOf, startOf, begunOf, stepAt, nextOf, runOf, pictureOf, numberOf}
-use Rattle.picture.specs.PictureLaws.{Live, run-none, run-finished, run-no-modes, run-no-tokens}
+use Rattle.choices.specs.Answer.{numberOf}
+use Rattle.picture.specs.Picture.{Picture, State, Ended, cutOut, picturedOf, startOf, begunOf, stepAt, nextOf, runOf, pictureOf}
+use Rattle.picture.specs.Live.{Live}
+use Rattle.picture.specs.PictureLaws.{run-none, run-finished, run-no-modes, run-no-tokens}
 use Rattle.writer.specs.declared.Writer.{Writer}
 use Rattle.writer.specs.Encoder.{Encoder, fresh, writeAll, flushOf, encodeOf}
 use Rattle.writer.specs.Room.{endedOf, flushAnswer}

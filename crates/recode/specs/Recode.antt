@@ -17,8 +17,9 @@ use Rattle.tile.specs.declared.Tile.{Tile}
 use Rattle.tile.specs.Partitions.{contentsOf, noSpan}
 use Rattle.tile.specs.Checks.{blocksOf}
 use Rattle.macroblock.specs.Macroblock.{finished, no-modes, no-tokens}
-use Rattle.picture.specs.Checks.{Call}
-use Rattle.picture.specs.Picture.{Picture, State, Ended, columnOf, partitionOf, aroundAt, stepAt, nextOf, picturedOf, begunOf, pictureOf, numberOf}
+use Rattle.choices.specs.Checks.{Call}
+use Rattle.choices.specs.Answer.{numberOf}
+use Rattle.picture.specs.Picture.{Picture, State, Ended, columnOf, partitionOf, aroundAt, stepAt, nextOf, picturedOf, begunOf, pictureOf}
 use Rattle.writer.specs.Encoder.{encodeOf}
 use Rattle.recode.specs.declared.Recoded.{Recoded}
 

@@ -19,9 +19,10 @@ use Rattle.macroblock.specs.Counts.{macroblockTokenReads, readsOf}
 use Rattle.macroblock.specs.Macroblock.{Finished, Step, finished, no-modes, no-tokens}
 use Rattle.macroblock.specs.Asked.{Ready}
 use Rattle.macroblock.specs.StepLaws.{Both, step-both}
-use Rattle.picture.specs.declared.rows.Decoded.the-variants as D
+use Rattle.choices.specs.declared.answer.Decoded.the-variants as D
 use Rattle.picture.specs.Picture.{Picture, State, Ended, columnOf, partitionOf, planesIn, placeOf, readersAt, aroundAt, stepAt, nextOf, runOf}
-use Rattle.picture.specs.PictureLaws.{Shared, Live, step-at, column-below, partition-below, ready-at, ends-at, live-next, run-none, run-finished, run-no-modes, run-no-tokens}
+use Rattle.picture.specs.Live.{Shared, Live}
+use Rattle.picture.specs.PictureLaws.{step-at, column-below, partition-below, ready-at, ends-at, live-next, run-none, run-finished, run-no-modes, run-no-tokens}
 use Rattle.picture.specs.Counts.{readsAt, readsFrom}
 use Rattle.picture.specs.CountsLaws.{reads-none, reads-finished, reads-no-modes, reads-no-tokens, reads-at}
 use Rattle.recode.specs.Recode.{modesAsked, tokenGrammar, readBy, tokensFrom}

@@ -23,7 +23,7 @@ use Rattle.modes.specs.AnswersLaws.{stageGiven, read}
 use Rattle.modes.specs.Contexts.{contextFine}
 use Rattle.modes.specs.Modes.{Macroblock, modesOf, bottomOf, rightOf}
 use Rattle.numbers.specs.declared.Checked.{Checked}
-use Rattle.picture.specs.Picture.{besideOf}
+use Rattle.choices.specs.Beside.{besideOf}
 use Rattle.reader.specs.declared.boolean.Reader.{Reader}
 use Rattle.reader.specs.Boolean.{given, missing}
 use Rattle.reader.specs.Reading.{Reading, run}

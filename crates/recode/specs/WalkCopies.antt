@@ -12,9 +12,10 @@ use Rattle.macroblock.specs.Macroblock.{Finished, Step, finished, no-modes, no-
 use Rattle.macroblock.specs.StepLaws.{Both}
 use Rattle.modes.specs.declared.contexts.Context.{Context}
 use Rattle.modes.specs.Contexts.{emptyContext, contextFine}
-use Rattle.picture.specs.declared.rows.Decoded.the-variants as D
+use Rattle.choices.specs.declared.answer.Decoded.the-variants as D
 use Rattle.picture.specs.Picture.{Picture, State, Ended, cutOut, startOf, columnOf, partitionOf, planesIn, aroundAt, stepAt, nextOf, runOf}
-use Rattle.picture.specs.PictureLaws.{Live, room-at, ends-at, partition-below, run-none, run-finished, run-no-modes, run-no-tokens}
+use Rattle.picture.specs.Live.{Live}
+use Rattle.picture.specs.PictureLaws.{room-at, ends-at, partition-below, run-none, run-finished, run-no-modes, run-no-tokens}
 use Rattle.reader.specs.declared.boolean.Reader.{Reader}
 use Rattle.reader.specs.Boolean.{noReader}
 use Rattle.reader.specs.Trace.{CodedSymbol, trace}

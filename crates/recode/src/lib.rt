@@ -20,7 +20,7 @@ ghost use mathlib.Core.Bool.{true};
 ghost use Prim.Native.Nat.{_+_, _≤_};
 ghost use lib.ListN.{length};
 ghost use Rattle.lent.specs.Memory.{memoryOf};
-ghost use Rattle.picture.specs.Checks.{callOf};
+ghost use Rattle.choices.specs.Checks.{callOf};
 ghost use Rattle.recode.specs.Recode.{recodedRefused, recodeEnded, recodeOf, oneTile};
 ghost use Rattle.recode.specs.PassLaws.{Small, Passes, Measures, Behind, Lays, Writes};
 

@@ -2,6 +2,7 @@
 use crate::block::Flow;
 use crate::block::copy_residual;
 use crate::pipe::Pipe;
+use choices::beside::beside;
 use header::frame::Frame;
 use lent::columns::read_column;
 use lent::columns::write_column;
@@ -12,7 +13,6 @@ use modes::contexts::Context;
 use modes::contexts::bottom;
 use modes::contexts::right;
 use modes::whole::read_modes;
-use picture::turn::beside;
 use reader::boolean::Reader;
 use wide::wide::narrow;
 use wide::wide::widen;

@@ -16,12 +16,14 @@ use Rattle.macroblock.specs.declared.ending.Finish.the-variants as F
 use Rattle.macroblock.specs.Macroblock.{Finished, Step, finished, no-modes, no-tokens, finishNumberOf}
 use Rattle.macroblock.proofs.ending.Finish as finish
 use Rattle.lent.specs.Memory.{Memory}
-use Rattle.picture.specs.declared.rows.Decoded.{Decoded}
-use Rattle.picture.specs.declared.rows.Decoded.the-variants as D
-use Rattle.picture.proofs.rows.Decoded as decoded
-use Rattle.picture.specs.Picture.{Picture, State, columnOf, partitionOf, planesIn, nextOf, valuesOf}
+use Rattle.choices.specs.declared.answer.Decoded.{Decoded}
+use Rattle.choices.specs.declared.answer.Decoded.the-variants as D
+use Rattle.choices.proofs.answer.Decoded as decoded
+use Rattle.choices.specs.Answer.{valuesOf}
+use Rattle.picture.specs.Picture.{Picture, State, columnOf, partitionOf, planesIn, nextOf}
 use Rattle.picture.specs.Turn.{Turned, turned}
-use Rattle.picture.specs.PictureLaws.{Shared, Live, live-next}
+use Rattle.picture.specs.Live.{Shared, Live}
+use Rattle.picture.specs.PictureLaws.{live-next}
 use Rattle.rescue.specs.Rescue.{rebuiltAt, Saved, savedAt, restOf, goneOn}
 use Rattle.rescue.specs.RescueLaws.{at-never, ends-rebuilt-at, rest-none, rest-rebuilt, rest-no-modes}
 

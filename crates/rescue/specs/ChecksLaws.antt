@@ -11,8 +11,8 @@ use Rattle.header.specs.Header.{entriesOf}
 use Rattle.tile.specs.Checks.{sidesOf, countOf, partitionsOf, blocksOf}
 use Rattle.lent.specs.declared.sizes.Sizes.{Sizes}
 use Rattle.lent.specs.Records.{modeWidth}
-use Rattle.picture.specs.Checks.{Call, Lengths, lengthsOf, failed, checksOf, refusalOf}
-use Rattle.picture.specs.ChecksLaws.{refusal-most, fine-lengths, refused-partitions}
+use Rattle.choices.specs.Checks.{Call, Lengths, lengthsOf, failed, checksOf, refusalOf}
+use Rattle.choices.specs.ChecksLaws.{refusal-most, fine-lengths, refused-partitions}
 use Rattle.rescue.specs.Rescue.{rescueRefusalOf}
 
 -- ---- five tests, and a sixth beside the fourth

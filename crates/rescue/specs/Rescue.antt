@@ -7,16 +7,19 @@ use mathlib.Core.List.{List, [], _∷_}
 use lib.Dec.{ltb, eqb}
 use lib.ListN.{length}
 use Rattle.numbers.specs.Lists.{build}
+use Rattle.reader.specs.declared.boolean.Reader.{Reader}
+use Rattle.reader.specs.BooleanLaws.{Valid}
 use Rattle.header.specs.Header.{entriesOf}
 use Rattle.tile.specs.Checks.{sidesOf, countOf, partitionsOf, blocksOf}
 use Rattle.lent.specs.declared.sizes.Sizes.{Sizes}
 use Rattle.lent.specs.Memory.{Memory, sizesOf}
 use Rattle.macroblock.specs.Macroblock.{Step, finished, no-modes, no-tokens}
 use Rattle.macroblock.specs.Rebuilt.{rebuiltOf}
-use Rattle.picture.specs.declared.rows.Decoded.{Decoded}
-use Rattle.picture.specs.declared.rows.Decoded.the-variants as D
-use Rattle.picture.specs.Checks.{Call, lengthsOf, failed}
-use Rattle.picture.specs.Picture.{Picture, State, picturedOf, columnOf, partitionOf, planesIn, placeOf, readersAt, aroundAt, nextOf, valuesOf}
+use Rattle.choices.specs.declared.answer.Decoded.{Decoded}
+use Rattle.choices.specs.declared.answer.Decoded.the-variants as D
+use Rattle.choices.specs.Checks.{Call, lengthsOf, failed}
+use Rattle.choices.specs.Answer.{valuesOf}
+use Rattle.picture.specs.Picture.{Picture, State, picturedOf, columnOf, partitionOf, planesIn, placeOf, readersAt, aroundAt, nextOf}
 use Rattle.picture.specs.Halt.{Halted, haltedOf}
 use Rattle.rescue.specs.declared.Rescued.{Rescued}
 use Rattle.rescue.specs.declared.Rescued.the-variants as R
@@ -33,6 +36,11 @@ rescueRefusalOf c z marks =
     ∷ [])
 
 -- ---- after the stop
+-- a reader that is in range in some partition: it stays so, since it is not read
+pub record Held (t : Reader) : Type 0 where
+  pub tokens : List ℕ
+  pub valid : Valid tokens t
+
 -- macroblock k rebuilt from its modes, in the state that it finds
 unfoldable pub rebuiltAt : Picture → ℕ → State → Step
 rebuiltAt P k S = rebuiltOf (P .first) (readersAt S (partitionOf P k)) (P .frame) (aroundAt P S (columnOf P k)) (placeOf P k) (planesIn (S .mem))

@@ -27,25 +27,23 @@ use Rattle.macroblock.specs.Rebuilt.{rebuiltOf, rebuildCallOf}
 use Rattle.macroblock.specs.Asked.{Legible}
 use Rattle.macroblock.specs.RebuiltLaws.{ready-legible, rebuild-good, rebuilt-never, rebuilt-ends, rebuilt-outside, rebuilt-strength, withToken, rebuilt-token, rebuilt-token-none}
 use Rattle.macroblock.specs.StepLaws.{Elsewhere}
-use Rattle.picture.specs.declared.rows.Decoded.{Decoded}
-use Rattle.picture.specs.declared.rows.Decoded.the-variants as D
-use Rattle.picture.specs.Checks.{Call}
-use Rattle.picture.specs.Picture.{Picture, State, picturedOf, columnOf, rowOf, partitionOf, besideOf, planesIn, placeOf, readersAt, aroundAt, written, nextOf, valuesOf}
+use Rattle.choices.specs.declared.answer.Decoded.{Decoded}
+use Rattle.choices.specs.declared.answer.Decoded.the-variants as D
+use Rattle.choices.specs.Checks.{Call}
+use Rattle.choices.specs.Answer.{valuesOf}
+use Rattle.choices.specs.Beside.{besideOf}
+use Rattle.picture.specs.Picture.{Picture, State, picturedOf, columnOf, rowOf, partitionOf, planesIn, placeOf, readersAt, aroundAt, written, nextOf}
 use Rattle.picture.specs.Turn.{Turned, turned}
 use Rattle.picture.specs.TurnLaws.{Ends}
-use Rattle.picture.specs.PictureLaws.{Shared, Live, live-next, column-below, partition-below, laid-at, ready-at}
+use Rattle.picture.specs.Live.{Shared, Live}
+use Rattle.picture.specs.PictureLaws.{live-next, column-below, partition-below, laid-at, ready-at}
 use Rattle.picture.specs.Halt.{Halted, haltedOf}
 use Rattle.picture.specs.HaltLaws.{Alive, halted-alive}
 use Rattle.rescue.specs.ChecksLaws.{rescue-fine}
 use Rattle.rescue.specs.declared.Rescued.the-variants as R
-use Rattle.rescue.specs.Rescue.{rescueRefusalOf, rebuiltAt, Saved, savedAt, restOf, goneOn, markOf, marksOf, RescueEnded, rescueEnded, rescued, savedOf, rescueOf}
+use Rattle.rescue.specs.Rescue.{Held, rescueRefusalOf, rebuiltAt, Saved, savedAt, restOf, goneOn, markOf, marksOf, RescueEnded, rescueEnded, rescued, savedOf, rescueOf}
 
 -- ---- one macroblock
--- a reader that is in range in some partition: it stays so, since it is not read
-pub record Held (t : Reader) : Type 0 where
-  pub tokens : List ℕ
-  pub valid : Valid tokens t
-
 -- the call, its arguments being good
 pub rebuild-is : (first : List ℕ) (readers : Readers) (f : Frame) {a b : Context} (top left : Context) (place : Place) (p : Planes) {x : MacroblockCalled}
     → x ≡ rebuildCallOf first readers f (record { top = a; left = b }) place p → a ≡ top → b ≡ left

@@ -1,10 +1,10 @@
 // The argument checks: the picture call's, the fourth of which covers the marks too, a byte a macroblock.
+use choices::checks::refusal;
 use lent::macroblocks::MODE_WIDTH;
 use lent::sizes::Sizes;
-use picture::checks::refusal;
 use tile::Tile;
 ghost use mathlib.Core.Path.{_≡_};
-ghost use Rattle.picture.specs.Checks.{callOf};
+ghost use Rattle.choices.specs.Checks.{callOf};
 ghost use Rattle.rescue.specs.Rescue.{rescueRefusalOf};
 
 // The number of the first check that fails, or 0. Where the picture call's fourth passes, the mode memory tells how many macroblocks there are.

@@ -1,10 +1,10 @@
 // The macroblocks after the stop, in raster order, each rebuilt from its modes, until these run out. Token partitions are no longer read.
 use crate::turn::turn;
+use choices::answer::Decoded;
 use header::frame::take;
 use macroblock::arguments::Place;
 use macroblock::arguments::Readers;
 use macroblock::ending::Finish;
-use picture::rows::Decoded;
 use picture::rows::PictureStop;
 use picture::turn::Task;
 use tile::Tile;
@@ -16,9 +16,10 @@ ghost use Prim.Native.Nat.{_≤_};
 ghost use Rattle.header.specs.Header.{headerOf};
 ghost use Rattle.tile.specs.Checks.{blocksOf};
 ghost use Rattle.lent.specs.Memory.{memoryOf};
-ghost use Rattle.picture.specs.Checks.{callOf};
-ghost use Rattle.picture.specs.Picture.{picturedOf, valuesOf};
-ghost use Rattle.picture.specs.PictureLaws.{Shared, Live};
+ghost use Rattle.choices.specs.Checks.{callOf};
+ghost use Rattle.choices.specs.Answer.{valuesOf};
+ghost use Rattle.picture.specs.Picture.{picturedOf};
+ghost use Rattle.picture.specs.Live.{Shared, Live};
 ghost use Rattle.picture.specs.Halt.{stateOf};
 ghost use Rattle.rescue.specs.Rescue.{savedAt, goneOn};
 

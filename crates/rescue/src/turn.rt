@@ -1,4 +1,5 @@
 // One macroblock in its place, rebuilt from its modes: the picture's turn without tokens. Where its modes run out nothing is written.
+use choices::beside::beside;
 use lent::columns::read_column;
 use lent::columns::write_column;
 use lent::macroblocks::write_mode_record;
@@ -7,7 +8,6 @@ use macroblock::arguments::Around;
 use macroblock::ending::Finish;
 use modes::contexts::Context;
 use picture::turn::Task;
-use picture::turn::beside;
 use rebuilt::rebuild;
 ghost use mathlib.Core.Path.{_≡_};
 ghost use Rattle.lent.specs.Memory.{memoryOf};
@@ -16,9 +16,9 @@ ghost use Rattle.macroblock.specs.Macroblock.{planesOf};
 ghost use Rattle.macroblock.specs.Asked.{Laid};
 ghost use Rattle.macroblock.specs.Rebuilt.{rebuiltOf};
 ghost use Rattle.macroblock.specs.Asked.{Legible};
-ghost use Rattle.picture.specs.Picture.{besideOf};
+ghost use Rattle.choices.specs.Beside.{besideOf};
 ghost use Rattle.picture.specs.Turn.{Room, turnedOf, turned};
-ghost use Rattle.rescue.specs.RescueLaws.{Held};
+ghost use Rattle.rescue.specs.Rescue.{Held};
 
 // Where it ended, and what the next macroblock of the row sees to its left.
 pub(crate) struct RebuiltTurn {

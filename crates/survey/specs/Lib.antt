@@ -1,4 +1,5 @@
 pub mod Survey
 pub mod SurveyLaws
+pub mod Tally
 pub mod TallyLaws
 pub mod TotalLaws

@@ -13,8 +13,9 @@ use Rattle.lent.specs.Memory.{Memory}
 use Rattle.lent.specs.Records.{modeFound, strengthFound}
 use Rattle.macroblock.specs.declared.arguments.SymbolCounts.{SymbolCounts}
 use Rattle.macroblock.specs.Counts.{noReads}
-use Rattle.picture.specs.Checks.{Call}
-use Rattle.picture.specs.Picture.{Ended, pictureOf, numberOf, valuesOf}
+use Rattle.choices.specs.Checks.{Call}
+use Rattle.choices.specs.Answer.{numberOf, valuesOf}
+use Rattle.picture.specs.Picture.{Ended, pictureOf}
 use Rattle.picture.specs.Counts.{costOf}
 use Rattle.survey.specs.declared.Surveyed.{Surveyed}
 

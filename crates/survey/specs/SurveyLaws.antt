@@ -19,9 +19,10 @@ use Rattle.macroblock.specs.declared.arguments.SymbolCounts.{SymbolCounts}
 use Rattle.macroblock.specs.Counts.{noReads}
 use Rattle.macroblock.specs.Macroblock.{Step, finished, no-modes, no-tokens}
 use Rattle.tile.specs.Checks.{blocksOf}
-use Rattle.picture.specs.Checks.{Call, refusalOf}
-use Rattle.picture.specs.ChecksLaws.{fine-side}
-use Rattle.picture.specs.Picture.{Picture, State, Ended, picturedOf, begunOf, stepAt, nextOf, runOf, pictureOf, numberOf, valuesOf}
+use Rattle.choices.specs.Checks.{Call, refusalOf}
+use Rattle.choices.specs.ChecksLaws.{fine-side}
+use Rattle.choices.specs.Answer.{numberOf, valuesOf}
+use Rattle.picture.specs.Picture.{Picture, State, Ended, picturedOf, begunOf, stepAt, nextOf, runOf, pictureOf}
 use Rattle.picture.specs.Counts.{costOf}
 use Rattle.picture.specs.PictureLaws.{run-none, run-finished, run-no-modes, run-no-tokens}
 use Rattle.picture.specs.CallLaws.{picture-bad, picture-good}

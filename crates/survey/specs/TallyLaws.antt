@@ -1,4 +1,4 @@
--- The laws of counting. The code counts one thing after the other into one list; by its places the list is `talliedOf`: `tally-found`.
+-- The laws of counting.
 use Prim.Native.Nat.{ℕ, zero, suc, _+_, _-_, _*_, _≤_, _<_}
 use mathlib.Core.Path.{_≡_, refl, sym, _∙_, ap, subst}
 use mathlib.Core.Bool.{Bool, true, false}
@@ -8,7 +8,6 @@ use native.Mathlib.Omega.{arith}
 use native.Mathlib.Numerals.{add-one}
 use native.Mathlib.Nat.{zero-add}
 use native.Mathlib.Decide.{ℕ-discrete}
-use lib.Dec.{ltb}
 use lib.ListN.{length, getD, set, replicate, length-set, length-append, List·getD-append}
 use lib.Seq.{ext-getD, getD-set-same, getD-set-other, set-out, getD-append-add}
 use borrow.Author.Tests.{lt-ltb, le-ltb, eq-eqb, ne-eqb}
@@ -19,45 +18,8 @@ use Rattle.lent.specs.declared.macroblocks.ModeRecord.{ModeRecord}
 use Rattle.lent.specs.declared.macroblocks.StrengthRecord.{StrengthRecord}
 use Rattle.lent.specs.Records.{modeFound, strengthFound}
 use Rattle.macroblock.specs.declared.arguments.SymbolCounts.{SymbolCounts}
+use Rattle.survey.specs.Tally.{counted, smallsTo, subsCounted, fiveCounted, recordCounted, blockCounted, blocksTo, Roomy}
 use Rattle.survey.specs.Survey.{sumTo, same, howMany, segmentAt, smallAt, subModeAt, lumaOf, lumaAt, chromaAt, skipAt, insideAt, subBlocks, subBlocksTo, talliedOf}
-
--- ---- as the code counts
--- one more in the table of `rows` counts that starts at `table`, at x; a value that the table has no place for counts nowhere
-unfoldable pub counted : List ℕ → (table rows x : ℕ) → List ℕ
-counted l table rows x = elim (ltb x rows) [ true ↦ set l (table + x) (getD l (table + x) 0 + 1) | false ↦ l ]
-
--- the first n sub-blocks
-unfoldable pub smallsTo : (n : ℕ) → List ℕ → List ℕ → List ℕ
-smallsTo zero modes l = l
-smallsTo (suc n) modes l = counted (smallsTo n modes l) 25 10 (getD modes n 0)
-
--- the sixteen of a small macroblock, none of another
-unfoldable pub subsCounted : Bool → List ℕ → List ℕ → List ℕ
-subsCounted small modes l = elim small [ true ↦ smallsTo 16 modes l | false ↦ l ]
-
--- segment, luma, chroma, skip, inside byte
-abbrev pub fiveCounted : ModeRecord → (inside : ℕ) → List ℕ → List ℕ
-fiveCounted r inside l =
-    counted
-    (counted
-    (counted
-    (counted (counted l 8 4 (r .kinds .segment)) 12 5 (lumaOf (r .kinds .small) (getD (r .modes) 0 0)))
-    17 4 (r .kinds .chroma))
-    21 2 (bitOf (r .kinds .skip)))
-    23 2 inside
-
--- a macroblock
-abbrev pub recordCounted : ModeRecord → (inside : ℕ) → List ℕ → List ℕ
-recordCounted r inside l = subsCounted (r .kinds .small) (r .modes) (fiveCounted r inside l)
-
--- macroblock k, as mode and strength memory have it
-unfoldable pub blockCounted : (modes strengths : List ℕ) → ℕ → List ℕ → List ℕ
-blockCounted modes strengths k l = recordCounted (modeFound modes k) (strengthFound strengths k .strength .inside) l
-
--- the first n macroblocks
-unfoldable pub blocksTo : (n : ℕ) → (modes strengths : List ℕ) → List ℕ → List ℕ
-blocksTo zero modes strengths l = l
-blocksTo (suc n) modes strengths l = blockCounted modes strengths n (blocksTo n modes strengths l)
 
 -- ---- one more
 module _ (l : List ℕ) (table rows x : ℕ) where
@@ -112,11 +74,7 @@ counted-beside l table rows x i o = elim (lt-or x rows) [
     apart (inl a) k e = omega arith
     apart (inr a) k e = omega arith
 
--- ---- counts that one more can be added to: 37 of them, none over n
-pub record Roomy (l : List ℕ) (n : ℕ) : Type 0 where
-  pub long : length l ≡ 37
-  pub below : (i : ℕ) → getD l i 0 ≤ n
-
+-- ---- counts that one more can be added to
 pub roomy-more : (l : List ℕ) (n m : ℕ) → Roomy l n → n ≤ m → Roomy l m
 roomy-more l n m r h = record { long = r .long; below = λ i. omega (arith, r .below i) }
 

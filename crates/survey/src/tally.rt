@@ -7,7 +7,7 @@ ghost use Prim.Native.Nat.{_+_, _≤_};
 ghost use lib.ListN.{replicate};
 ghost use Rattle.numbers.specs.Flags.{bitOf};
 ghost use Rattle.survey.specs.Survey.{lumaOf, talliedOf};
-ghost use Rattle.survey.specs.TallyLaws.{Roomy, counted, smallsTo, blockCounted, blocksTo};
+ghost use Rattle.survey.specs.Tally.{Roomy, counted, smallsTo, blockCounted, blocksTo};
 
 // One more in the table of `rows` counts that starts at `table`, at x; nothing where the table has no such place.
 fn count(counts: &mut [u64], table: usize, rows: usize, x: u8)

@@ -1,8 +1,8 @@
 // The limits of a picture's size and of the count of token partitions, run through the picture call: for each width, height and
 // count the number and the macroblocks finished. Case files end at sides of 64, so these tiles are made here: every partition is
 // the same 65536 zero bytes, and the header is 0 but for 128 in 38..1093.
+use choices::answer::Decoded;
 use picture::decode;
-use picture::rows::Decoded;
 use reader::boolean::open;
 use tile::Span;
 use tile::Tile;

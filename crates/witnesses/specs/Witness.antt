@@ -17,7 +17,7 @@ use Rattle.lent.specs.Memory.{Memory, memoryOf}
 use Rattle.lent.specs.Sizes.{longOf, sizesFine}
 use Rattle.tile.specs.Partitions.{spanAt, contentsOf, pickOf, readerOf, readersOf}
 use Rattle.tile.specs.Checks.{sideOf, sidesOf, countOf, insideOf, tokensFine, partitionsOf}
-use Rattle.picture.specs.Checks.{Call, callOf, lengthsOf, failed, refusalOf}
+use Rattle.choices.specs.Checks.{Call, callOf, lengthsOf, failed, refusalOf}
 use Rattle.header.specs.Header.{fineTo, entriesOf}
 use Rattle.numbers.specs.Clamp.{upTo, clampZ}
 use Rattle.numbers.specs.Runs.{placed, copied}
@@ -37,7 +37,8 @@ use Rattle.residual.specs.Residual.{coordinates, kindOf, spread, second, sixtee
 use Rattle.column.specs.Column.{packedOf, digitsOf}
 use Rattle.lent.specs.Records.{recordAt, recordSet}
 use Rattle.macroblock.specs.Macroblock.{endOf, stepOf}
-use Rattle.picture.specs.Picture.{besideOf, stepAt, runOf, picturedOf, begunOf, Ended, pictureOf}
+use Rattle.choices.specs.Beside.{besideOf}
+use Rattle.picture.specs.Picture.{stepAt, runOf, picturedOf, begunOf, Ended, pictureOf}
 use Rattle.planes.specs.Paint.{nearOf, fourAbove, fourLeft, firstPlaces, edgeOf, aboveRight, blockAboveRight, aroundOf, rowsPainted, blockCoefficients, blockResidual, summedOf, blockPainted, blocksPainted, smallAt, predictionRule, squarePainted}
 use Rattle.planes.specs.Predict.{dcBlock, sumOfFirst}
 use Rattle.transform.specs.Transform.{gridOf, transposeOf, scaledOf, passOf, rowsOf, verticalPass, horizontalPass, resultsOf, samplesOf}

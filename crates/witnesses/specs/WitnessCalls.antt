@@ -10,7 +10,7 @@ use Rattle.reader.specs.Boolean.{validOf, symbolOf, splitOf, grow, decidedOf}
 use Rattle.lent.specs.Sizes.{longOf, sizesFine}
 use Rattle.tile.specs.Partitions.{spanAt, contentsOf, pickOf, readerOf, readersOf}
 use Rattle.tile.specs.Checks.{sideOf, sidesOf, countOf, insideOf, tokensFine, partitionsOf}
-use Rattle.picture.specs.Checks.{lengthsOf, failed, refusalOf}
+use Rattle.choices.specs.Checks.{lengthsOf, failed, refusalOf}
 use Rattle.header.specs.Header.{fineTo, entriesOf}
 use Rattle.picture.specs.Halt.{haltOf, haltedOf}
 use Rattle.macroblock.specs.Rebuilt.{rebuiltOf}
@@ -41,7 +41,8 @@ use Rattle.residual.specs.Residual.{coordinates, kindOf, spread, second, sixtee
 use Rattle.column.specs.Column.{packedOf, digitsOf}
 use Rattle.lent.specs.Records.{recordAt, recordSet}
 use Rattle.macroblock.specs.Macroblock.{endOf, stepOf}
-use Rattle.picture.specs.Picture.{besideOf, stepAt, runOf}
+use Rattle.choices.specs.Beside.{besideOf}
+use Rattle.picture.specs.Picture.{stepAt, runOf}
 use Rattle.planes.specs.Paint.{nearOf, fourAbove, fourLeft, firstPlaces, edgeOf, aboveRight, blockAboveRight, aroundOf, rowsPainted, blockCoefficients, blockResidual, summedOf, blockPainted, blocksPainted, smallAt, predictionRule, squarePainted}
 use Rattle.planes.specs.Predict.{dcBlock, sumOfFirst}
 use Rattle.transform.specs.Transform.{gridOf, transposeOf, scaledOf, passOf, rowsOf, verticalPass, horizontalPass, resultsOf, samplesOf}

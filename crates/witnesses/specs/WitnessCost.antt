@@ -12,7 +12,7 @@ use Rattle.reader.specs.Trace.{trace, count}
 use Rattle.lent.specs.Sizes.{longOf, sizesFine}
 use Rattle.tile.specs.Partitions.{spanAt, contentsOf, pickOf, readerOf, readersOf}
 use Rattle.tile.specs.Checks.{sideOf, sidesOf, countOf, insideOf, tokensFine, partitionsOf}
-use Rattle.picture.specs.Checks.{Call, lengthsOf, failed, refusalOf}
+use Rattle.choices.specs.Checks.{Call, lengthsOf, failed, refusalOf}
 use Rattle.header.specs.Header.{fineTo, entriesOf}
 use Rattle.macroblock.specs.declared.arguments.SymbolCounts.{SymbolCounts}
 use Rattle.macroblock.specs.Counts.{readsOf}
@@ -36,7 +36,8 @@ use Rattle.residual.specs.Residual.{coordinates, kindOf, spread, second, sixtee
 use Rattle.column.specs.Column.{packedOf, digitsOf}
 use Rattle.lent.specs.Records.{recordAt, recordSet, recordFound}
 use Rattle.macroblock.specs.Macroblock.{Step, finished, no-modes, no-tokens, endOf, stepOf}
-use Rattle.picture.specs.Picture.{Picture, State, besideOf, nextOf, stepAt, runOf, picturedOf, begunOf, pictureOf}
+use Rattle.choices.specs.Beside.{besideOf}
+use Rattle.picture.specs.Picture.{Picture, State, nextOf, stepAt, runOf, picturedOf, begunOf, pictureOf}
 use Rattle.planes.specs.Paint.{nearOf, fourAbove, fourLeft, firstPlaces, edgeOf, aboveRight, blockAboveRight, aroundOf, rowsPainted, blockCoefficients, blockResidual, summedOf, blockPainted, blocksPainted, smallAt, predictionRule, squarePainted}
 use Rattle.planes.specs.Predict.{dcBlock, sumOfFirst}
 use Rattle.transform.specs.Transform.{gridOf, transposeOf, scaledOf, passOf, rowsOf, verticalPass, horizontalPass, resultsOf, samplesOf}

@@ -2,7 +2,7 @@ use borrow.Author.Needs.{needs}
 use mathlib.Core.Path.{_≡_, sym, _∙_}
 use Rattle.reader.specs.BooleanLaws.{Bytes}
 use Rattle.lent.specs.Memory.{Memory, memoryOf, sizesOf}
-use Rattle.picture.specs.Checks.{Call, callOf, refusalOf}
+use Rattle.choices.specs.Checks.{Call, callOf, refusalOf}
 use Rattle.picture.specs.CallLaws.{shared-found, live-found}
 use Rattle.picture.specs.HaltLaws.{halted-refused, halted-found}
 use Rattle.picture.specs.CountsLaws.{cost-bad, cost-found}
@@ -11,7 +11,7 @@ use Rattle.picture.proofs.halt.Tie as tie
 use Rattle.picture.proofs.halt.Reads as reads
 use Rattle.picture.proofs.halt.Lts as lts
 use Rattle.coefficients.proofs.block.probabilities.Reads as probabilities-reads
-use Rattle.picture.proofs.checks.refusal.Reads as refusal-reads
+use Rattle.choices.proofs.checks.refusal.Reads as refusal-reads
 use Rattle.blank.proofs.blank.Reads as blank-reads
 use Rattle.picture.proofs.rows.rows.Reads as rows-reads
 use Rattle.modes.proofs.contexts.Context.empty.Reads as empty-reads

@@ -1,6 +1,6 @@
 use mathlib.Core.Path.{refl, _∙_, ap}
 use Rattle.lent.specs.Memory.{Memory, memoryOf}
-use Rattle.picture.specs.Checks.{Call, callOf}
+use Rattle.choices.specs.Checks.{Call, callOf}
 use Rattle.recode.specs.PassLaws.{recode-refused, recode-small, recode-rewritten}
 use Rattle.recode.specs.Recode.{RecodeEnded, recodeEnded}
 use Rattle.recode.specs.declared.Recoded.{Recoded}

@@ -2,8 +2,8 @@ use mathlib.Core.Path.{_≡_, sym, _∙_}
 use lib.ListN.{length}
 use Rattle.reader.specs.BooleanLaws.{Bytes}
 use Rattle.lent.specs.Memory.{Memory, memoryOf, sizesOf}
-use Rattle.picture.specs.Checks.{Call, callOf}
-use Rattle.picture.specs.ChecksLaws.{fine-header}
+use Rattle.choices.specs.Checks.{Call, callOf}
+use Rattle.choices.specs.ChecksLaws.{fine-header}
 use Rattle.picture.specs.CallLaws.{shared-start}
 use Rattle.rescue.specs.Rescue.{rescueRefusalOf}
 use Rattle.rescue.specs.ChecksLaws.{rescue-fine}

@@ -10,7 +10,7 @@ returns-2 : tie.Need-returns-2
 returns-2 c =
     let d = c .before .before .before .before .before .before .before .before .before .before .before .before .before .before .before in
     let e = d .before .before .before .before .before .before .before in
-    profile-called-found _ _ _ _ (e .before .if1 .left) (e .tile-of .ensures) (d .profile .ensures) (c .number .ensures) (c .before .before .rule .ensures) (c .before .macroblock .ensures)
+    profile-called-found _ _ _ _ (e .before .if1 .left) (e .tile-of .ensures) (d .profile .ensures) (c .tell-profile .ensures)
 
 pub hookbarley-profile-spec : {M : Type 1} → statement M
 hookbarley-profile-spec =
@@ -20,12 +20,10 @@ hookbarley-profile-spec =
     (λ c κs. search needs)
     (λ c κs. search needs)
     (λ c κs. search needs)
-    (λ c κs. search needs)
-    (λ c κs. search needs)
-    (λ c. search needs)
-    (λ c. search needs)
-    (λ c. search needs)
-    (λ c. search needs)
-    (λ c. search needs)
-    (λ c. search needs)
+    (λ c. c .before .before .before .before .before .before .before .before .before .before .before .before .before .before .before .profile .kept .1 .1 .1 .0)
+    (λ c. c .before .before .before .before .before .before .before .before .before .before .before .before .before .before .before .profile .kept .1 .1 .1 .1 .0)
+    (λ c. c .before .before .before .before .before .before .before .before .before .before .before .before .before .before .before .profile .kept .1 .1 .1 .1 .1 .0)
+    (λ c. c .before .before .before .before .before .before .before .before .before .before .before .before .before .before .before .profile .kept .1 .1 .1 .1 .1 .1 .0)
+    (λ c. c .before .before .before .before .before .before .before .before .before .before .before .before .before .before .before .profile .kept .1 .1 .1 .1 .1 .1 .1 .0)
+    (λ c. c .before .before .before .before .before .before .before .before .before .before .before .before .before .before .before .profile .kept .1 .1 .1 .1 .1 .1 .1 .1 .0)
     returns-2)

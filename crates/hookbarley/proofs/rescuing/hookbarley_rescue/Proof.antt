@@ -10,7 +10,7 @@ returns-2 : tie.Need-returns-2
 returns-2 c =
     let d = c .before .before .before .before .before .before .before .before .before .before .before .before .before .before .before .before in
     let e = d .before .before .before .before .before .before .before .before in
-    rescue-called-found _ _ _ _ _ (e .before .if1 .left) (e .tile-of .ensures) (d .rescue .ensures) (c .number .ensures) (c .before .saved .ensures)
+    rescue-called-found _ _ _ _ _ (e .before .if1 .left) (e .tile-of .ensures) (d .rescue .ensures) (c .tell-rescue .ensures)
 
 pub hookbarley-rescue-spec : {M : Type 1} → statement M
 hookbarley-rescue-spec =
@@ -20,12 +20,11 @@ hookbarley-rescue-spec =
     (λ c κs. search needs)
     (λ c κs. search needs)
     (λ c κs. search needs)
-    (λ c κs. search needs)
-    (λ c. search needs)
-    (λ c. search needs)
-    (λ c. search needs)
-    (λ c. search needs)
-    (λ c. search needs)
-    (λ c. search needs)
-    (λ c. search needs)
+    (λ c. c .before .before .before .before .before .before .before .before .before .before .before .before .before .before .before .before .rescue .kept .1 .1 .1 .0)
+    (λ c. c .before .before .before .before .before .before .before .before .before .before .before .before .before .before .before .before .rescue .kept .1 .1 .1 .1 .0)
+    (λ c. c .before .before .before .before .before .before .before .before .before .before .before .before .before .before .before .before .rescue .kept .1 .1 .1 .1 .1 .0)
+    (λ c. c .before .before .before .before .before .before .before .before .before .before .before .before .before .before .before .before .rescue .kept .1 .1 .1 .1 .1 .1 .0)
+    (λ c. c .before .before .before .before .before .before .before .before .before .before .before .before .before .before .before .before .rescue .kept .1 .1 .1 .1 .1 .1 .1 .0)
+    (λ c. c .before .before .before .before .before .before .before .before .before .before .before .before .before .before .before .before .rescue .kept .1 .1 .1 .1 .1 .1 .1 .1 .0)
+    (λ c. c .before .before .before .before .before .before .before .before .before .before .before .before .before .before .before .before .rescue .kept .1 .1 .1 .1 .1 .1 .1 .1 .1 .0)
     returns-2)

@@ -17,7 +17,8 @@ use Rattle.picture.specs.TurnLaws.{Ends}
 use Rattle.macroblock.specs.Counts.{AtMost}
 use Rattle.picture.specs.Counts.{readsAt}
 use Rattle.picture.specs.CountsLaws.{reads-in}
-use Rattle.picture.specs.PictureLaws.{Shared, ready-at, ends-at, laid-in, room-in, turn-at}
+use Rattle.picture.specs.Live.{Shared}
+use Rattle.picture.specs.PictureLaws.{ready-at, ends-at, laid-in, room-in, turn-at}
 use Rattle.picture.proofs.Answers.{not-done}
 use Rattle.picture.proofs.Turns.{Total, totalOf, AtRow, InRow, Going, KeptAll, live-from, total-most, both-are, going-start, going-able, going-next, going-refused, going-end, row-from, column-from, less-from, next-row}
 use Rattle.picture.proofs.rows.rows.Statement.{statement}
@@ -26,7 +27,7 @@ use Rattle.picture.proofs.rows.rows.Reads as reads
 use Rattle.picture.proofs.rows.rows.Lts as lts
 use Rattle.modes.proofs.contexts.Context.empty.Reads as empty-reads
 use Rattle.picture.proofs.rows.plus.Reads as plus-reads
-use Rattle.picture.proofs.rows.stopped.Reads as stopped-reads
+use Rattle.choices.proofs.answer.stopped.Reads as stopped-reads
 use Rattle.picture.proofs.turn.turn.Reads as turn-reads
 use Rattle.tile.proofs.partitions.openers.Reads as openers-reads
 use Rattle.tile.proofs.partitions.part.Reads as part-reads

@@ -3,7 +3,8 @@ use Rattle.lent.specs.Memory.{Memory, memoryOf}
 use Rattle.lent.specs.Records.{packed, columnAt}
 use Rattle.macroblock.specs.Counts.{readsOf}
 use Rattle.macroblock.specs.Macroblock.{Planes, Finished, Step, finished, stepOf, toMacroblockCalled}
-use Rattle.picture.specs.Picture.{besideOf, planesIn}
+use Rattle.choices.specs.Beside.{besideOf}
+use Rattle.picture.specs.Picture.{planesIn}
 use Rattle.picture.specs.TurnLaws.{Ends, ends-of, call-is, call-reads, column-is, turn-stopped, turn-done}
 use Rattle.picture.proofs.Answers.{not-done}
 use borrow.Author.Needs.{needs}
@@ -16,7 +17,7 @@ use Rattle.lent.proofs.columns.write_column.Reads as write-column-reads
 use Rattle.lent.proofs.macroblocks.write_mode_record.Reads as write-mode-record-reads
 use Rattle.lent.proofs.macroblocks.write_strength.Reads as write-strength-reads
 use Rattle.whole.proofs.decode.Reads as decode-reads
-use Rattle.picture.proofs.turn.beside.Reads as beside-reads
+use Rattle.choices.proofs.beside.beside.Reads as beside-reads
 
 -- places: the call from behind it, and the function's start
 abbrev called : tie.After-reads → tie.After-decode

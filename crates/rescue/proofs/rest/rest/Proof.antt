@@ -12,9 +12,10 @@ use Rattle.tile.specs.PartitionsLaws.{part-bytes, pick-below}
 use Rattle.tile.specs.Checks.{blocksOf}
 use Rattle.lent.specs.Memory.{Memory, memoryOf}
 use Rattle.lent.specs.Records.{packed}
-use Rattle.picture.specs.Checks.{callOf}
+use Rattle.choices.specs.Checks.{callOf}
 use Rattle.picture.specs.Picture.{Picture, State, picturedOf, columnOf, partitionOf}
-use Rattle.picture.specs.PictureLaws.{Shared, laid-at, room-at}
+use Rattle.picture.specs.Live.{Shared}
+use Rattle.picture.specs.PictureLaws.{laid-at, room-at}
 use Rattle.picture.specs.Turn.{Turned, turnedOf, turned}
 use Rattle.picture.specs.Halt.{stateOf}
 use Rattle.rescue.specs.Rescue.{rebuiltAt, restOf}

@@ -3,7 +3,8 @@ use Rattle.lent.specs.Memory.{Memory, memoryOf}
 use Rattle.lent.specs.Records.{packed, columnAt}
 use Rattle.macroblock.specs.Macroblock.{Planes, Finished, Step, finished, toMacroblockCalled}
 use Rattle.macroblock.specs.Rebuilt.{rebuiltOf}
-use Rattle.picture.specs.Picture.{besideOf, planesIn}
+use Rattle.choices.specs.Beside.{besideOf}
+use Rattle.picture.specs.Picture.{planesIn}
 use Rattle.picture.specs.TurnLaws.{Ends, column-is, turn-stopped, turn-done}
 use Rattle.rescue.specs.RescueLaws.{rebuild-is, ends-rebuilt}
 use Rattle.rescue.proofs.Turns.{not-done}

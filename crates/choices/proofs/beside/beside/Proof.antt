@@ -1,10 +1,10 @@
 use mathlib.Core.Path.{sym, _∙_}
-use Rattle.picture.specs.TurnLaws.{beside-none, beside-left}
+use Rattle.choices.specs.BesideLaws.{beside-none, beside-left}
 use borrow.Author.Needs.{needs}
-use Rattle.picture.proofs.turn.beside.Statement.{statement}
-use Rattle.picture.proofs.turn.beside.Tie as tie
-use Rattle.picture.proofs.turn.beside.Reads as reads
-use Rattle.picture.proofs.turn.beside.Lts as lts
+use Rattle.choices.proofs.beside.beside.Statement.{statement}
+use Rattle.choices.proofs.beside.beside.Tie as tie
+use Rattle.choices.proofs.beside.beside.Reads as reads
+use Rattle.choices.proofs.beside.beside.Lts as lts
 use Rattle.modes.proofs.contexts.Context.empty.Reads as empty-reads
 
 -- src/turn.rt:31:9

@@ -28,7 +28,7 @@ use Rattle.tile.specs.Partitions.{tokenContents, readersOf}
 use Rattle.tile.specs.PartitionsLaws.{readers-valid}
 use Rattle.tile.specs.Checks.{sidesOf, countOf, partitionsOf, Sides, Counted, Cut}
 use Rattle.tile.specs.ChecksLaws.{sides-fact, sides-test, count-fact, count-test, partitions-fact, partitions-test}
-use Rattle.picture.specs.Checks.{Call, callIn, Bounded, Lengths, lengthsOf, failed, checksOf, refusalOf}
+use Rattle.choices.specs.Checks.{Call, callIn, Bounded, Lengths, lengthsOf, failed, checksOf, refusalOf}
 
 -- ---- 3: the facts are crate header's `entries-each`
 not-less : (a b : ℤ) → b ≤ℤ a → ltZ a b ≡ false

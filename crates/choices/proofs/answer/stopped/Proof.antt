@@ -1,9 +1,9 @@
 use borrow.Author.Needs.{needs}
-use Rattle.picture.proofs.Answers.{ends-modes, ends-tokens}
-use Rattle.picture.proofs.rows.stopped.Statement.{statement}
-use Rattle.picture.proofs.rows.stopped.Tie as tie
-use Rattle.picture.proofs.rows.stopped.Reads as reads
-use Rattle.picture.proofs.rows.stopped.Lts as lts
+use Rattle.choices.proofs.Answers.{ends-modes, ends-tokens}
+use Rattle.choices.proofs.answer.stopped.Statement.{statement}
+use Rattle.choices.proofs.answer.stopped.Tie as tie
+use Rattle.choices.proofs.answer.stopped.Reads as reads
+use Rattle.choices.proofs.answer.stopped.Lts as lts
 
 -- src/rows.rt:58:31
 enum-told : tie.Need-enum-told

@@ -1,11 +1,11 @@
 use borrow.Author.Needs.{needs}
 use mathlib.Core.Path.{sym, _∙_}
 use borrow.Author.Tests.{not-true, not-false}
-use Rattle.picture.specs.ChecksLaws.{stop-side, stop-count, stop-entries, stop-lengths, stop-partitions, stop-none, lengths-sizes, lengths-header, lengths-both}
-use Rattle.picture.proofs.checks.refusal.Statement.{statement}
-use Rattle.picture.proofs.checks.refusal.Tie as tie
-use Rattle.picture.proofs.checks.refusal.Reads as reads
-use Rattle.picture.proofs.checks.refusal.Lts as lts
+use Rattle.choices.specs.ChecksLaws.{stop-side, stop-count, stop-entries, stop-lengths, stop-partitions, stop-none, lengths-sizes, lengths-header, lengths-both}
+use Rattle.choices.proofs.checks.refusal.Statement.{statement}
+use Rattle.choices.proofs.checks.refusal.Tie as tie
+use Rattle.choices.proofs.checks.refusal.Reads as reads
+use Rattle.choices.proofs.checks.refusal.Lts as lts
 use Rattle.lent.proofs.sizes.sizes_fine.Reads as sizes-fine-reads
 use Rattle.header.proofs.entries.entries_fine.Reads as entries-fine-reads
 use Rattle.tile.proofs.checks.count_fine.Reads as count-fine-reads
