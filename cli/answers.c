@@ -1,7 +1,6 @@
 #include "answers.h"
 #include <errno.h>
 #include <string.h>
-#include <unistd.h>
 
 static const char *const words[ANSWERS] = {
     [HOOKBARLEY_WHOLE] = "every macroblock is finished",
@@ -60,12 +59,14 @@ static void print_rest(FILE *out, const struct picture *p) {
         fprintf(out, "; the rest is %s", soft ? "soft" : "grey");
 }
 
+static FILE *said_of(const struct tally *tally) { return tally->said ? tally->said : stderr; }
+
 int take_answer(struct tally *tally, const char *path, const struct file *file, uint32_t number, const struct picture *p) {
     if (number < ANSWERS) tally->by[number]++;
     if (has_picture(number)) tally->pictures++;
     if (!number) return STATUS_WHOLE;
-    FILE *out = tally->said ? tally->said : stderr;
-    fprintf(out, "%s%s: ", out == stderr && isatty(STDERR_FILENO) ? "\033[K" : "", path);
+    FILE *out = said_of(tally);
+    fprintf(out, "%s: ", path);
     if (p && file->kind == KIND_IVF) fprintf(out, "frame %zu: ", file->frames - 1);
     fprintf(out, "%s: ", outcome_of(number, tally->rescue));
     print_answer(out, number, p);
@@ -79,22 +80,51 @@ int take_end(struct tally *tally, const char *path, const struct file *file, uin
     return take_answer(tally, path, file, number ? number : ANSWER_IVF, NULL);
 }
 
+void take_unread(struct tally *tally, const char *path) {
+    fprintf(said_of(tally), "hookbarley: %s: %s\n", path, strerror(errno));
+    tally->unread++;
+}
+
+void take_unwritten(struct tally *tally, const char *path) {
+    fprintf(said_of(tally), "hookbarley: %s: %s\n", path, strerror(errno));
+    tally->unwritten++;
+}
+
+void tally_add(struct tally *sum, const struct tally *part) {
+    sum->files += part->files, sum->pictures += part->pictures;
+    sum->unread += part->unread, sum->unwritten += part->unwritten, sum->lost += part->lost;
+    for (int n = 0; n < ANSWERS; n++) sum->by[n] += part->by[n];
+}
+
+int tally_status(const struct tally *tally) {
+    if (tally->unread || tally->unwritten || tally->lost) return STATUS_USAGE;
+    for (int n = 1; n < ANSWERS; n++)
+        if (tally->by[n]) return STATUS_REFUSED;
+    return STATUS_WHOLE;
+}
+
+size_t tally_refused(const struct tally *tally) {
+    size_t refused = 0;
+    for (uint32_t n = 0; n < ANSWERS; n++)
+        if (!has_picture(n)) refused += tally->by[n];
+    return refused;
+}
+
+static void print_count(size_t count, const char *words) {
+    if (count) printf("%8zu  %s\n", count, words);
+}
+
 void print_tally(const struct tally *tally) {
-    printf("%zu files, %zu pictures\n", tally->files, tally->pictures);
+    printf("%zu file%s, %zu picture%s\n", tally->files, tally->files == 1 ? "" : "s", tally->pictures, tally->pictures == 1 ? "" : "s");
     for (uint32_t n = 0; n < ANSWERS; n++) {
         if (!tally->by[n]) continue;
         printf("%8zu  %s: ", tally->by[n], outcome_of(n, tally->rescue));
         print_answer(stdout, n, NULL);
         printf("\n");
     }
-}
-
-void progress(int which, int count, const char *path) {
-    if (!isatty(STDERR_FILENO)) return;
-    if (which < count)
-        fprintf(stderr, "\033[K%d of %d: %.60s\r", which + 1, count, path);
-    else
-        fprintf(stderr, "\033[K");
+    print_count(tally->unread, "could not be read");
+    print_count(tally->unwritten, "could not be written");
+    print_count(tally->lost, "lost: their process ended");
 }
 
 int usage(const char *why, const char *what) {

@@ -20,6 +20,8 @@ struct tally {
     int rescue; /* the pictures go through picture_rescue */
     FILE *said; /* where answers that are not 0 are said; NULL: standard error */
     size_t files, pictures, by[ANSWERS];
+    size_t unread, unwritten; /* files that could not be */
+    size_t lost;              /* files whose process ended before it was through */
 };
 
 /* What an answer says. */
@@ -37,10 +39,19 @@ int take_answer(struct tally *tally, const char *path, const struct file *file, 
 /* The same for the end of a file's frames: what file_next gave, or that there was none. */
 int take_end(struct tally *tally, const char *path, const struct file *file, uint32_t number);
 
-void print_tally(const struct tally *tally);
+/* Counts a file that could not be read, or not be written, and says why: errno. */
+void take_unread(struct tally *tally, const char *path);
+void take_unwritten(struct tally *tally, const char *path);
 
-/* On a terminal, a line that the next one overwrites: which of how many, from 0; none left clears it. */
-void progress(int which, int count, const char *path);
+void tally_add(struct tally *sum, const struct tally *part);
+
+/* The exit status that all of it asks for. */
+int tally_status(const struct tally *tally);
+
+/* The files and frames without a picture. */
+size_t tally_refused(const struct tally *tally);
+
+void print_tally(const struct tally *tally);
 
 /* Says on standard error what is wrong and returns STATUS_USAGE. */
 int usage(const char *why, const char *what);

@@ -11,9 +11,9 @@ struct options {
     enum form to;     /* FORM_NONE where not given */
     enum tint tint;   /* TINT_NONE where not given */
     int rescue;       /* go on from the modes where tokens run out */
-    int json;         /* survey: the record for machines */
+    int json;         /* info, fits, survey: for machines */
     int add;          /* survey: the names are records */
-    int jobs;         /* survey: so many processes */
+    int jobs;         /* decode, survey: so many processes */
     const char *html; /* survey: where the page goes; NULL where not given */
     char **names;     /* the arguments that are not options */
     int count;

@@ -3,6 +3,7 @@
 #include "commands.h"
 #include "explain_command.h"
 #include "explain_words.h"
+#include "save.h"
 #include <stdlib.h>
 #include <string.h>
 
@@ -27,12 +28,12 @@ int explain_complain(int answer, const char *of) {
 
 /* The picture in colours, as .ppm or .svg. */
 static int paint(const struct explain_tile *tile, const char *path, int svg) {
-    FILE *out = fopen(path, "wb");
-    if (!out) return cannot_write(path);
-    int answer = svg ? explain_svg(out, tile) : explain_ppm(out, tile);
-    if (fclose(out) && !answer) return cannot_write(path);
+    struct save to;
+    if (!save_open(&to, path)) return cannot_write(path);
+    int answer = svg ? explain_svg(to.out, tile) : explain_ppm(to.out, tile);
+    if (!save_close(&to, !answer) && !answer) return cannot_write(path);
     if (answer) return explain_complain(answer, path);
-    printf("%s: %zu x %zu, coloured by the rule that last moved each sample\n", path, tile->true_width, tile->true_height);
+    fprintf(save_lines(path), "%s: %zu x %zu, coloured by the rule that last moved each sample\n", path, tile->true_width, tile->true_height);
     return STATUS_WHOLE;
 }
 
@@ -48,7 +49,7 @@ static int tell(const struct options *o, const struct picture *p) {
     const char *dot = strrchr(o->names[1], '.');
     int svg = dot && !strcmp(dot, ".svg");
     size_t x = 0, y = 0;
-    if (o->count == 2 && !svg && (!dot || strcmp(dot, ".ppm"))) return usage("OUT ends in .ppm or .svg: ", o->names[1]);
+    if (o->count == 2 && !svg && !is_standard(o->names[1]) && (!dot || strcmp(dot, ".ppm"))) return usage("OUT ends in .ppm or .svg: ", o->names[1]);
     if (o->count == 3 && (!number_of(o->names[1], &x) || !number_of(o->names[2], &y)))
         return usage("X and Y are a pixel's column and row, from 0", "");
     if (!p->level) {

@@ -1,6 +1,7 @@
 #include "file.h"
 #include "answers.h"
 #include "hookbarley.h"
+#include "save.h"
 #include <errno.h>
 #include <stdio.h>
 #include <stdlib.h>
@@ -8,8 +9,10 @@
 
 enum { IVF_HEAD = 32, IVF_FRAME_HEAD = 12 };
 
-void *memory(size_t length) {
-    void *p = malloc(length ? length : 1);
+void *memory(size_t length) { return more_memory(NULL, length); }
+
+void *more_memory(void *from, size_t length) {
+    void *p = realloc(from, length ? length : 1);
     if (!p) {
         fprintf(stderr, "hookbarley: no memory for %zu bytes\n", length);
         exit(2);
@@ -39,13 +42,7 @@ static uint8_t *read_all(FILE *in, size_t *length) {
     uint8_t *bytes = memory(room);
     while ((got = fread(bytes + n, 1, room - n, in)) > 0) {
         n += got;
-        if (n == room) {
-            uint8_t *more = memory(2 * room);
-            memcpy(more, bytes, n);
-            free(bytes);
-            bytes = more;
-            room *= 2;
-        }
+        if (n == room) bytes = more_memory(bytes, room *= 2);
     }
     if (ferror(in)) {
         free(bytes);
@@ -56,10 +53,10 @@ static uint8_t *read_all(FILE *in, size_t *length) {
 }
 
 int file_read(const char *path, struct file *file) {
-    FILE *in = fopen(path, "rb");
+    FILE *in = is_standard(path) ? stdin : fopen(path, "rb");
     file->bytes = in ? read_all(in, &file->length) : NULL;
     int why = errno;
-    if (in) fclose(in);
+    if (in && in != stdin) fclose(in);
     errno = why;
     if (!file->bytes) return 0;
     file->kind = kind_of(file->bytes, file->length);

@@ -24,7 +24,7 @@ struct frame {
     size_t length;
 };
 
-/* Reads a file, or returns 0 with the reason in errno. */
+/* Reads a file, "-" for standard input, or returns 0 with the reason in errno. */
 int file_read(const char *path, struct file *file);
 
 /* The same, which says the reason on standard error. */
@@ -41,5 +41,8 @@ const char *kind_name(enum kind kind);
 
 /* Memory, or the end of the program with status 2. */
 void *memory(size_t length);
+
+/* The same memory made longer. */
+void *more_memory(void *from, size_t length);
 
 #endif

@@ -1,7 +1,6 @@
 #include "html.h"
 
-/* How many bytes the UTF-8 character at p has, 0 where there is none that HTML may hold. */
-static int character(const unsigned char *p) {
+int html_character(const unsigned char *p) {
     int more = *p < 0x80 ? 0 : *p >= 0xC2 && *p < 0xE0 ? 1 : *p >= 0xE0 && *p < 0xF0 ? 2 : *p >= 0xF0 && *p < 0xF5 ? 3 : -1;
     if (more < 0 || *p < 0x20 || *p == 0x7F) return 0;
     for (int i = 1; i <= more; i++)
@@ -14,7 +13,7 @@ static int character(const unsigned char *p) {
 
 void html_text(FILE *out, const char *text) {
     for (const unsigned char *p = (const unsigned char *)text; *p;) {
-        int length = character(p);
+        int length = html_character(p);
         if (!length) fputs("\xEF\xBF\xBD", out), p++;
         else if (*p == '&') fputs("&amp;", out), p++;
         else if (*p == '<') fputs("&lt;", out), p++;

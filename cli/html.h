@@ -6,6 +6,9 @@
 #include <stdint.h>
 #include <stdio.h>
 
+/* How many bytes the UTF-8 character at p has, 0 where there is none that HTML may hold. */
+int html_character(const unsigned char *p);
+
 /* Text, escaped. It may hold any bytes, as a file's name does. */
 void html_text(FILE *out, const char *text);
 

@@ -1,6 +1,10 @@
 /* hookbarley info: what a frame's header says, and what decoding it gave. */
 #include "answers.h"
 #include "commands.h"
+#include "info_json.h"
+#include "json_file.h"
+#include "walk.h"
+#include <errno.h>
 #include <inttypes.h>
 
 static void print_numbers(const char *name, const int32_t *numbers, int count) {
@@ -74,39 +78,68 @@ static void print_frame(struct frame frame, const struct picture *p, const uint6
     print_modes(record);
 }
 
-static int info_file(const char *path, struct tally *tally) {
-    struct file file;
-    struct frame frame;
+/* The pictures told of so far. */
+struct told {
+    struct tally tally;
+    struct json *json; /* NULL: in words */
+};
+
+static void info_frame(struct told *told, const char *path, const struct file *file, struct frame frame) {
     struct picture picture;
     uint64_t record[HOOKBARLEY_SURVEY_COUNTS];
+    picture_survey(&picture, frame, record);
+    if (told->json) info_json(told->json, frame, &picture, record);
+    else print_frame(frame, &picture, record);
+    fflush(stdout);
+    take_answer(&told->tally, path, file, picture.number, &picture);
+    picture_free(&picture);
+}
+
+static void print_end(uint32_t number) {
+    printf("  answer      ");
+    print_answer(stdout, number, NULL);
+    printf("\n");
+    fflush(stdout);
+}
+
+static void info_file(void *with, const char *path, const char *name) {
+    struct told *told = with;
+    struct file file;
+    struct frame frame;
     uint32_t number;
-    int status = STATUS_WHOLE;
-    tally->files++;
-    if (!file_open(path, &file)) return STATUS_USAGE;
-    printf("%s: %s, %zu bytes\n", path, kind_name(file.kind), file.length);
-    while (file_next(&file, &frame, &number)) {
-        picture_survey(&picture, frame, record);
-        print_frame(frame, &picture, record);
-        fflush(stdout);
-        status = worse(status, take_answer(tally, path, &file, picture.number, &picture));
-        picture_free(&picture);
-    }
-    if (number) {
-        printf("  answer      ");
-        print_answer(stdout, number, NULL);
-        printf("\n");
-        fflush(stdout);
-    }
-    status = worse(status, take_end(tally, path, &file, number));
+    (void)name;
+    told->tally.files++;
+    if (!json_file(told->json, &told->tally, path, &file)) return;
+    if (!told->json) printf("%s: %s, %zu bytes\n", path, kind_name(file.kind), file.length);
+    while (file_next(&file, &frame, &number)) info_frame(told, path, &file, frame);
+    if (number && !told->json) print_end(number);
+    json_file_end(told->json, &file, number);
+    take_end(&told->tally, path, &file, number);
     file_close(&file);
-    return status;
+}
+
+static void folder_unread(void *with, const char *path, int why) {
+    errno = why;
+    json_unread(((struct told *)with)->json, &((struct told *)with)->tally, path);
+}
+
+static void json_totals(struct json *j, const struct tally *tally) {
+    json_end(j, ']');
+    json_number(j, "whole", (intmax_t)tally->by[HOOKBARLEY_WHOLE]);
+    json_number(j, "cut", (intmax_t)(tally->by[HOOKBARLEY_NO_MODES] + tally->by[HOOKBARLEY_NO_TOKENS]));
+    json_number(j, "refused", (intmax_t)tally_refused(tally));
+    json_number(j, "unread", (intmax_t)tally->unread);
+    json_end(j, '}');
 }
 
 int info(const struct options *o) {
-    struct tally tally = {0};
-    int status = STATUS_WHOLE;
+    struct json json = {.out = stdout};
+    struct told told = {.json = o->json ? &json : NULL};
+    const struct walk files = {info_file, folder_unread, &told};
     if (o->count < 1) return usage("info takes an IN", "");
-    for (int i = 0; i < o->count; i++) status = worse(status, info_file(o->names[i], &tally));
-    if (o->count > 1) print_tally(&tally);
-    return status;
+    if (o->json) json_begin(&json, NULL, '{'), json_begin(&json, "files", '[');
+    walk(&files, o->names, o->count);
+    if (o->json) json_totals(&json, &told.tally);
+    else if (o->count > 1 || told.tally.files > 1) print_tally(&told.tally);
+    return tally_status(&told.tally);
 }

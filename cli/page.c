@@ -118,24 +118,31 @@ static void lines(FILE *out, const struct page_lines *said) {
 struct made_of {
     const struct survey *survey;
     const struct page_lines *said;
+    const char *stopped;
 };
 
 static void page(FILE *out, const void *of) {
-    const struct survey *s = ((const struct made_of *)of)->survey;
+    const struct made_of *made = of;
+    const struct survey *s = made->survey;
     fputs("<!DOCTYPE html>\n<html lang=\"en\">\n<head>\n<meta charset=\"utf-8\"/>\n"
           "<meta name=\"viewport\" content=\"width=device-width, initial-scale=1\"/>\n<title>Survey: ", out);
     survey_headline(out, s);
     fprintf(out, "</title>\n<style>\n%s</style>\n</head>\n<body>\n<main>\n<h1>Survey of VP8 key frames</h1>\n<p>", style);
     survey_headline(out, s);
+    if (*made->stopped) {
+        fputs("</p>\n<p><strong>Not of all files: ", out);
+        html_text(out, made->stopped);
+        fputs("</strong>", out);
+    }
     fputs("</p>\n<div class=\"tables\">\n", out);
     for (int i = 0; i < SURVEY_TABLES; i++) table(out, s, &survey_tables[i]);
     apart(out, s);
     fputs("</div>\n", out);
-    lines(out, ((const struct made_of *)of)->said);
+    lines(out, made->said);
     fputs("<p>Made by hookbarley " HOOKBARLEY_VERSION ".</p>\n</main>\n</body>\n</html>\n", out);
 }
 
-int page_save(const char *path, const struct survey *survey, const struct page_lines *said) {
-    struct made_of of = {survey, said};
+int page_save(const char *path, const struct survey *survey, const struct page_lines *said, const char *stopped) {
+    struct made_of of = {survey, said, stopped};
     return save(path, page, &of);
 }

@@ -15,7 +15,7 @@ struct page_lines {
 void page_keep(struct page_lines *said, const char *text);
 void page_free(struct page_lines *said);
 
-/* Writes it, as save() does. */
-int page_save(const char *path, const struct survey *survey, const struct page_lines *said);
+/* Writes it, as save() does. `stopped` says why the survey is not of all files, or is empty. */
+int page_save(const char *path, const struct survey *survey, const struct page_lines *said, const char *stopped);
 
 #endif

@@ -22,13 +22,13 @@ static int write_page(const struct options *o, const struct picture *p) {
     int status = answer ? explain_complain(answer, in) : save(out, pixel_page_write, &page);
     pixel_page_free(&page);
     if (status == STATUS_WHOLE)
-        printf("%s: %zu x %zu, %s\n", out, p->tile.true_width, p->tile.true_height, outcome_of(p->number, p->marks != NULL));
+        fprintf(save_lines(out), "%s: %zu x %zu, %s\n", out, p->tile.true_width, p->tile.true_height, outcome_of(p->number, p->marks != NULL));
     return status;
 }
 
 int pixel_page(const struct options *o) {
     if (o->count != 2) return usage("page takes an IN and an OUT.html", "");
     const char *dot = strrchr(o->names[1], '.');
-    if (!dot || strcmp(dot, ".html")) return usage("OUT ends in .html: ", o->names[1]);
+    if (!is_standard(o->names[1]) && (!dot || strcmp(dot, ".html"))) return usage("OUT ends in .html: ", o->names[1]);
     return explain_first(o, write_page);
 }

@@ -1,14 +1,18 @@
-/* A file is written beside its place and then moved there; what is no plain file (a pipe) is written as it is. */
+/* A file is written beside its place and then moved there. */
 #define _XOPEN_SOURCE 700 /* realpath */
 #include "save.h"
 #include "answers.h"
+#include "stop.h"
 #include <errno.h>
 #include <fcntl.h>
-#include <signal.h>
 #include <stdlib.h>
 #include <string.h>
 #include <sys/stat.h>
 #include <unistd.h>
+
+int is_standard(const char *path) { return !strcmp(path, "-"); }
+
+FILE *save_lines(const char *path) { return is_standard(path) ? stderr : stdout; }
 
 static int is_plain(const char *path) {
     struct stat s;
@@ -28,51 +32,51 @@ static char *beside(const char *path) {
     return name;
 }
 
-/* Ctrl-C and the like wait until the file is in its place. */
-static void hold_signals(sigset_t *before) {
-    sigset_t held;
-    sigemptyset(&held);
-    sigaddset(&held, SIGINT), sigaddset(&held, SIGTERM), sigaddset(&held, SIGHUP), sigaddset(&held, SIGQUIT);
-    sigprocmask(SIG_BLOCK, &held, before);
+static void forget(struct save *s) {
+    stop_removes(NULL);
+    free(s->name);
+    free(s->target);
 }
 
-/* Makes the file that will be moved; NULL where that is not possible. */
-static FILE *make(const char *name, int plain) {
-    int to = open(name, plain ? O_WRONLY | O_CREAT | O_EXCL : O_WRONLY, 0666);
-    return to < 0 ? NULL : fdopen(to, "wb");
+int save_open(struct save *s, const char *path) {
+    *s = (struct save){.out = stdout, .path = path};
+    if (is_standard(path)) return 1;
+    s->target = target_of(path);
+    if (is_plain(path)) s->name = beside(s->target);
+    stop_removes(s->name);
+    int to = open(s->name ? s->name : path, s->name ? O_WRONLY | O_CREAT | O_EXCL : O_WRONLY, 0666);
+    s->out = to < 0 ? NULL : fdopen(to, "wb");
+    if (s->out) return 1;
+    int why = errno;
+    if (to >= 0) close(to);
+    if (to >= 0 && s->name) remove(s->name);
+    forget(s);
+    errno = why;
+    return 0;
+}
+
+int save_close(struct save *s, int good) {
+    int why = errno;
+    if (good && (fflush(s->out) || ferror(s->out))) good = 0, why = errno;
+    if (s->out != stdout && fclose(s->out) && good) good = 0, why = errno;
+    if (good && s->name && rename(s->name, s->target)) good = 0, why = errno;
+    if (!good && s->name) remove(s->name);
+    forget(s);
+    errno = why;
+    return good;
 }
 
 int save_check(const char *path) {
-    if (!is_plain(path)) return access(path, W_OK) ? cannot_write(path) : STATUS_WHOLE;
-    char *target = target_of(path), *name = beside(target);
-    sigset_t before;
-    hold_signals(&before);
-    FILE *out = make(name, 1);
-    int why = errno;
-    if (out) fclose(out), remove(name);
-    sigprocmask(SIG_SETMASK, &before, NULL);
-    free(name);
-    free(target);
-    errno = why;
-    return out ? STATUS_WHOLE : cannot_write(path);
+    struct save s;
+    if (!is_standard(path) && !is_plain(path)) return access(path, W_OK) ? cannot_write(path) : STATUS_WHOLE;
+    if (!save_open(&s, path)) return cannot_write(path);
+    save_close(&s, 0);
+    return STATUS_WHOLE;
 }
 
 int save(const char *path, save_writer *write, const void *of) {
-    int plain = is_plain(path), why;
-    char *target = target_of(path), *name = plain ? beside(target) : target;
-    sigset_t before;
-    hold_signals(&before);
-    FILE *out = make(name, plain);
-    int good = out != NULL;
-    if (out) write(out, of);
-    if (out && (fflush(out) || ferror(out))) good = 0;
-    why = errno;
-    if (out && fclose(out) && good) good = 0, why = errno;
-    if (good && plain && rename(name, target)) good = 0, why = errno;
-    if (!good && out && plain) remove(name);
-    sigprocmask(SIG_SETMASK, &before, NULL);
-    if (plain) free(name);
-    free(target);
-    errno = why;
-    return good ? STATUS_WHOLE : cannot_write(path);
+    struct save s;
+    if (!save_open(&s, path)) return cannot_write(path);
+    write(s.out, of);
+    return save_close(&s, 1) ? STATUS_WHOLE : cannot_write(path);
 }

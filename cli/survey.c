@@ -1,5 +1,6 @@
 /* One file surveyed, surveys joined, and the table to read. */
 #include "survey.h"
+#include "stop.h"
 #include <errno.h>
 #include <inttypes.h>
 #include <string.h>
@@ -37,7 +38,7 @@ static void count_apart(struct survey *survey, const struct tally *tally) {
     for (uint32_t n = 8; n < ANSWERS; n++) survey->apart[n] += tally->by[n];
 }
 
-void survey_file(const char *path, struct survey *survey, FILE *said) {
+int survey_file(const char *path, struct survey *survey, FILE *said) {
     struct file file;
     struct frame frame;
     struct picture picture;
@@ -47,11 +48,16 @@ void survey_file(const char *path, struct survey *survey, FILE *said) {
     memset(survey, 0, sizeof *survey);
     survey->files = 1;
     if (!file_read(path, &file)) {
-        fprintf(said, "hookbarley: %s: %s\n", path, strerror(errno));
+        int stopped = errno == EINTR && stop_asked();
+        take_unread(&tally, path);
         survey->unread = 1;
-        return;
+        return !stopped;
     }
     while (file_next(&file, &frame, &number)) {
+        if (stop_asked()) {
+            file_close(&file);
+            return 0;
+        }
         picture_survey(&picture, frame, record);
         number = hookbarley_survey_add(survey->record, HOOKBARLEY_SURVEY_COUNTS, record, HOOKBARLEY_SURVEY_COUNTS);
         if (number) picture.number = number;
@@ -61,6 +67,7 @@ void survey_file(const char *path, struct survey *survey, FILE *said) {
     take_end(&tally, path, &file, number);
     count_apart(survey, &tally);
     file_close(&file);
+    return 1;
 }
 
 /* The same limit for what the record does not hold. */

@@ -44,8 +44,8 @@ struct survey_answer {
 enum { SURVEY_APART = 8 };
 extern const struct survey_answer survey_apart[SURVEY_APART];
 
-/* Surveys one file. What is to be said of it goes to `said`. */
-void survey_file(const char *path, struct survey *survey, FILE *said);
+/* Surveys one file. What is to be said of it goes to `said`. Returns 0 where it was stopped on the way. */
+int survey_file(const char *path, struct survey *survey, FILE *said);
 
 /* Adds a part: 0, or 15 where a count would pass 2^63-1; then the survey is as it was. */
 uint32_t survey_join(struct survey *survey, const struct survey *part);

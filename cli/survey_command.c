@@ -1,17 +1,16 @@
 /* hookbarley survey: files and folders counted into one table, or records joined. */
 #include "commands.h"
 #include "page.h"
+#include "progress.h"
 #include "record.h"
 #include "save.h"
+#include "stop.h"
 #include "survey.h"
 #include "walk.h"
 #include "workers.h"
-#include <errno.h>
 #include <inttypes.h>
 #include <stdlib.h>
 #include <string.h>
-#include <time.h>
-#include <unistd.h>
 
 enum { LINE = 5000 };
 
@@ -19,69 +18,49 @@ enum { LINE = 5000 };
 struct delivery {
     struct survey survey;
     struct page_lines said;
-    struct workers *workers; /* NULL: all in this process */
-    uint64_t files;          /* there are so many; 0: there is no bar to draw */
-    double started, drawn;   /* seconds */
+    struct workers *workers;
+    struct progress progress;
+    char *last;         /* the file that was told of last, or NULL */
+    char stopped[LINE]; /* what is said where a signal stopped it; else empty */
 };
-
-static double now(void) {
-    struct timespec t;
-    clock_gettime(CLOCK_MONOTONIC, &t);
-    return (double)t.tv_sec + (double)t.tv_nsec / 1e9;
-}
-
-/* ---- the progress bar: on a terminal, ten times a second at most */
-enum { BAR = 30 };
-
-static void draw(struct delivery *d) {
-    double time = now();
-    uint64_t done = d->survey.files, all = d->files > done ? d->files : done;
-    if (!d->files || (time - d->drawn < 0.1 && done < d->files)) return;
-    int full = (int)((double)BAR * (double)done / (double)all);
-    double seconds = time - d->started, rate = seconds > 0 ? (double)done / seconds : 0;
-    fputs("\033[K[", stderr);
-    for (int i = 0; i < BAR; i++) fputc(i < full ? '#' : '.', stderr);
-    fprintf(stderr, "] %" PRIu64 " of %" PRIu64 ", %.0f a second", done, all, rate);
-    if (rate > 0) fprintf(stderr, ", %.0f s left", (double)(all - done) / rate);
-    fputc('\r', stderr);
-    fflush(stderr);
-    d->drawn = time;
-}
 
 /* ---- files */
 static void say(struct delivery *d, const char *text) {
-    if (!*text) return;
-    fprintf(stderr, "%s%s", d->files ? "\033[K" : "", text);
+    progress_say(&d->progress, text);
     page_keep(&d->said, text);
 }
 
-static void take_part(void *with, const char *path, const struct survey *part, const char *said) {
-    struct delivery *d = with;
+static void take_part(struct delivery *d, const char *path, const struct survey *part, const char *said) {
     say(d, said);
-    if (survey_join(&d->survey, part)) {
-        char text[LINE];
-        snprintf(text, sizeof text, "%s: refused: 15, %s\n", path, words_of(HOOKBARLEY_FULL));
-        say(d, text);
-        d->survey.files++, d->survey.apart[HOOKBARLEY_FULL]++;
-    }
-    draw(d);
+    if (!survey_join(&d->survey, part)) return;
+    char text[LINE];
+    snprintf(text, sizeof text, "%s: refused: 15, %s\n", path, words_of(HOOKBARLEY_FULL));
+    say(d, text);
+    d->survey.files++, d->survey.apart[HOOKBARLEY_FULL]++;
 }
 
-static void take_file(void *with, const char *path) {
+static int run(const void *with, size_t which, const char *path, void *result, FILE *said) {
+    (void)with, (void)which;
+    return survey_file(path, result, said);
+}
+
+static void lost(void *result) {
+    struct survey *part = result;
+    part->files = part->lost = 1;
+}
+
+static void told(void *with, size_t which, const char *path, const void *result, const char *said) {
     struct delivery *d = with;
-    struct survey part;
-    char *text = NULL;
-    size_t length = 0;
-    if (d->workers) {
-        workers_give(d->workers, path);
-        return;
-    }
-    FILE *said = open_memstream(&text, &length);
-    if (!said) exit(cannot_write("memory"));
-    survey_file(path, &part, said);
-    if (fclose(said)) exit(cannot_write("memory"));
-    take_part(d, path, &part, text);
-    free(text);
+    if (which != d->progress.done) return; /* it was stopped, and one before this file is not done */
+    take_part(d, path, result, said);
+    d->last = strcpy(more_memory(d->last, strlen(path) + 1), path);
+    progress_step(&d->progress);
+}
+
+static void take_file(void *with, const char *path, const char *name) {
+    struct delivery *d = with;
+    (void)name;
+    workers_give(d->workers, path);
 }
 
 static void folder_unread(void *with, const char *path, int why) {
@@ -89,18 +68,28 @@ static void folder_unread(void *with, const char *path, int why) {
     struct survey part = {.unread = 1};
     char text[LINE];
     snprintf(text, sizeof text, "hookbarley: %s: %s\n", path, strerror(why));
-    if (d->workers) workers_settle(d->workers); /* what comes before it is said before it */
+    workers_settle(d->workers); /* what comes before it is said before it */
     take_part(d, path, &part, text);
+}
+
+/* What is done stands: the survey of all files up to the last that was told of. */
+static void say_stopped(struct delivery *d) {
+    if (!stop_asked()) return;
+    snprintf(d->stopped, sizeof d->stopped, "stopped by signal %d after %" PRIu64 " file%s%s%s", stop_asked(), d->survey.files,
+             d->survey.files == 1 ? "" : "s", d->last ? ", the last " : "", d->last ? d->last : "");
+    fprintf(stderr, "hookbarley: %s\n", d->stopped);
 }
 
 static void survey_names(struct delivery *d, const struct options *o) {
     const struct walk files = {take_file, folder_unread, d};
-    if (isatty(STDERR_FILENO)) d->files = walk_count(o->names, o->count);
-    if (o->jobs > 1) d->workers = workers_start(o->jobs, take_part, d);
-    d->started = now();
+    const struct task task = {sizeof(struct survey), run, lost, told, d};
+    stop_patiently();
+    progress_start(&d->progress, progress_shows() ? walk_count(o->names, o->count) : 0);
+    d->workers = workers_start(o->jobs, &task);
     walk(&files, o->names, o->count);
-    if (d->workers) workers_end(d->workers);
-    if (d->files) fputs("\033[K", stderr);
+    workers_end(d->workers);
+    progress_end(&d->progress);
+    say_stopped(d);
 }
 
 /* ---- records */
@@ -136,13 +125,14 @@ static int add_files(struct delivery *d, const struct options *o) {
 static int tell(const struct delivery *d, const struct options *o) {
     int status = survey_status(&d->survey);
     (o->json ? record_write : survey_print)(stdout, &d->survey);
-    if (fflush(stdout) || ferror(stdout)) status = cannot_write("standard output");
-    if (o->html) status = worse(status, page_save(o->html, &d->survey, &d->said));
+    fflush(stdout); /* before what is said of the page */
+    if (o->html) status = worse(status, page_save(o->html, &d->survey, &d->said, d->stopped));
     return status;
 }
 
 int survey(const struct options *o) {
     if (o->count < 1) return usage(o->add ? "survey --add takes records" : "survey takes files and folders", "");
+    if (o->html && is_standard(o->html)) return usage("--html takes a file", "");
     if (o->html && save_check(o->html)) return STATUS_USAGE;
     struct delivery *d = memory(sizeof *d);
     memset(d, 0, sizeof *d);
@@ -151,6 +141,7 @@ int survey(const struct options *o) {
     else survey_names(d, o);
     if (!status) status = tell(d, o);
     page_free(&d->said);
+    free(d->last);
     free(d);
     return status;
 }

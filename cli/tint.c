@@ -76,11 +76,11 @@ int tint_write(FILE *out, enum tint tint, const struct picture *p) {
     return good;
 }
 
-void tint_print(enum tint tint, const struct picture *p) {
+void tint_print(FILE *out, enum tint tint, const struct picture *p) {
     const struct tint_kind *kind = &kinds[tint];
     size_t counts[COLOURS] = {0};
     for (size_t block = 0; block < p->kept; block++) counts[value_of(kind, p, block)]++;
-    for (size_t k = 0; k < kind->values; k++) printf("%s%s %s %zu", k ? ", " : "  ", kind->words[k], palette[k].words, counts[k]);
-    if (p->kept < p->blocks) printf(", unfinished grey %zu", p->blocks - p->kept);
-    printf("\n");
+    for (size_t k = 0; k < kind->values; k++) fprintf(out, "%s%s %s %zu", k ? ", " : "  ", kind->words[k], palette[k].words, counts[k]);
+    if (p->kept < p->blocks) fprintf(out, ", unfinished grey %zu", p->blocks - p->kept);
+    fprintf(out, "\n");
 }

@@ -23,7 +23,7 @@ size_t tint_value(enum tint tint, const struct picture *picture, size_t block);
  * Returns 0 where it could not be written. */
 int tint_write(FILE *out, enum tint tint, const struct picture *picture);
 
-/* The legend on standard output: each colour, and how many macroblocks have it. */
-void tint_print(enum tint tint, const struct picture *picture);
+/* The legend: each colour, and how many macroblocks have it. */
+void tint_print(FILE *out, enum tint tint, const struct picture *picture);
 
 #endif

@@ -1,6 +1,8 @@
 /* Folders gone through in the order of names, a thousand names at a time. */
 #include "walk.h"
 #include "file.h"
+#include "save.h"
+#include "stop.h"
 #include <dirent.h>
 #include <errno.h>
 #include <stdio.h>
@@ -65,7 +67,8 @@ static int kind_inside(const char *path) {
     return S_ISREG(s.st_mode) ? A_FILE : NOTHING;
 }
 
-static void walk_folder(const struct walk *walk, const char *folder) {
+/* What lies in a folder; its names are told from byte `from` of their paths on. */
+static void walk_folder(const struct walk *walk, const char *folder, size_t from) {
     struct batch *batch = memory(sizeof *batch);
     char *last = NULL;
     do {
@@ -78,25 +81,28 @@ static void walk_folder(const struct walk *walk, const char *folder) {
         for (int i = 0; i < batch->count; i++) {
             char *path = inside(folder, batch->names[i]);
             int kind = kind_inside(path);
-            if (kind == A_FOLDER) walk_folder(walk, path);
-            if (kind == A_FILE) walk->file(walk->with, path);
+            if (kind == A_FOLDER && !stop_asked()) walk_folder(walk, path, from);
+            if (kind == A_FILE && !stop_asked()) walk->file(walk->with, path, path + from);
             free(path);
             free(batch->names[i]);
         }
-    } while (last);
+    } while (last && !stop_asked());
     free(last);
     free(batch);
 }
 
-static int is_folder(const char *path) {
+int is_folder(const char *path) {
     struct stat s;
     return stat(path, &s) == 0 && S_ISDIR(s.st_mode);
 }
 
 void walk(const struct walk *walk, char **names, int count) {
-    for (int i = 0; i < count; i++)
-        if (is_folder(names[i])) walk_folder(walk, names[i]);
-        else walk->file(walk->with, names[i]);
+    for (int i = 0; i < count && !stop_asked(); i++) {
+        const char *slash = strrchr(names[i], '/');
+        size_t length = strlen(names[i]);
+        if (is_folder(names[i])) walk_folder(walk, names[i], length + (length && names[i][length - 1] != '/'));
+        else walk->file(walk->with, names[i], is_standard(names[i]) ? "stdin" : slash ? slash + 1 : names[i]);
+    }
 }
 
 static uint64_t count_folder(const char *folder) {

@@ -1,16 +1,15 @@
 /* hookbarley wrap: the simple lossy WebP file around a key frame. */
 #include "answers.h"
 #include "commands.h"
+#include "save.h"
 #include <stdlib.h>
 
 enum { PAD = 1 };
 
 static int write_file(const char *path, const uint8_t *bytes, size_t length) {
-    FILE *out = fopen(path, "wb");
-    int good = out && fwrite(bytes, 1, length, out) == length;
-    if (out && fclose(out)) good = 0;
-    if (!good) return cannot_write(path);
-    printf("%s: %zu bytes\n", path, length);
+    struct save to;
+    if (!save_open(&to, path) || !save_close(&to, fwrite(bytes, 1, length, to.out) == length)) return cannot_write(path);
+    fprintf(save_lines(path), "%s: %zu bytes\n", path, length);
     return STATUS_WHOLE;
 }
 

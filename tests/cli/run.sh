@@ -165,8 +165,81 @@ grep -q soft $out/said && bad "$what: counts among many files"
 same $out/rescued/cut.yuv $out/rc.yuv && same $out/rescued/disk.yuv $out/rc.yuv && warned 'disk.webp: rescued: 7'
 hb 2 decode $out/cut.vp8 bench/tile-q90.webp $out/absent $out/some && said '3 files, 2 pictures'
 hb 2 decode bench/tile-q90.webp $out/../../bench/tile-q90.webp $out/twice && warned 'would both be written'
+hb 2 decode bench/tile-q90.webp $out/absent/a.webp $out/some && said '2 files, 1 picture' && said '1  could not be read' && warned 'absent/a.webp: No such'
+mkdir -p $out/shut/tile-q90.ppm
+hb 2 decode bench/tile-q90.webp bench/tile-q75.webp $out/shut && said '1  could not be written' && warned 'tile-q90.ppm: '
 hb 0 info bench/tile-q90.webp $kept/eight-partitions.ivf && said '256 x 256, coded as 256 x 256, macroblocks 16 x 16'
 said '24 x 145, coded as 32 x 160' && said '8 of tokens:' && said '2 files, 3 pictures' && said '0, every macroblock is finished (256)'
+
+# A folder as IN: every file in it, each in its place; the same files and words with any number of processes; no bar where no terminal is.
+tree=$out/tree
+mkdir -p $tree/a/b
+cp bench/tile-q90.webp $tree && cp $out/cut.vp8 $tree/a && cp $kept/two-partitions.ivf $out/inter.vp8 $tree/a/b
+hb 1 decode --to yuv $tree $out/tree-1 && mv $out/said $out/tree.txt && mv $out/err $out/tree.err
+[ "$(cd $out/tree-1 && find . -type f | LC_ALL=C sort | tr '\n' ' ')" = './a/b/two-partitions.yuv ./a/cut.yuv ./tile-q90.yuv ' ] || bad "$what: other files"
+same $out/tree-1/tile-q90.yuv $out/a.yuv && same $out/tree-1/a/b/two-partitions.yuv $out/i.yuv
+cp $out/tree.txt $out/said && said '4 files, 4 pictures' && said '3  whole: 0' && said '1  cut: 7' && said '1  refused: 12'
+for jobs in 2 3 7; do
+    hb 1 decode --to yuv -j $jobs $tree/ $out/tree-$jobs && same $out/said $out/tree.txt
+    sed "s|$tree//|$tree/|" $out/err >$out/err-1 && same $out/err-1 $out/tree.err
+    diff -r $out/tree-1 $out/tree-$jobs >/dev/null || bad "$what: other files than with one process"
+done
+hb 0 decode -j 2 $kept/*.webp $out/all-2 && quiet && diff -r $out/all $out/all-2 >/dev/null || bad "$what: other files than with one process"
+hb 1 info $tree && said '4 files, 4 pictures' && said 'a/cut.vp8: VP8 frame'
+hb 1 fits $tree && said 'tree/tile-q90.webp: ' && warned 'inter.vp8: refused: 12'
+hb 2 decode $tree - && warned 'one file alone is decoded to standard output'
+hb 2 decode -j 0 $tree $out/tree-0 && warned '1 to 256' && none tree-0
+hb 2 decode $out/absent/ $out/tree-0 --to yuv && warned 'No such file' && none tree-0
+cp $tree/tile-q90.webp $tree/tile-q90.vp8
+hb 2 decode $tree $out/clash && warned 'would both be written' && none clash
+rm $tree/tile-q90.vp8
+# shellcheck disable=SC2086
+for jobs in 1 2; do tests/cli/survey.py --bar $X86RUN target/cli/hookbarley decode -j $jobs $kept/*.webp $out/bar >$out/bar.log 2>&1 || bad "decode -j $jobs: $(tail -n 1 $out/bar.log)"; done
+
+# Stopped by a signal: what is done is whole, nothing else is there, and the program ends by that signal.
+mkdir $out/much
+for i in $(seq 120); do ln -s ../../../bench/tile-q75.webp $out/much/$i.webp; done
+hb 0 decode $out/much $out/much-whole && said '120 files, 120 pictures'
+stopped() { # stopped SIGNAL JOBS FILES
+    rm -rf $out/stopped
+    what="decode -j $2 and $1 after $3 files"
+    tried=$((tried + 1))
+    # shellcheck disable=SC2086
+    tests/cli/stopped.py "$1" $out/stopped $out/much-whole "$3" $X86RUN target/cli/hookbarley decode -j "$2" $out/much $out/stopped >$out/said 2>$out/err ||
+        bad "$what: $(tail -n 1 $out/err)"
+    read -r files rest <$out/said
+    [ "${files:-0}" -ge "$3" ] && [ "$files" -lt 120 ] && said "$files $files file" || bad "$what: says '$rest' of $files files"
+}
+stopped SIGINT 1 1
+stopped SIGTERM 1 30
+stopped SIGINT 2 1
+stopped SIGHUP 3 20
+
+# Standard input and output: the same bytes, and what is said goes elsewhere.
+piped() { # piped STATUS IN ARGUMENTS..: standard input is IN, standard output $out/said
+    local in=$2 want=$1
+    shift 2
+    hb "$want" "$@" <"$in"
+}
+piped 0 bench/tile-q90.webp decode - - --to yuv && same $out/said $out/a.yuv && warned '-: 256 x 256, whole, normal filter'
+piped 0 bench/tile-q90.webp decode - - && same $out/said $out/a.ppm
+piped 0 bench/tile-q90.webp decode - $out/in.yuv && same $out/in.yuv $out/a.yuv && quiet
+mkdir $out/in
+piped 0 bench/tile-q90.webp decode - $out/in && same $out/in/stdin.ppm $out/a.ppm
+piped 1 $out/cut.vp8 decode --unfiltered --to yuv - - && same $out/said $out/c.yuv && warned "-: cut: $stop"
+piped 1 $out/inter.vp8 decode - - && warned '-: refused: 12' && [ ! -s $out/said ] || bad "$what: writes something"
+piped 0 $out/tile.vp8 wrap - - && same $out/said bench/tile-q90.webp && warned '-: 29196 bytes'
+piped 0 bench/tile-q90.webp info - && said '-: WebP file, 29196 bytes' && quiet
+piped 1 bench/tile-q90.webp fits - && said '-: rule 3 fails'
+piped 0 bench/tile-q50.webp explain - 15 20 && said 'luma at 15 20'
+piped 0 bench/tile-q50.webp explain - - && head -n 1 $out/said | grep -q P6 && warned '-: 256 x 256, coloured' || bad "$what: no picture"
+piped 0 bench/tile-q50.webp page - - && tail -n 1 $out/said | grep -q '</html>' && warned '-: 256 x 256, whole' || bad "$what: no page"
+piped 0 bench/tile-q50.webp survey - && said '1 file: 1 picture, 1 of them whole'
+piped 0 bench/tile-q50.webp survey -j 2 --json - && said '"files": 1,'
+hb 2 survey --html - bench/tile-q50.webp && warned '--html takes a file'
+$X86RUN target/cli/hookbarley info bench/tile-q50.webp >/dev/full 2>$out/err
+[ $? -eq 2 ] || bad "info to a full device: another status than 2"
+what='info to a full device' && warned 'standard output: No space'
 
 # The cockpit profile: a line a frame, the rule in words; status 0 only where all fit.
 tiles=tests/outside/profile
@@ -267,7 +340,7 @@ said '  whole blue 94, soft orange 26, unfinished grey 136'
 rescue=--rescue tinted 1 marks $out/modes.vp8 --runs blue=120 grey=136 && warned 'cut: 6'
 rescue=--rescue tinted 1 segments $out/tint-cut.vp8 blue=16 orange=99 green=71 purple=70 # its modes are all there, as in the whole tile
 said '  whole 120, soft 136, grey 0'
-hb 0 info --tint modes bench/tile-q50.webp && quiet
+hb 2 info --tint modes bench/tile-q50.webp && warned 'info takes no --tint'
 hb 2 decode --tint paint bench/tile-q50.webp $out/wrong.ppm && warned '--tint takes segments, modes or marks, not paint'
 hb 2 decode bench/tile-q50.webp $out/wrong.ppm --tint && warned '--tint takes segments, modes or marks;'
 hb 2 decode --tint marks $out/cut.vp8 $out/wrong.ppm && warned '--tint marks goes with --rescue'
@@ -277,6 +350,22 @@ for wrong in $out/wrong.yuv $out/wrong.pgm "--to yuv $out/wrong.ppm" "--to pgm b
     hb 2 decode --tint modes bench/tile-q50.webp $wrong && warned '--tint makes a .ppm and no other form'
 done
 none wrong.yuv && none wrong.pgm && none wrong.ppm
+
+# info and fits as JSON: valid, and the same as in words, of whole, cut and refused files, names of any bytes and files that are not there.
+cp $out/tile.vp8 "$(printf '%s/\\"\n\377\303\251.vp8' $tree)"
+for command in info fits; do
+    hb 1 $command $tree $out/none.ivf $out/short.ivf $out/modes.vp8 $kept $tiles tests/outside/webp && mv $out/said $out/words.txt && mv $out/err $out/words.err
+    hb 1 $command --json $tree $out/none.ivf $out/short.ivf $out/modes.vp8 $kept $tiles tests/outside/webp && same $out/err $out/words.err
+    python3 -m json.tool $out/said >/dev/null 2>&1 || bad "$what: not JSON"
+    said '\u005c\u0022\u000a�é.vp8"'
+    rm -f $tree/*é.vp8
+    hb 1 $command $tree $out/none.ivf $out/short.ivf $out/modes.vp8 $kept $tiles tests/outside/webp && mv $out/said $out/words.txt
+    hb 1 $command --json $tree $out/none.ivf $out/short.ivf $out/modes.vp8 $kept $tiles tests/outside/webp
+    tests/cli/told.py $command $out/said $out/words.txt >$out/told.log 2>&1 || bad "$what: $(tail -n 1 $out/told.log)"
+    hb 2 $command --json $out/absent bench/tile-q50.webp && said '"error": "No such file or directory"' && said '"unread": 1' && warned 'No such file'
+    python3 -m json.tool $out/said >/dev/null 2>&1 || bad "$what: not JSON"
+    cp $out/tile.vp8 "$(printf '%s/\\"\n\377\303\251.vp8' $tree)"
+done
 
 # Surveyed: three forms of one record, whatever the number of processes; parts joined; files that are no frames apart.
 delivery=$out/delivery
@@ -330,8 +419,8 @@ mkdir $out/broken && ln -s nowhere $out/broken/link
 hb 2 survey --json -j 2 $out/broken && warned 'broken/link: No such file' && said '"files": 1,' && said '"unread": 1,'
 hb 2 survey && warned 'survey takes'
 hb 2 survey --add && warned 'takes records'
-hb 2 survey --rescue bench/tile-q50.webp && warned 'what is --rescue'
-hb 2 decode --json bench/tile-q50.webp $out/a.yuv && warned 'what is --json'
+hb 2 survey --rescue bench/tile-q50.webp && warned 'survey takes no --rescue'
+hb 2 decode --json bench/tile-q50.webp $out/a.yuv && warned 'decode takes no --json'
 for jobs in 0 257 -1 x ''; do hb 2 survey -j "$jobs" bench/tile-q50.webp && warned '1 to 256'; done
 hb 2 survey --html $out/absent/a.html bench/tile-q50.webp && warned 'No such file'
 [ ! -s $out/said ] || bad "$what: surveys before it finds that it cannot write"
@@ -377,9 +466,14 @@ kill $watch 2>/dev/null
 tried=$((tried + 1))
 warned 'pipe: lost: its process ended with signal 9' && said '"files": 4,' && said '"lost": 1,' && said '"answers": [3, 0,'
 what='hookbarley survey and Ctrl-C'
-timeout -s INT 1 $X86RUN target/cli/hookbarley survey -j 2 --html $out/ended.html bench/tile-q50.webp $delivery/pipe >/dev/null 2>&1
-[ $? -eq 124 ] || bad "$what: ended by itself"
-[ -z "$(find $out -maxdepth 1 -name 'ended.html*')" ] || bad "$what: a part of a page is left"
+for jobs in 1 2; do # the second file never comes: what is done is told of, as far as it goes
+    timeout -s INT 1 $X86RUN target/cli/hookbarley survey -j $jobs --json --html $out/ended.html bench/tile-q50.webp $delivery/pipe bench/tile-q75.webp >$out/said 2>$out/err
+    [ $? -eq 124 ] || bad "$what: ended by itself"
+    warned 'stopped by signal 2 after 1 file, the last bench/tile-q50.webp' && said '"files": 1,' && said '"lost": 0,'
+    python3 -m json.tool $out/said >/dev/null 2>&1 || bad "$what: not JSON"
+    grep -q '<strong>Not of all files: stopped by signal 2 after 1 file' $out/ended.html || bad "$what: the page does not say that it is not of all"
+    [ -z "$(find $out -maxdepth 1 -name '*.part')" ] || bad "$what: a part of a page is left"
+done
 
 # Installed: the example through pkg-config; one version everywhere.
 if tools/install.sh $out/prefix >$out/install.log 2>&1; then
@@ -398,6 +492,6 @@ else
     tail -n 5 $out/install.log
     bad "tools/install.sh"
 fi
-[ $tried -ge 195 ] || bad "only $tried runs of the program"
+[ $tried -ge 235 ] || bad "only $tried runs of the program"
 [ $failed -eq 0 ] && echo "cli: passed, $tried runs of the program"
 exit $failed
