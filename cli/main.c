@@ -39,6 +39,7 @@ static const char help[] =
     "\n"
     "  --json               info, fits, survey: print JSON\n"
     "  --html OUT           survey: also write a page with charts; it needs no network\n"
+    "  --add                survey: the names are records that --json wrote; add them up\n"
     "  -j N                 decode to a FOLDER, survey: use N processes; the output is the same\n"
     "\n"
     "The pictures of an IVF file follow one another in OUT. A truncated picture is still written: what was finished, and\n"
@@ -60,7 +61,7 @@ static const char help[] =
     "\n"
     "Exit status: 0 if every picture is whole (and for fits, if every one fits); 1 if one was refused, cut or rescued (its\n"
     "number is on standard error) or does not fit; 2 for wrong usage, a file that cannot be read or written, or a process\n"
-    "that ended early. A program that was stopped ends by that signal: 130 in a shell for Ctrl-C.\n";
+    "that ended early. Once stopped it ends by that signal: 130 in a shell for Ctrl-C.\n";
 
 /* A command, and what it takes besides names. */
 struct command {

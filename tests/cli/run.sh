@@ -1,7 +1,7 @@
 #!/usr/bin/env bash
 # The program and its installation, from outside: tests/cli/run.sh [ARCHIVE]. Runs each command with good, cut, refused and wrong
-# arguments and looks at exit status, what is said and what is written; installs into a folder and builds the C example through
-# pkg-config. The gate runs it.
+# arguments and looks at exit status, what is said and what is written; installs into a folder and uses what is there (installed.sh). The
+# gate runs it.
 set -u
 cd "$(dirname "$0")/../.." || exit 1
 ARCHIVE=${1:-${ARCHIVE:-}}
@@ -475,23 +475,7 @@ for jobs in 1 2; do # the second file never comes: what is done is told of, as f
     [ -z "$(find $out -maxdepth 1 -name '*.part')" ] || bad "$what: a part of a page is left"
 done
 
-# Installed: the example through pkg-config; one version everywhere.
-if tools/install.sh $out/prefix >$out/install.log 2>&1; then
-    export PKG_CONFIG_PATH=$PWD/$out/prefix/lib/pkgconfig
-    version=$(pkg-config --modversion hookbarley)
-    # shellcheck disable=SC2046
-    $X86CC -std=c99 -Wall -Wextra -Werror $(pkg-config --cflags hookbarley) examples/c/decode_webp.c $(pkg-config --libs hookbarley) -o $out/decode_webp ||
-        bad "examples/c/decode_webp.c does not build"
-    what="examples/c/decode_webp.c"
-    $X86RUN $out/decode_webp bench/tile-q90.webp >$out/example.pgm 2>$out/err && same $out/example.pgm $out/a.pgm
-    what="PREFIX/bin/hookbarley"
-    $out/prefix/bin/hookbarley decode bench/tile-q90.webp $out/installed.yuv >/dev/null && same $out/installed.yuv $out/a.yuv
-    grep -q "^version = \"$version\"$" bindings/rust/Cargo.toml || bad "bindings/rust has another version than $version"
-    grep -q "^## $version" CHANGELOG.md || bad "CHANGELOG.md has no version $version"
-else
-    tail -n 5 $out/install.log
-    bad "tools/install.sh"
-fi
+. tests/cli/installed.sh
 [ $tried -ge 235 ] || bad "only $tried runs of the program"
 [ $failed -eq 0 ] && echo "cli: passed, $tried runs of the program"
 exit $failed
