@@ -3,12 +3,14 @@
 #include "workers.h"
 #include <signal.h>
 #include <stdio.h>
+#include <time.h>
 #include <unistd.h>
 
 static const int signals[] = {SIGINT, SIGTERM, SIGHUP, SIGQUIT};
 enum { SIGNALS = sizeof signals / sizeof *signals };
 
 static volatile sig_atomic_t asked, patient;
+static struct timespec since; /* when it was asked; only the handler, which nothing interrupts, uses it */
 static const char *volatile removed;
 static volatile pid_t processes[WORKERS_MOST];
 
@@ -22,11 +24,19 @@ static void end_by(int signal_number) {
     raise(signal_number);
 }
 
+/* Whether a signal is the first, or comes with it. */
+static int is_first(void) {
+    struct timespec now;
+    clock_gettime(CLOCK_MONOTONIC, &now);
+    if (!asked) since = now;
+    return now.tv_sec - since.tv_sec < 1 || (now.tv_sec - since.tv_sec == 1 && now.tv_nsec < since.tv_nsec);
+}
+
 static void on_signal(int signal_number) {
     for (int i = 0; i < WORKERS_MOST; i++)
         if (processes[i]) kill(processes[i], SIGTERM);
-    if (patient && !asked) {
-        asked = signal_number;
+    if (patient && is_first()) {
+        if (!asked) asked = signal_number;
         return;
     }
     if (removed) unlink(removed);

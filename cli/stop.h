@@ -7,7 +7,8 @@
 /* From here on such a signal ends the program, but not before the file that is being written is removed. */
 void stop_begin(void);
 
-/* The first signal only asks to stop, and goes on to the processes of this program; the second ends it. */
+/* The first signal only asks to stop, and goes on to the processes of this program; another one, a second later or more, ends it. What comes
+ * sooner is the same request: timeout(1) sends a signal to the program and to its group. */
 void stop_patiently(void);
 
 /* In one of these processes: only what comes from the program counts. */

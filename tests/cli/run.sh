@@ -450,21 +450,31 @@ hb 0 survey --add --json $out/full.json && said "[$most, 0]"
 hb 1 survey --add --json $out/full.json $out/part-1.json && warned 'part-1.json: refused: 15, a count would pass'
 [ ! -s $out/said ] || bad "$what: is joined"
 
-# A process that ends is said, its file is lost and nothing else; Ctrl-C leaves no page.
+# A process that ends is said, its file is lost and nothing else; Ctrl-C while a file is waited for.
 need pgrep procps || exit 1
-$X86RUN target/cli/hookbarley survey -j 2 --json $delivery/pipe bench/tile-q??.webp >$out/said 2>$out/err &
-survey=$!
-what='hookbarley survey -j 2 with a process that is killed'
-for _ in $(seq 100); do [ "$(pgrep -c -P $survey)" -eq 2 ] && break; sleep 0.1; done
-sleep 0.5
-kill -9 "$(pgrep -P $survey | head -n 1)" # the first waits for the pipe
-{ sleep 20; kill -9 $survey 2>/dev/null; } & # where it waits for ever
-watch=$!
-wait $survey
-[ $? -eq 2 ] || bad "$what: another status than 2"
-kill $watch 2>/dev/null
-tried=$((tried + 1))
-warned 'pipe: lost: its process ended with signal 9' && said '"files": 4,' && said '"lost": 1,' && said '"answers": [3, 0,'
+killed() { # killed ARGUMENTS..: two processes, of which the first waits for the pipe and is killed
+    local running watch
+    $X86RUN target/cli/hookbarley "$@" >$out/said 2>$out/err &
+    running=$!
+    what="hookbarley $* with a process that is killed"
+    for _ in $(seq 100); do [ "$(pgrep -c -P $running)" -eq 2 ] && break; sleep 0.1; done
+    sleep 0.5
+    kill -9 "$(pgrep -P $running | head -n 1)"
+    { sleep 20; kill -9 $running 2>/dev/null; } & # where it waits for ever
+    watch=$!
+    wait $running
+    [ $? -eq 2 ] || bad "$what: another status than 2"
+    kill $watch 2>/dev/null
+    tried=$((tried + 1))
+    warned 'pipe: lost: its process ended with signal 9'
+}
+killed survey -j 2 --json $delivery/pipe bench/tile-q??.webp && said '"files": 4,' && said '"lost": 1,' && said '"answers": [3, 0,'
+killed decode -j 2 $delivery/pipe bench/tile-q??.webp $out/lost && said '4 files, 3 pictures' && said '1  lost: their process ended'
+same $out/lost/tile-q90.ppm $out/a.ppm && none lost/pipe.ppm
+what='hookbarley decode of one file and Ctrl-C'
+timeout -s INT 1 $X86RUN target/cli/hookbarley decode $delivery/pipe $out/never.yuv >$out/said 2>$out/err
+[ $? -eq 124 ] && [ ! -s $out/said ] || bad "$what: ended by itself"
+warned 'stopped by signal 2; nothing is written' && none never.yuv
 what='hookbarley survey and Ctrl-C'
 for jobs in 1 2; do # the second file never comes: what is done is told of, as far as it goes
     timeout -s INT 1 $X86RUN target/cli/hookbarley survey -j $jobs --json --html $out/ended.html bench/tile-q50.webp $delivery/pipe bench/tile-q75.webp >$out/said 2>$out/err

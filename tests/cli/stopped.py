@@ -25,6 +25,7 @@ until = time.monotonic() + 20
 while len(written()) < files and running.poll() is None and time.monotonic() < until:
     time.sleep(0.001)
 running.send_signal(number)
+running.send_signal(number)  # one request, as timeout(1) makes it
 try:
     said, told = running.communicate(timeout=20)
 except subprocess.TimeoutExpired:
