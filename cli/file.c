@@ -49,7 +49,7 @@ static uint8_t *read_all(FILE *in, size_t *length) {
         return NULL;
     }
     *length = n;
-    return bytes;
+    return more_memory(bytes, n); /* no more than that: a read past the end is found by a sanitizer */
 }
 
 int file_read(const char *path, struct file *file) {

@@ -1,3 +1,4 @@
+/* The members that a frame has in JSON, in the order of info's lines. */
 #include "info_json.h"
 #include "json_file.h"
 

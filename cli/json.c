@@ -1,3 +1,4 @@
+/* JSON of two spaces a level; lists of numbers stand on one line. */
 #include "json.h"
 #include "html.h"
 

@@ -1,3 +1,4 @@
+/* The part of the JSON that `info` and `fits` share: files, and answers. */
 #include "json_file.h"
 #include <errno.h>
 #include <string.h>

@@ -1,4 +1,4 @@
-/* What `info` and `fits` write of each file as JSON. Each of these does nothing where there is no JSON to write (NULL). */
+/* What `info` and `fits` do with each file: they open it, count it and, with --json, write it. `json` is NULL without that option. */
 #ifndef CLI_JSON_FILE_H
 #define CLI_JSON_FILE_H
 
