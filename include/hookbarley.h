@@ -17,7 +17,7 @@
 #include <stdint.h>
 
 /* The version; CHANGELOG.md says what changed. */
-#define HOOKBARLEY_VERSION "0.3.0"
+#define HOOKBARLEY_VERSION "1.0.0"
 
 #ifdef __cplusplus
 extern "C" {
