@@ -110,8 +110,8 @@ size_t tally_refused(const struct tally *tally) {
     return refused;
 }
 
-static void print_count(size_t count, const char *words) {
-    if (count) printf("%8zu  %s\n", count, words);
+static void print_count(size_t count, const char *what) {
+    if (count) printf("%8zu  %s\n", count, what);
 }
 
 void print_tally(const struct tally *tally) {

@@ -165,9 +165,16 @@ static int parse(struct options *o, const struct command *command, char **words,
     return 0;
 }
 
+/* Whether a word before -- asks for help, behind a command too. */
+static int asks_for_help(char **words, int count) {
+    for (int i = 0; i < count && strcmp(words[i], "--"); i++)
+        if (!strcmp(words[i], "--help") || (!i && !strcmp(words[i], "help"))) return 1;
+    return 0;
+}
+
 int main(int argc, char **argv) {
     if (argc < 2) return usage("no command", "");
-    if (!strcmp(argv[1], "--help") || !strcmp(argv[1], "help")) return fputs(help, stdout) < 0;
+    if (asks_for_help(argv + 1, argc - 1)) return fputs(help, stdout) < 0;
     if (!strcmp(argv[1], "--version")) return puts("hookbarley " HOOKBARLEY_VERSION) < 0;
     struct options options = {.filter = FILTER_CODED, .to = FORM_NONE, .tint = TINT_NONE, .jobs = 1, .names = argv + 2};
     for (size_t i = 0; i < sizeof commands / sizeof *commands; i++) {

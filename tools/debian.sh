@@ -26,4 +26,5 @@ cp "$ARCHIVE" "$tree/libhookbarley.a"
 } >"$tree/debian/changelog"
 (cd "$tree" && dpkg-buildpackage -b -us -uc) >"$folder/log" 2>&1 || { tail -n 20 "$folder/log" >&2; exit 1; }
 lintian --fail-on error,warning "$folder/hookbarley_${version}_amd64.changes"
+echo "$(lintian --version | head -n 1): no error, no warning"
 ls -1 "$folder"/*"_${version}_amd64.deb"

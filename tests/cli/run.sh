@@ -40,6 +40,7 @@ common() { # common A B RUNS: which macroblocks of 256 by 256 samples both have
 hb 0 --help && said 'hookbarley decode' && said 'hookbarley info' && said 'hookbarley fits' && said 'hookbarley wrap' && said '--rescue' && said 'Exit status' && quiet
 said 'hookbarley survey' && said '--html OUT' && said 'hookbarley page'
 hb 0 --version && said "hookbarley $(sed -n 's/^#define HOOKBARLEY_VERSION "\(.*\)"$/\1/p' include/hookbarley.h)"
+hb 0 decode --help && said 'hookbarley decode' && quiet
 hb 2 && warned 'no command'
 hb 2 paint && warned 'what is paint'
 hb 2 decode bench/tile-q90.webp && warned 'an IN and an OUT'
@@ -472,12 +473,12 @@ killed survey -j 2 --json $delivery/pipe bench/tile-q??.webp && said '"files": 4
 killed decode -j 2 $delivery/pipe bench/tile-q??.webp $out/lost && said '4 files, 3 pictures' && said '1  lost: their process ended'
 same $out/lost/tile-q90.ppm $out/a.ppm && none lost/pipe.ppm
 what='hookbarley decode of one file and Ctrl-C'
-timeout -s INT 1 $X86RUN target/cli/hookbarley decode $delivery/pipe $out/never.yuv >$out/said 2>$out/err
+timeout -s INT 2 $X86RUN target/cli/hookbarley decode $delivery/pipe $out/never.yuv >$out/said 2>$out/err
 [ $? -eq 124 ] && [ ! -s $out/said ] || bad "$what: ended by itself"
 warned 'stopped by signal 2; nothing is written' && none never.yuv
 what='hookbarley survey and Ctrl-C'
 for jobs in 1 2; do # the second file never comes: what is done is told of, as far as it goes
-    timeout -s INT 1 $X86RUN target/cli/hookbarley survey -j $jobs --json --html $out/ended.html bench/tile-q50.webp $delivery/pipe bench/tile-q75.webp >$out/said 2>$out/err
+    timeout -s INT 2 $X86RUN target/cli/hookbarley survey -j $jobs --json --html $out/ended.html bench/tile-q50.webp $delivery/pipe bench/tile-q75.webp >$out/said 2>$out/err
     [ $? -eq 124 ] || bad "$what: ended by itself"
     warned 'stopped by signal 2 after 1 file, the last bench/tile-q50.webp' && said '"files": 1,' && said '"lost": 0,'
     python3 -m json.tool $out/said >/dev/null 2>&1 || bad "$what: not JSON"

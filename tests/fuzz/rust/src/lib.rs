@@ -14,9 +14,9 @@ pub unsafe extern "C" fn fuzz_one(bytes: *const u8, length: usize) {
     let frame = webp_find(bytes).map_or(bytes, |place| &bytes[place]);
     wrap(frame);
     edge(bytes);
-    let Ok(frame) = Frame::take(frame) else { return };
-    if frame.tile.blocks() <= BLOCKS_MOST {
-        picture(&frame, bytes);
+    match Frame::take(frame) {
+        Ok(frame) if frame.tile.blocks() <= BLOCKS_MOST => picture(&frame, bytes),
+        _ => (),
     }
 }
 
@@ -55,9 +55,9 @@ fn shown(frame: &Frame, decoded: Decoded, memory: &Memory) {
 
 fn rescued(frame: &Frame, finished: usize) {
     let mut marks = vec![9; frame.tile.blocks()];
-    let Rescued::Kept(kept) = rescue(frame, &mut memory_of(frame, 4), &mut marks) else { panic!("refused") };
+    let rescued = rescue(frame, &mut memory_of(frame, 4), &mut marks);
+    assert_eq!(rescued, Rescued::Kept(marks.iter().filter(|&&m| m != mark::GREY).count()));
     assert_eq!(marks.iter().take_while(|&&m| m == mark::WHOLE).count(), finished);
-    assert_eq!(marks.iter().filter(|&&m| m != mark::GREY).count(), kept);
 }
 
 fn surveyed(frame: &Frame, decoded: Decoded, reads: Reads, memory: &Memory) {
@@ -110,7 +110,10 @@ fn wrap(frame: &[u8]) {
 
 /// The kernel, and why it did so, on the last bytes.
 fn edge(bytes: &[u8]) {
-    let Some(last) = bytes.len().checked_sub(12).map(|at| &bytes[at..]) else { return };
+    if bytes.len() < 12 {
+        return;
+    }
+    let last = &bytes[bytes.len() - 12..];
     let before: [u8; 8] = last[..8].try_into().unwrap();
     let (simple, edge) = (last[11] & 1 != 0, last[11] & 2 != 0);
     let mut after = before;
