@@ -76,13 +76,14 @@ outerEdge simple t = record { simple = simple; outer = true; limit = t .limit + 
 abbrev pub innerEdge : Bool → Strength → Edge
 innerEdge simple t = record { simple = simple; outer = false; limit = t .limit; inner = t .inner; threshold = t .threshold }
 
--- the inner vertical edges: at 4, 8, 12 in luma, at 4 in chroma
-unfoldable pub verticalsOf : Edge → (w x y n : ℕ) → Change
-verticalsOf g w x y n = turns (λ j. verticalEdges g w (x + 4 * j + 4) y n) (n / 4 - 1)
+-- inner edge j, vertical where `upright` holds and else horizontal: at 4, 8, 12 in luma, at 4 in chroma
+unfoldable pub innerAt : (upright : Bool) → Edge → (w x y n j : ℕ) → Change
+innerAt true g w x y n j = verticalEdges g w (x + 4 * j + 4) y n
+innerAt false g w x y n j = horizontalEdges g w x (y + 4 * j + 4) n
 
--- the inner horizontal edges, likewise
-unfoldable pub horizontalsOf : Edge → (w x y n : ℕ) → Change
-horizontalsOf g w x y n = turns (λ j. horizontalEdges g w x (y + 4 * j + 4) n) (n / 4 - 1)
+-- all of one direction, one after the other
+unfoldable pub innersOf : (upright : Bool) → Edge → (w x y n : ℕ) → Change
+innersOf upright g w x y n = turns (innerAt upright g w x y n) (n / 4 - 1)
 
 -- in the order of section 15.1, 4750-4770: the left edge unless column 0, inner vertical edges, the top edge unless row 0, inner horizontal
 -- edges; the inner ones where the inside byte is 1 (4785-4790)
@@ -92,9 +93,9 @@ squareOf simple t w n column row p =
     let y = row * n in
     let inside = eqb (t .inside) 1 in
     let a = when (not (eqb column 0)) (verticalEdges (outerEdge simple t) w x y n) p in
-    let b = when inside (verticalsOf (innerEdge simple t) w x y n) a in
+    let b = when inside (innersOf true (innerEdge simple t) w x y n) a in
     let c = when (not (eqb row 0)) (horizontalEdges (outerEdge simple t) w x y n) b in
-    when inside (horizontalsOf (innerEdge simple t) w x y n) c
+    when inside (innersOf false (innerEdge simple t) w x y n) c
 
 -- ---- one plane: the first m macroblocks in raster order, `wide` to a row; a limit of 0 means no filtering
 unfoldable pub macroblockEdges : Bool → (strengths : List ℕ) → (n wide k : ℕ) → Change

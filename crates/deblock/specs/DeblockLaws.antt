@@ -17,7 +17,7 @@ use Rattle.numbers.specs.Tests.{lt-or, never}
 use Rattle.numbers.specs.Lists.{build, set-keeps, length-build, getD-build, getD-build-past}
 use Rattle.filter.specs.KernelLaws.{Bytes, filter-bytes, outermost-stay}
 use Rattle.deblock.specs.declared.edges.Edge.{Edge}
-use Rattle.deblock.specs.Deblock.{Change, turns, when, acrossOf, laidBack, keptOf, positionOf, sweepOf, verticalEdges, horizontalEdges, verticalsOf, horizontalsOf, outerEdge, innerEdge, squareOf, macroblockEdges, rasterOf}
+use Rattle.deblock.specs.Deblock.{Change, turns, when, acrossOf, laidBack, keptOf, positionOf, sweepOf, verticalEdges, horizontalEdges, innerAt, innersOf, outerEdge, innerEdge, squareOf, macroblockEdges, rasterOf}
 
 -- ---- changes one after the other
 pub turns-none : (f : ℕ → Change) (p : List ℕ) → turns f 0 p ≡ p
@@ -181,20 +181,15 @@ not-zero k e = eqb-false k 0 (falsely (eqb k 0) e)
     falsely false e = refl
 
 module _ {Φ : Change → Type 0} (z : Closed Φ) where
-  module _ (g : Edge) (w x y n : ℕ) where
-    pub verticals-closed : ((j : ℕ) → j < n / 4 - 1 → Φ (verticalEdges g w (x + 4 * j + 4) y n)) → Φ (verticalsOf g w x y n)
-    unfolding verticalsOf
-    verticals-closed h = turns-closed z _ (n / 4 - 1) h
-
-    pub horizontals-closed : ((j : ℕ) → j < n / 4 - 1 → Φ (horizontalEdges g w x (y + 4 * j + 4) n)) → Φ (horizontalsOf g w x y n)
-    unfolding horizontalsOf
-    horizontals-closed h = turns-closed z _ (n / 4 - 1) h
+  pub inners-closed : (upright : Bool) (g : Edge) (w x y n : ℕ) → ((j : ℕ) → j < n / 4 - 1 → Φ (innerAt upright g w x y n j)) → Φ (innersOf upright g w x y n)
+  unfolding innersOf
+  inners-closed upright g w x y n h = turns-closed z _ (n / 4 - 1) h
 
   pub square-closed : (simple : Bool) (t : Strength) (w n column row : ℕ)
       → ((column ≡ 0 → ⊥) → Φ (verticalEdges (outerEdge simple t) w (column * n) (row * n) n))
-      → Φ (verticalsOf (innerEdge simple t) w (column * n) (row * n) n)
+      → Φ (innersOf true (innerEdge simple t) w (column * n) (row * n) n)
       → ((row ≡ 0 → ⊥) → Φ (horizontalEdges (outerEdge simple t) w (column * n) (row * n) n))
-      → Φ (horizontalsOf (innerEdge simple t) w (column * n) (row * n) n)
+      → Φ (innersOf false (innerEdge simple t) w (column * n) (row * n) n)
       → Φ (squareOf simple t w n column row)
   unfolding squareOf
   square-closed simple t w n column row a b c d =
@@ -228,21 +223,32 @@ module _ (g : Edge) (w x y n : ℕ) where
   unfolding horizontalEdges
   length-horizontal = length-edge g _ 1 w n
 
-pub length-verticals : (g : Edge) (w x y n : ℕ) (k : ℕ) → Even (turns (λ (j : ℕ). verticalEdges g w (x + 4 * j + 4) y n) k)
-length-verticals g w x y n k = turns-closed even-closed _ k (λ j h. length-vertical g w (x + 4 * j + 4) y n)
+-- an inner edge of either direction
+module _ (g : Edge) (w x y n j : ℕ) (p : List ℕ) {q : List ℕ} where
+  pub inner-vertical : (upright : Bool) → upright ≡ true → q ≡ verticalEdges g w (x + 4 * j + 4) y n p → q ≡ innerAt upright g w x y n j p
+  unfolding innerAt
+  inner-vertical true e h = h
+  inner-vertical false e h = absurd (never e refl)
 
-pub length-horizontals : (g : Edge) (w x y n : ℕ) (k : ℕ) → Even (turns (λ (j : ℕ). horizontalEdges g w x (y + 4 * j + 4) n) k)
-length-horizontals g w x y n k = turns-closed even-closed _ k (λ j h. length-horizontal g w x (y + 4 * j + 4) n)
+  pub inner-horizontal : (upright : Bool) → upright ≡ false → q ≡ horizontalEdges g w x (y + 4 * j + 4) n p → q ≡ innerAt upright g w x y n j p
+  unfolding innerAt
+  inner-horizontal true e h = absurd (never refl e)
+  inner-horizontal false e h = h
 
-pub length-inner-v : (g : Edge) (w x y n : ℕ) → Even (verticalsOf g w x y n)
-length-inner-v g w x y n = verticals-closed even-closed g w x y n (λ j h. length-vertical g w _ y n)
+length-inner : (upright : Bool) (g : Edge) (w x y n j : ℕ) → Even (innerAt upright g w x y n j)
+unfolding innerAt
+length-inner true g w x y n j = length-vertical g w (x + 4 * j + 4) y n
+length-inner false g w x y n j = length-horizontal g w x (y + 4 * j + 4) n
 
-pub length-inner-h : (g : Edge) (w x y n : ℕ) → Even (horizontalsOf g w x y n)
-length-inner-h g w x y n = horizontals-closed even-closed g w x y n (λ j h. length-horizontal g w x _ n)
+pub length-turns : (upright : Bool) (g : Edge) (w x y n k : ℕ) → Even (turns (innerAt upright g w x y n) k)
+length-turns upright g w x y n k = turns-closed even-closed _ k (λ j h. length-inner upright g w x y n j)
+
+pub length-inners : (upright : Bool) (g : Edge) (w x y n : ℕ) → Even (innersOf upright g w x y n)
+length-inners upright g w x y n = inners-closed even-closed upright g w x y n (λ j h. length-inner upright g w x y n j)
 
 pub length-square : (simple : Bool) (t : Strength) (w n column row : ℕ) → Even (squareOf simple t w n column row)
 length-square simple t w n column row =
-    square-closed even-closed simple t w n column row (λ e. length-vertical _ w _ _ n) (length-inner-v _ w _ _ n) (λ e. length-horizontal _ w _ _ n) (length-inner-h _ w _ _ n)
+    square-closed even-closed simple t w n column row (λ e. length-vertical _ w _ _ n) (length-inners true _ w _ _ n) (λ e. length-horizontal _ w _ _ n) (length-inners false _ w _ _ n)
 
 pub length-block : (simple : Bool) (strengths : List ℕ) (n wide k : ℕ) → Even (macroblockEdges simple strengths n wide k)
 unfolding macroblockEdges
@@ -261,9 +267,9 @@ when-long b f p e h = rw e (length-when b f h p)
 -- ---- a square by its four parts
 pub square-is : (simple : Bool) (t : Strength) (w n column row : ℕ) (p : List ℕ) {a b c d : List ℕ}
     → a ≡ when (not (eqb column 0)) (verticalEdges (outerEdge simple t) w (column * n) (row * n) n) p
-    → b ≡ when (eqb (t .inside) 1) (verticalsOf (innerEdge simple t) w (column * n) (row * n) n) a
+    → b ≡ when (eqb (t .inside) 1) (innersOf true (innerEdge simple t) w (column * n) (row * n) n) a
     → c ≡ when (not (eqb row 0)) (horizontalEdges (outerEdge simple t) w (column * n) (row * n) n) b
-    → d ≡ when (eqb (t .inside) 1) (horizontalsOf (innerEdge simple t) w (column * n) (row * n) n) c
+    → d ≡ when (eqb (t .inside) 1) (innersOf false (innerEdge simple t) w (column * n) (row * n) n) c
     → d ≡ squareOf simple t w n column row p
 unfolding squareOf
 square-is simple t w n column row p e f g h = rw (← e, ← f, ← g) h

@@ -22,8 +22,8 @@ use Rattle.planes.specs.Predict.{Size}
 use Rattle.planes.specs.Places.{size-some, next-row}
 use Rattle.deblock.specs.declared.edges.Edge.{Edge}
 use Rattle.deblock.specs.declared.Deblocked.the-variants.{Done}
-use Rattle.deblock.specs.Deblock.{Change, turns, when, acrossOf, laidBack, keptOf, positionOf, sweepOf, verticalEdges, horizontalEdges, squareOf, macroblockEdges, rasterOf, planesDeblocked, deblockLengths, limitsOf, deblockRefusal, deblockOf}
-use Rattle.deblock.specs.DeblockLaws.{Closed, turns-closed, when-closed, verticals-closed, horizontals-closed, square-closed, laid-other, block-no}
+use Rattle.deblock.specs.Deblock.{Change, turns, when, acrossOf, laidBack, keptOf, positionOf, sweepOf, verticalEdges, horizontalEdges, innerAt, squareOf, macroblockEdges, rasterOf, planesDeblocked, deblockLengths, limitsOf, deblockRefusal, deblockOf}
+use Rattle.deblock.specs.DeblockLaws.{Closed, turns-closed, when-closed, inners-closed, square-closed, laid-other, block-no}
 use Rattle.deblock.specs.ChecksLaws as checks
 use Rattle.deblock.specs.Located.{size-eight, inner-few, past-first, column-in, row-in}
 
@@ -135,12 +135,13 @@ module _ {Φ : Change → Type 0} (z : Closed Φ) (w C R T : ℕ) (one : (g : Ed
       (λ i h. one g ((y - 4) * w + x + i * 1) w (record { column = x + i; row = y - 4; first = omega arith; way = inr (refl, omega arith, omega arith, omega arith) }))
 
   square-local : (simple : Bool) (t : Strength) (n column row : ℕ) → Size n → column * n + n ≤ C → row * n + n ≤ R → T ≤ row * n - 3 → Φ (squareOf simple t w n column row)
+  unfolding innerAt
   square-local simple t n column row s a b c =
       square-closed z simple t w n column row
       (λ e. vertical-local _ (column * n) (row * n) n (past-first column s e) (omega (arith, size-eight s)) b (omega arith))
-      (verticals-closed z _ w _ _ n (λ j h. vertical-local _ (column * n + 4 * j + 4) (row * n) n (omega arith) (omega (arith, inner-few s j h)) b (omega arith)))
+      (inners-closed z true _ w _ _ n (λ j h. vertical-local _ (column * n + 4 * j + 4) (row * n) n (omega arith) (omega (arith, inner-few s j h)) b (omega arith)))
       (λ e. horizontal-local _ (column * n) (row * n) n (past-first row s e) (omega (arith, size-eight s)) a c)
-      (horizontals-closed z _ w _ _ n (λ j h. horizontal-local _ (column * n) (row * n + 4 * j + 4) n (omega arith) (omega (arith, inner-few s j h)) a (omega arith)))
+      (inners-closed z false _ w _ _ n (λ j h. horizontal-local _ (column * n) (row * n + 4 * j + 4) n (omega arith) (omega (arith, inner-few s j h)) a (omega arith)))
 
 module _ {Φ : Change → Type 0} (z : Closed Φ) (C R T : ℕ) (simple : Bool) (strengths : List ℕ) (n wide k : ℕ) where
   block-local : ((g : Edge) (at step : ℕ) → Lies (wide * n) C R T at step → Φ (positionOf g at step)) → Size n → k % wide * n + n ≤ C → k / wide * n + n ≤ R → T ≤ k / wide * n - 3

@@ -23,7 +23,7 @@ use Rattle.filter.specs.declared.strengths.Strength.{Strength}
 use Rattle.planes.specs.Predict.{Size}
 use Rattle.planes.specs.Places.{Square, by-size, next-row}
 use Rattle.deblock.specs.declared.edges.Edge.{Edge}
-use Rattle.deblock.specs.Deblock.{Change, turns, when, acrossOf, laidBack, keptOf, positionOf, sweepOf, verticalEdges, horizontalEdges, verticalsOf, horizontalsOf, outerEdge, innerEdge, squareOf, macroblockEdges, rasterOf}
+use Rattle.deblock.specs.Deblock.{Change, turns, when, acrossOf, laidBack, keptOf, positionOf, sweepOf, verticalEdges, horizontalEdges, innerAt, innersOf, outerEdge, innerEdge, squareOf, macroblockEdges, rasterOf}
 use Rattle.deblock.specs.Moves.{total, tap, line, reachOf, most}
 use Rattle.deblock.specs.Located.{Upright, Level, PlaneGrid, size-eight, upright-in, level-in, square-left, square-top, square-upright, square-level, past-first, grid-square}
 use Rattle.deblock.specs.DeblockLaws.{across-at, across-bytes, length-position, position-bytes, position-off, position-at, not-zero}
@@ -237,7 +237,7 @@ total-one (suc n) m r d = omega (arith, total-one n m r d, only-both m (total n 
 module _ (len w x y : ℕ) (within : x < w) (simple : Bool) where
   square-moves : (t : Strength) (n column row : ℕ) → Square len w (column * n) (row * n) n → Size n
       → Moves len (y * w + x) (only (y / n) (line simple n column x) row + only (x / n) (line simple n row y) column) (squareOf simple t w n column row)
-  unfolding squareOf verticalsOf horizontalsOf
+  unfolding squareOf innersOf innerAt
   square-moves t n column row s z =
       let some : 0 < n = omega (arith, size-eight z) in
       let a = moves-when (not (eqb column 0)) (λ e. vertical-by len w x y within (outerEdge simple t) row some (square-left s z (past-first column z (not-zero column e)))) in

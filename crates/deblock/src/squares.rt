@@ -8,11 +8,11 @@ use crate::sweeps::upright_pair;
 use filter::strengths::Strength;
 use lent::macroblocks::read_strength;
 ghost use mathlib.Core.Path.{_≡_};
-ghost use Prim.Native.Nat.{_*_, _≤_};
+ghost use Prim.Native.Nat.{_-_, _*_, _/_, _≤_, _<_};
 ghost use lib.ListN.{length};
 ghost use Rattle.planes.specs.Predict.{Size};
 ghost use Rattle.planes.specs.Places.{Square};
-ghost use Rattle.deblock.specs.Deblock.{outerEdge, innerEdge, verticalEdges, horizontalEdges, verticalsOf, horizontalsOf, squareOf};
+ghost use Rattle.deblock.specs.Deblock.{outerEdge, innerEdge, verticalEdges, horizontalEdges, innerAt, innersOf, squareOf};
 ghost use Rattle.deblock.specs.Deblock.{rasterOf};
 ghost use Rattle.deblock.specs.Located.{Upright, Level, Beside, WholePlane};
 
@@ -72,28 +72,49 @@ fn horizontal(p: &mut [u8], q: &mut [u8], w: usize, x: usize, y: usize, n: usize
     }
 }
 
-// The inner edges of the n by n square at column x, row y.
-fn verticals(p: &mut [u8], q: &mut [u8], w: usize, x: usize, y: usize, n: usize, g: Edge)
+// The jth inner edge of the n by n square at column x, row y: a vertical one, or a horizontal one.
+fn inner_edge(
+    p: &mut [u8],
+    q: &mut [u8],
+    w: usize,
+    x: usize,
+    y: usize,
+    n: usize,
+    j: usize,
+    upright: bool,
+    g: Edge,
+)
     requires { ⌜ Square (length (now p)) w x y n ⌝ }
-    requires { ⌜ Size n ⌝ }
     requires { ⌜ Beside n (length (now p)) (length (now q)) ⌝ }
-    ensures { λ _. ⌜ now (p .exit) ≡ verticalsOf g w x y n (now (p .entry)) ⌝ }
-    ensures { λ _. ⌜ now (q .exit) ≡ verticalsOf g w x y n (now (q .entry)) ⌝ }
+    requires { ⌜ j < n / 4 - 1 ⌝ }
+    ensures { λ _. ⌜ now (p .exit) ≡ innerAt upright g w x y n j (now (p .entry)) ⌝ }
+    ensures { λ _. ⌜ now (q .exit) ≡ innerAt upright g w x y n j (now (q .entry)) ⌝ }
 {
-    for j in 0..n / 4 - 1 {
+    if upright {
         vertical(&mut p[..], &mut q[..], w, x + 4 * j + 4, y, n, g);
+    } else {
+        horizontal(&mut p[..], &mut q[..], w, x, y + 4 * j + 4, n, g);
     }
 }
 
-fn horizontals(p: &mut [u8], q: &mut [u8], w: usize, x: usize, y: usize, n: usize, g: Edge)
+// All of them of one direction.
+fn inners(
+    p: &mut [u8],
+    q: &mut [u8],
+    w: usize,
+    x: usize,
+    y: usize,
+    n: usize,
+    upright: bool,
+    g: Edge,
+)
     requires { ⌜ Square (length (now p)) w x y n ⌝ }
-    requires { ⌜ Size n ⌝ }
     requires { ⌜ Beside n (length (now p)) (length (now q)) ⌝ }
-    ensures { λ _. ⌜ now (p .exit) ≡ horizontalsOf g w x y n (now (p .entry)) ⌝ }
-    ensures { λ _. ⌜ now (q .exit) ≡ horizontalsOf g w x y n (now (q .entry)) ⌝ }
+    ensures { λ _. ⌜ now (p .exit) ≡ innersOf upright g w x y n (now (p .entry)) ⌝ }
+    ensures { λ _. ⌜ now (q .exit) ≡ innersOf upright g w x y n (now (q .entry)) ⌝ }
 {
     for j in 0..n / 4 - 1 {
-        horizontal(&mut p[..], &mut q[..], w, x, y + 4 * j + 4, n, g);
+        inner_edge(&mut p[..], &mut q[..], w, x, y, n, j, upright, g);
     }
 }
 
@@ -124,13 +145,13 @@ fn square(
         vertical(&mut p[..], &mut q[..], w, x, y, n, outer);
     }
     if inside {
-        verticals(&mut p[..], &mut q[..], w, x, y, n, inner);
+        inners(&mut p[..], &mut q[..], w, x, y, n, true, inner);
     }
     if row != 0 {
         horizontal(&mut p[..], &mut q[..], w, x, y, n, outer);
     }
     if inside {
-        horizontals(&mut p[..], &mut q[..], w, x, y, n, inner);
+        inners(&mut p[..], &mut q[..], w, x, y, n, false, inner);
     }
 }
 

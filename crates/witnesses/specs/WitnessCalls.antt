@@ -22,7 +22,7 @@ use Rattle.filter.specs.declared.answers.Rule.the-variants.{MacroblockEdge}
 use Rattle.filter.specs.Kernel.{filterOf, movedOf, stepsOf, noSteps, commonSteps, macroblockSteps, innerSteps, sides, part, half, eighth, tapped, across, ruleOf, highVariance, roughAt, smooth, firstFalse, withinLimit}
 use Rattle.filter.specs.Explain.{toldOf, explainOf}
 use Rattle.macroblock.specs.Macroblock.{planesOf}
-use Rattle.deblock.specs.Deblock.{turns, when, acrossOf, laidBack, keptOf, positionOf, sweepOf, verticalEdges, horizontalEdges, verticalsOf, horizontalsOf, squareOf, macroblockEdges, rasterOf, planesDeblocked, deblockLengths, limitsOf, deblockRefusal, deblockOf, deblockNumberOf}
+use Rattle.deblock.specs.Deblock.{turns, when, acrossOf, laidBack, keptOf, positionOf, sweepOf, verticalEdges, horizontalEdges, innerAt, innersOf, squareOf, macroblockEdges, rasterOf, planesDeblocked, deblockLengths, limitsOf, deblockRefusal, deblockOf, deblockNumberOf}
 use Rattle.numbers.specs.Clamp.{upTo, clampZ}
 use Rattle.numbers.specs.Runs.{placed, copied}
 use Rattle.numbers.specs.Wrap.{wrapZ}
@@ -69,7 +69,7 @@ edged = let two = row ++ row in let four = two ++ two in let eight = four ++ fou
 
 pub deblocked-edge : let o = deblockOf (planesOf edged (replicate 64 128) (replicate 64 128)) (25 ∷ 0 ∷ 0 ∷ 1 ∷ 0 ∷ 0 ∷ []) 16 16 true in
     (deblockNumberOf (o .answer) ≡ 0) × (getD (o .planes .y) 6 0 ≡ 100) × (getD (o .planes .y) 7 0 ≡ 102) × (getD (o .planes .y) 8 0 ≡ 107)
-unfolding deblockOf deblockRefusal limitsOf deblockLengths longOf sidesOf sideOf planesDeblocked rasterOf macroblockEdges squareOf horizontalsOf verticalsOf horizontalEdges verticalEdges sweepOf positionOf keptOf laidBack acrossOf when turns recordAt build upTo clampZ filterOf movedOf stepsOf noSteps commonSteps macroblockSteps innerSteps sides part half eighth tapped across ruleOf highVariance roughAt smooth firstFalse withinLimit
+unfolding deblockOf deblockRefusal limitsOf deblockLengths longOf sidesOf sideOf planesDeblocked rasterOf macroblockEdges squareOf innersOf innerAt horizontalEdges verticalEdges sweepOf positionOf keptOf laidBack acrossOf when turns recordAt build upTo clampZ filterOf movedOf stepsOf noSteps commonSteps macroblockSteps innerSteps sides part half eighth tapped across ruleOf highVariance roughAt smooth firstFalse withinLimit
 deblocked-edge = (refl, refl, refl, refl)
 
 -- ---- an explanation: an edge between 100 and 110 with limit 25 is filtered as a macroblock's
