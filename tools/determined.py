@@ -8,8 +8,7 @@ For every public function of every library crate (`pub fn` and `pub extern "C" f
 - Determined has a line for each equation, in their order, under a comment with the function's path (`-- modes::large::main_mode`);
 - the right side, where `now (x .entry)` is the argument x, is the line's right side: the same definitions, each by its full name, of the
   same arguments.
-And every line of Determined is some function's. The functions of FREE leave part of their answer free: they are named, with the reason, under "What
-is not determined" in docs/PROMISES.md, and have no `requires`, one `ensures` and no line. What differs is printed, and the status is 1.
+And every line of Determined is some function's. What differs is printed, and the status is 1.
 tools/plain.py sees that the sources have the form in which this script reads them.
 """
 import re
@@ -18,9 +17,6 @@ import sys
 from sources import ROOT, Fault, functions, modules
 
 DETERMINED = ROOT / "crates/promises/specs/Determined.antt"
-PROMISES = ROOT / "docs/PROMISES.md"
-# The functions without a line: these and no other.
-FREE = {"coefficients::fast::coded_block", "wide::extra::extra_bits"}
 # What a line of Determined says, word by word.
 ONE = """pub record One {A : Type 0} (Promise : A → Type 0) : Type 0 where
   pub answer : A
@@ -338,12 +334,6 @@ def check(path, arguments, result, head, file, scoped, determined):
             raise Fault(f"ensures {show(right)}\n    {name} has {show(line)}")
 
 
-def told_free():
-    """The functions that docs/PROMISES.md names as not determined."""
-    m = re.search(r"^## What is not determined\n(.*?)(?=^## |\Z)", PROMISES.read_text(), re.M | re.S)
-    return set(re.findall(r"^- `(\w+(?:::\w+)+)`", m.group(1), re.M)) if m else set()
-
-
 def main():
     faults, seen = [], set()
     try:
@@ -356,24 +346,18 @@ def main():
                 seen.add(function[0])
                 try:
                     equality(scoped)
-                    if function[0] in FREE:
-                        contract(function[3])
-                    else:
-                        check(*function, file, scoped, determined)
+                    check(*function, file, scoped, determined)
                 except Fault as fault:
                     faults.append(f"{function[0]}: {fault}")
     except Fault as fault:
         faults.append(str(fault))
         determined = {}
     faults += [f"Determined: {path} is no public function" for path in determined if path not in seen]
-    faults += [f"{path} is no public function, or has a line in Determined" for path in FREE if seen and path not in seen or path in determined]
-    if told_free() != FREE:
-        faults.append(f"docs/PROMISES.md: not determined are {', '.join(sorted(FREE))}, and no other")
     for fault in faults:
         print(fault)
     if faults:
         sys.exit(1)
-    print(f"determined: {len(seen) - len(FREE)} public functions, each with the contract that Determined has; {len(FREE)} not determined")
+    print(f"determined: {len(seen)} public functions, each with the contract that Determined has")
 
 
 main()

@@ -12,7 +12,7 @@ FAULTS = [  # what, file, old text, new text, what must be said
     ("a root that the plan names and nobody promises", "tools/edition/plan.py", '"numbers-bind":', '"numbers-bound":', "does not promise: numbers-bound"),
     ("a crate without a chapter", "tools/edition/plan.py", '["tile/Partitions", "tile"]', '["tile/Partitions"]', "crates/tile has no chapter"),
     ("a definition without a sentence", "crates/tile/specs/Partitions.antt", "-- the contents of a span; what lies past the end of the bytes is not there\n", "", "no sentence over"),
-    ("a name that no line brings in", "crates/residual/specs/Residual.antt", "unfoldable pub use Rattle.coefficients.specs.Fast.{sixteenAt}\n", "", "uses sixteenAt"),
+    ("a name that no line brings in", "crates/residual/specs/Residual.antt", "use Rattle.transform.specs.Lanes.{macroblockLanes}\n", "", "uses macroblockLanes"),
     ("a name of the kit that the notation lacks", "tools/edition/notation.py", '"_||_": "one or both",', "", "page of notation, tools/edition/notation.py: mathlib.Core.Bool._||_"),
     ("an empty list that the notation lacks", "tools/edition/notation.py", '"[]": "the empty list",', "", "mathlib.Core.List.[]"),
     ("what docs/READING.md names and nobody prints", "docs/READING.md", "| `firstReader` |", "| `firstReader`, `secondReader` |", "neither edition: secondReader"),

@@ -151,7 +151,7 @@ class Comparison:
             self.same(prose_name, a, self.repo.list(*spec), an, spec[0])
             self.same(prose_name, a, self.repo.const(*source), an, source[0])
             if prose_name == "coeff_bands":
-                after, fast = [33 * b for b in a[1:]] + [0], "crates/coefficients/src/fast.rt"
+                after, fast = [33 * b for b in a[1:]] + [0], "crates/residual/src/fast.rt"
                 self.same("the band after each position, times 33", after, self.repo.const(fast, "BANDS_AFTER"), an, fast)
         z, zn = self.rfc("zigzag", 16, self.code)
         self.same("zigzag (printed in section 20 alone)", z, self.repo.list(BLOCK, "zigzag"), zn, BLOCK)

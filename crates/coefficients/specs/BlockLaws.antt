@@ -5,7 +5,7 @@ use mathlib.Core.Bool.{Bool, true, false, _&&_}
 use mathlib.Core.List.{List, []}
 use mathlib.Core.Logic.{_⊎_, inl, inr, ⊎-elim}
 use mathlib.Core.Path.{_≡_, refl, sym, _∙_, ap}
-use lib.Dec.{ltb, leb, lit<}
+use lib.Dec.{ltb, leb, eqb, lit<}
 use lib.IntN.{ℤ, pos, negsuc}
 use lib.ListN.{length, getD, set, length-set, List·getD-eq-default}
 use borrow.Author.Tests.{ltb-true, leb-true, lt-ltb, le-ltb, le-leb, eq-eqb, ne-eqb}
@@ -15,15 +15,20 @@ use Rattle.numbers.specs.Lists.{length-build, getD-build}
 use Rattle.numbers.specs.Parts.{le-true}
 use Rattle.numbers.specs.Tables.{allOf, allBelow, all-of-any, all-below}
 use Rattle.numbers.specs.Tests.{lt-or, eq-or, not-first, both-left, both-right, both-true}
+use Rattle.numbers.specs.Wrap.{wrapZ}
 use Rattle.numbers.specs.WrapLaws.{wrap-in}
 use Rattle.reader.specs.Boolean.{Given, given, missing, validOf}
 use Rattle.reader.specs.BooleanLaws.{Bytes, Valid, valid-test}
 use Rattle.header.specs.Entries.{coefficientProbability, entryCount, probabilityCount}
 use Rattle.header.specs.Header.{entry, probabilityOf}
 use Rattle.header.specs.HeaderLaws.{probability-below}
+use Rattle.reader.specs.Counts as counts
+use Rattle.reader.specs.Counts.{Costs}
+use Rattle.reader.specs.CountsLaws.{costs-bind, extra-costs}
 use Rattle.reader.specs.ExtraLaws.{extra-within}
-use Rattle.reader.specs.Reading.{run, Within, ends}
+use Rattle.reader.specs.Reading.{Reading, done, ask, symbol, _>>=_, run, Within, ends}
 use Rattle.reader.specs.ReadingLaws.{within-symbol, within-bind, within-more}
+use Rattle.reader.specs.Token.{token}
 use Rattle.reader.specs.TokenLaws.{eleven-at, token-fits}
 use Rattle.reader.specs.Trace.{count}
 use Rattle.reader.specs.declared.boolean.Reader.{Reader}
@@ -106,6 +111,74 @@ module _ (table : List ℕ) (kind q0 q1 : ℕ) (y : Bytes table) (first : ℕ) w
   -- at most 19 symbols a position: 7 of the tree, 11 extra bits, 1 sign
   pub block-within : (ctx : ℕ) (values : List ℤ) → first ≤ 1 → Sixteen values → Within (Fine first) (19 * (16 - first)) (block table kind q0 q1 ctx first values)
   block-within ctx values l x = within-more (omega arith) (from-within (16 - first) first ctx false values (omega arith) (omega arith) x)
+
+-- ---- a number
+pub magnitude-small : (t : ℕ) → t < 6 → done (t - 1) ≡ magnitude t
+unfolding magnitude
+magnitude-small t h = rw (lt-ltb t 6 h, magnitude)
+
+-- the symbols of a number: as many as its category has probabilities
+unfoldable pub bitsOf : ℕ → ℕ
+bitsOf t = elim (ltb t 6) [ true ↦ 0 | false ↦ length (getD categories (t - 6) []) ]
+
+pub magnitude-costs : (t : ℕ) → Costs (λ (v : ℕ). bitsOf t) 0 (magnitude t)
+unfolding magnitude bitsOf
+magnitude-costs t = ⊎-elim (few t) (many t) (lt-or t 6)
+  where
+    few : (t : ℕ) → t < 6 → Costs (λ (v : ℕ). bitsOf t) 0 (magnitude t)
+    few t k =
+        let e : bitsOf t ≡ 0 = rw (lt-ltb t 6 k, bitsOf) in
+        let f : magnitude t ≡ done (t - 1) = rw (lt-ltb t 6 k, magnitude) in
+        rw (e, f) (counts.ends refl)
+
+    many : (t : ℕ) → 6 ≤ t → Costs (λ (v : ℕ). bitsOf t) 0 (magnitude t)
+    many t k =
+        let e : bitsOf t ≡ length (getD categories (t - 6) []) = rw (le-ltb t 6 k, bitsOf) in
+        let f : magnitude t ≡ category (getD bases (t - 6) 0) (getD categories (t - 6) []) = rw (le-ltb t 6 k, magnitude) in
+        rw (e, f) (costs-bind (extra-costs (getD categories (t - 6) [])) (λ v. counts.ends refl))
+
+-- ---- what follows a token
+then-then : {A B C : Type 0} (m : Reading A) (f : A → Reading B) (g : B → Reading C) → ((m >>= f) >>= g) ≡ (m >>= (λ a. f a >>= g))
+then-then (done a) f g = refl
+then-then (ask p k) f g = λ i. ask p (λ b. then-then (k b) f g i)
+
+module _ (table : List ℕ) (kind q0 q1 left n : ℕ) (values : List ℤ) where
+  -- what follows the token t
+  unfoldable pub restOf : ℕ → Reading Coefficients
+  restOf t =
+      elim (eqb t 0) [
+        | true ↦ done (record { end = n; values = values })
+        | false ↦ elim (eqb t 1) [
+          | true ↦ blockFrom table kind q0 q1 left (n + 1) 0 true values
+          | false ↦ signedValue t (quantizerAt n q0 q1) >>= (λ v. blockFrom table kind q0 q1 left (n + 1) (contextAfter t) false (set values (getD zigzag n 0) v))
+        ]
+      ]
+
+  -- what follows a number and its context: its sign
+  abbrev pub signOn : ℕ → ℕ → Reading Coefficients
+  signOn ctx v = symbol 128 >>= (λ negative. blockFrom table kind q0 q1 left (n + 1) ctx false (set values (getD zigzag n 0) (wrapZ (signOf negative (v * quantizerAt n q0 q1)))))
+
+  pub block-asks : (ctx : ℕ) (z : Bool) → blockFrom table kind q0 q1 (suc left) n ctx z values ≡ (token (probabilitiesAt table kind n ctx) z >>= restOf)
+  unfolding blockFrom restOf
+  block-asks ctx z = refl
+
+  pub rest-ends : restOf 0 ≡ done (record { end = n; values = values })
+  unfolding restOf
+  rest-ends = refl
+
+  pub rest-zero : restOf 1 ≡ blockFrom table kind q0 q1 left (n + 1) 0 true values
+  unfolding restOf
+  rest-zero = refl
+
+  pub rest-number : (t : ℕ) → 2 ≤ t → restOf t ≡ (magnitude t >>= signOn (contextAfter t))
+  unfolding restOf signedValue
+  rest-number t h =
+      rw (ne-eqb t 0 (λ g. omega arith), ne-eqb t 1 (λ g. omega arith), restOf)
+      (then-then (magnitude t) (λ v. symbol 128 >>= (λ negative. done (wrapZ (signOf negative (v * quantizerAt n q0 q1))))) (λ v. blockFrom table kind q0 q1 left (n + 1) (contextAfter t) false (set values (getD zigzag n 0) v)))
+
+pub block-none : (table : List ℕ) (kind q0 q1 n ctx : ℕ) (z : Bool) (values : List ℤ) → blockFrom table kind q0 q1 0 n ctx z values ≡ done (record { end = n; values = values })
+unfolding blockFrom
+block-none table kind q0 q1 n ctx z values = refl
 
 -- ---- the public call of a block
 -- what it asks of its arguments besides the reader

@@ -1,6 +1,4 @@
--- tokens: definitions, the steps of a block, laws that callers cite; the same over a wide reader
+-- tokens: definitions, the steps of a block, laws that callers cite
 pub mod Block
 pub mod BlockSteps
 pub mod BlockLaws
-pub mod Fast
-pub mod FastLaws

@@ -34,7 +34,7 @@ ghost use Rattle.coefficients.specs.Block.{blockByHeaderOf, tableOf, blo
 // The band of a position, and where its number stands in the block.
 pub const BANDS: [u8; 16] = [0, 1, 2, 3, 6, 4, 5, 6, 6, 6, 6, 6, 6, 6, 6, 7];
 
-pub(crate) const ZIGZAG: [u8; 16] = [0, 1, 4, 8, 5, 2, 3, 6, 9, 12, 13, 10, 7, 11, 14, 15];
+pub const ZIGZAG: [u8; 16] = [0, 1, 4, 8, 5, 2, 3, 6, 9, 12, 13, 10, 7, 11, 14, 15];
 
 // The probabilities of a category's extra bits: the RFC's Pcat1 to Pcat6.
 pub const CAT1: [u8; 1] = [159];
@@ -177,7 +177,7 @@ fn read_signed(s: &[u8], r: Reader, token: u8, q: u16) -> SignedRead
 // ---- a block
 
 // What a table of the sixteen positions has for one of them.
-pub(crate) fn entry(table: &[u8; 16], n: usize) -> usize
+fn entry(table: &[u8; 16], n: usize) -> usize
     requires { ⌜ n < 16 ⌝ }
     requires { ⌜ ((k : ℕ) → getD (now table) k 0 < 16) ⌝ }
     ensures { λ r. ⌜ (r ≡ getD (now (table .entry)) n 0) × (r < 16) ⌝ }
@@ -194,7 +194,7 @@ fn place(table: &[u8; 16], kind: usize, n: usize, ctx: usize) -> usize
     ((kind * 8 + entry(table, n)) * 3 + ctx) * 11
 }
 
-pub(crate) fn quantizer(n: usize, q0: u16, q1: u16) -> u16
+fn quantizer(n: usize, q0: u16, q1: u16) -> u16
     ensures { λ r. ⌜ r ≡ quantizerAt n q0 q1 ⌝ }
 {
     if n == 0 { q0 } else { q1 }
@@ -318,7 +318,7 @@ pub fn dequant(s: &[u8], r: Reader, token: u8, q: u16) -> Signed
     signed.answer
 }
 
-pub(crate) fn arguments(table: &[u8], kind: usize, ctx: usize, first: usize) -> bool
+fn arguments(table: &[u8], kind: usize, ctx: usize, first: usize) -> bool
     ensures { λ r. ⌜ r ≡ blockArguments (now (table .entry)) kind ctx first ⌝ }
 {
     (table.len() == PROBABILITY_COUNT) & ((kind < 4) & ((ctx < 3) & (first <= 1)))

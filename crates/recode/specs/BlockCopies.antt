@@ -17,7 +17,7 @@ use Rattle.reader.specs.declared.boolean.Reader.{Reader}
 use Rattle.reader.specs.Reading.{Reading, done, _>>=_}
 use Rattle.reader.specs.Token.{token, elevenAt}
 use Rattle.coefficients.specs.Block.{Coefficients, block, blockFrom, probabilityPlace, signedValue, quantizerAt, contextAfter, zigzag}
-use Rattle.coefficients.specs.FastLaws.{restOf, block-asks, block-none, rest-ends, rest-zero}
+use Rattle.coefficients.specs.BlockLaws.{restOf, block-asks, block-none, rest-ends, rest-zero}
 use Rattle.residual.specs.Residual.{Model, Flags, initial, cleared, lumaKind, residualOf, coded}
 use Rattle.residual.specs.Quick.{kindAt, placeAt, quickPart, partsFrom}
 use Rattle.residual.specs.QuickLaws.{residual-parts, oldAt, afterAt, part-coded, kind-later}

@@ -4,5 +4,11 @@ pub mod SquaresLaws
 pub mod ResidualSteps
 pub mod ResidualLaws
 pub mod ResidualSource
+pub mod Symbols
+pub mod SymbolsLaws
+pub mod Fast
+pub mod FastLaws
 pub mod Quick
 pub mod QuickLaws
+pub mod Groups
+pub mod GroupsLaws

@@ -1,10 +1,10 @@
 -- A macroblock over a wide reader, part after part: part 0 is the second-order block, part i + 1 is block i. Their numbers stand in one list:
 -- the 384 of the macroblock by lanes, as they are handed over, then the sixteen of the second-order block.
 use Prim.Native.Nat.{ℕ, zero, suc, _+_, _*_, _/_, _%_}
-use mathlib.Core.Bool.{Bool, true, false, _&&_}
+use mathlib.Core.Bool.{Bool, true, false}
 use mathlib.Core.List.{List}
 use mathlib.Core.Path.{_≡_}
-use lib.Dec.{ltb, leb}
+use lib.Dec.{ltb}
 use lib.IntN.{ℤ, pos}
 use lib.ListN.{getD}
 use Rattle.numbers.specs.Lists.{build}
@@ -12,13 +12,12 @@ use Rattle.reader.specs.Reading.{Reading, done, _>>=_}
 use Rattle.reader.specs.Trace.{count}
 use Rattle.reader.specs.declared.boolean.Reader.{Reader}
 use Rattle.header.specs.declared.quantizers.Factors.{Factors}
-use Rattle.transform.specs.Transform.{transformOf}
-use Rattle.residual.specs.Residual.{Model, secondKind, kindOf, secondPlace, coordinates, sixteenAt, stored, zeroOf, second, advance, residualOf, residualAnswer}
+use Rattle.residual.specs.Residual.{Model, secondKind, kindOf, secondPlace, coordinates, second, advance, residualOf, residualAnswer}
 use Rattle.residual.specs.declared.blocks.Kind.{Kind}
 use Rattle.residual.specs.declared.contexts.FlagsAt.{FlagsAt}
 use Rattle.residual.specs.declared.quick.Quick.{Quick}
 use Rattle.residual.specs.declared.quick.Passing.{Passing}
-use Rattle.coefficients.specs.declared.fast.Spots.{Spots}
+use Rattle.residual.specs.declared.fast.Spots.{Spots}
 use Rattle.wide.specs.declared.wide.Wide.{Wide}
 
 -- what goes from part to part, and the flags
@@ -80,16 +79,6 @@ module _ (table : List ℕ) (f : Factors) (small : Bool) where
   partsFrom (suc n) j m = do
     next ← quickPart j m
     partsFrom n (suc j) next
-
--- ---- what a part that was read leaves
--- the transform of a second-order block gives the first coefficient of each luma block: lane 0
-abbrev pub settledOf : (j : ℕ) → List ℤ → List ℤ
-settledOf zero flat = stored flat 0 (transformOf (sixteenAt flat 384) true .samples)
-settledOf (suc i) flat = flat
-
-abbrev pub emptyAfter : (j end : ℕ) → Bool → List ℤ → Bool
-emptyAfter zero end empty flat = empty
-emptyAfter (suc i) end empty flat = empty && (leb end 1 && zeroOf (getD flat (blockSpots i .at) (pos 0)))
 
 -- ---- the whole: where the end was not passed it is the call's answer and the count of M-103; else nothing is written
 abbrev pub QuickWhere : Bool → List ℕ → Reader → List ℕ → Factors → (small : Bool) → (top left : List ℕ) → (old new : List ℤ) → Quick → Type 0

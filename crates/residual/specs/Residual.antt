@@ -10,6 +10,7 @@ use lib.ListN.{length, getD, set, replicate}
 use Rattle.header.specs.Entries.{probabilityCount}
 use Rattle.numbers.specs.Flags.{bitOf}
 use Rattle.numbers.specs.In.{Each}
+use Rattle.numbers.specs.Lists.{build}
 use Rattle.numbers.specs.Runs.{placed}
 use Rattle.numbers.specs.Tables.{allBelow}
 use Rattle.reader.specs.Boolean.{Given, given, missing, validOf, noReader}
@@ -19,8 +20,6 @@ use Rattle.reader.specs.Trace.{count}
 use Rattle.reader.specs.declared.boolean.Reader.{Reader}
 use Rattle.header.specs.Quantizers.{factorsOf}
 use Rattle.header.specs.declared.quantizers.Factors.{Factors}
-unfoldable pub use Rattle.coefficients.specs.Fast.{sixteenAt}
-pub use Rattle.coefficients.specs.Fast.{stored}
 use Rattle.coefficients.specs.Block.{Coefficients, block, headerTable}
 use Rattle.transform.specs.Transform.{samplesOf}
 use Rattle.transform.specs.Lanes.{macroblockLanes}
@@ -52,6 +51,14 @@ pub record ModelInRange (m : Model) : Type 0 where
 -- before the first block
 abbrev pub initial : (top left : List ℕ) → Model
 initial top left = record { top = top; left = left; coefficients = replicate 384 (pos 0); empty = true }
+
+-- ---- a block's sixteen coefficients, from a place on
+unfoldable pub sixteenAt : List ℤ → (at : ℕ) → List ℤ
+sixteenAt l at = build 16 (λ j. getD l (at + j) (pos 0))
+
+-- sixteen others put there
+abbrev pub stored : List ℤ → (at : ℕ) → (c : List ℤ) → List ℤ
+stored l at c = placed l at (λ j. getD c j (pos 0)) 16
 
 -- ---- where a block's flags are (section 13.3, 3573-3582 and 3614-3626): its column's above, its row's to the left
 unfoldable pub coordinates : (i : ℕ) → FlagsAt

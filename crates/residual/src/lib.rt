@@ -26,8 +26,12 @@ ghost use Rattle.residual.specs.Residual.{residualReads, residualByHeade
 pub mod answers;
 mod blocks;
 pub mod contexts;
+mod fast;
 mod flat;
+mod norms;
 mod quick;
+mod symbols;
+mod walk;
 
 // Arguments in range, one block after the other. The coefficients reach `out` only where all of them were read.
 fn read_residual(

@@ -8,11 +8,11 @@ use crate::blocks::Kind;
 use crate::blocks::kind_of;
 use crate::blocks::second_kind;
 use crate::blocks::zero;
-use crate::contexts::FlagsAt;
-use crate::contexts::location;
+use crate::fast::Spots;
+use crate::fast::places_after;
+use crate::fast::read_block;
 use crate::flat::hand_over;
-use coefficients::fast::Spots;
-use coefficients::fast::coded_block;
+use crate::norms::norms;
 use header::quantizers::Factors;
 use reader::boolean::Reader;
 use transform::transform;
@@ -22,7 +22,7 @@ use wide::wide::narrow;
 use wide::wide::widen;
 ghost use mathlib.Core.Path.{_≡_};
 ghost use mathlib.Core.Bool.{true, false};
-ghost use Prim.Native.Nat.{_<_};
+ghost use Prim.Native.Nat.{_+_, _*_, _≤_, _<_, _^_};
 ghost use lib.IntN.{pos, negsuc};
 ghost use lib.ListN.{length, replicate};
 ghost use Rattle.header.specs.Entries.{probabilityCount};
@@ -31,11 +31,13 @@ ghost use Rattle.reader.specs.BooleanLaws.{Valid};
 ghost use Rattle.wide.specs.Counted.{counted};
 ghost use Rattle.wide.specs.WideRuns.{WideReads};
 ghost use Rattle.residual.specs.Residual.{Flags, sixteenAt, stored, residualOf};
-ghost use Rattle.residual.specs.Quick.{widerOf, modelAt, kindAt, placeAt, spotsAt, settledOf, emptyAfter, QuickWhere};
-ghost use Rattle.residual.specs.QuickLaws.{Ready, Parted};
+ghost use Rattle.residual.specs.Symbols.{normsOf, Ranged};
+ghost use Rattle.residual.specs.FastLaws.{placesAfter};
+ghost use Rattle.residual.specs.Quick.{widerOf, modelAt, QuickWhere};
+ghost use Rattle.residual.specs.Groups.{groupOf, GroupFits, settledOf, noneAfter, zerosAt, Ready, Passed};
 
 // What goes from block to block. The flags stand beside it, and the numbers: the 384 of the macroblock, then sixteen of the second-order
-// block.
+// block. On the way `empty` is whether no block ended past 1: first coefficients are looked at once, behind the last.
 pub(crate) struct Passing {
     pub next: Wide,
     pub reads: u64,
@@ -46,46 +48,6 @@ pub(crate) struct Passing {
 pub(crate) struct Quick {
     pub fine: bool,
     pub read: ResidualRead,
-}
-
-// Part 0 is the second-order block, part i + 1 is block i.
-fn kind_at(f: Factors, small: bool, j: usize) -> Kind
-    ensures { λ k. ⌜ k ≡ kindAt f small j ⌝ }
-{
-    if j == 0 {
-        return second_kind(f);
-    }
-    kind_of(f, small, j - 1)
-}
-
-fn place_at(j: usize) -> FlagsAt
-    requires { ⌜ j < 25 ⌝ }
-    ensures { λ p. ⌜ (p ≡ placeAt j) × ((p .x < 9) × (p .y < 9)) ⌝ }
-{
-    if j == 0 {
-        return FlagsAt { x: 8, y: 8 };
-    }
-    location(j - 1)
-}
-
-// Where the numbers of a part go: by lanes, sixteen of luma, then eight of chroma, then those of the second-order block.
-fn spots_at(j: usize) -> Spots
-    requires { ⌜ j < 25 ⌝ }
-    ensures { λ p. ⌜ (p ≡ spotsAt j) × (p .at < 400) ⌝ }
-{
-    if j == 0 {
-        return Spots { at: 384, step: 1 };
-    }
-    if j < 17 {
-        return Spots {
-            at: j - 1,
-            step: 16,
-        };
-    }
-    Spots {
-        at: 239 + j,
-        step: 8,
-    }
 }
 
 // The numbers of the second-order block.
@@ -125,62 +87,152 @@ fn spread_second(flat: &mut [i16])
     set_firsts(flat, &dc);
 }
 
-// What a part that was read leaves: whether the macroblock is still empty.
-fn settle(flat: &mut [i16], j: usize, end: usize, empty: bool) -> bool
-    requires { ⌜ (length (now flat) ≡ 400) × (j < 25) ⌝ }
-    ensures { λ b. ⌜ (now (flat .exit) ≡ settledOf j (now (flat .entry))) × (b ≡ emptyAfter j end empty (now (flat .entry))) ⌝ }
-{
-    if j == 0 {
-        spread_second(flat);
-        return empty;
-    }
-    let at = spots_at(j).at;
-    empty & ((end <= 1) & zero(flat[at] as i32))
+// The blocks of one kind and plane are a square: its side, the first of its flags on either edge, where the numbers of its first block
+// go (those of each block after it one further), and how far apart those of a block are.
+pub(crate) struct Group {
+    pub kind: Kind,
+    pub side: usize,
+    pub flag: usize,
+    pub at: usize,
+    pub step: usize,
 }
 
-// A part in the context of its two flags.
-fn part(
+// Group 0 is the second-order block, 1 luma, 2 U, 3 V.
+fn group_at(f: Factors, small: bool, g: usize) -> Group
+    requires { ⌜ g < 4 ⌝ }
+    ensures { λ k. ⌜ (k ≡ groupOf f small g) × GroupFits k ⌝ }
+{
+    if g == 0 {
+        let k = second_kind(f);
+        return Group {
+            kind: k,
+            side: 1,
+            flag: 8,
+            at: 384,
+            step: 1,
+        };
+    }
+    if g == 1 {
+        let k = kind_of(f, small, 0);
+        return Group {
+            kind: k,
+            side: 4,
+            flag: 0,
+            at: 0,
+            step: 16,
+        };
+    }
+    let k = kind_of(f, small, 16);
+    Group {
+        kind: k,
+        side: 2,
+        flag: 2 * g,
+        at: 248 + 4 * g,
+        step: 8,
+    }
+}
+
+// A row of a group. The flag to the left goes from block to block, and is stored behind the last. Here is the one call of the block reader:
+// with two the compiler would no longer draw it in.
+fn row(
     s: &[u8],
+    norms: &[u8; 512],
     table: &[u8],
-    f: Factors,
-    small: bool,
+    places: &[u16; 16],
+    k: Group,
     m: Passing,
-    j: usize,
+    y: usize,
     top: &mut [u8; 9],
     left: &mut [u8; 9],
     flat: &mut [i16],
 ) -> Passing
-    requires { ⌜ Ready (now table) (widerOf m (now top) (now left)) j (now flat) × (j < 25) ⌝ }
-    ensures { λ q. ⌜ Parted (now (s .entry)) (now (table .entry)) f small (widerOf m (now (top .entry)) (now (left .entry))) j
-        (now (flat .entry)) (widerOf q (now (top .exit)) (now (left .exit))) (now (flat .exit)) ⌝ }
+    requires { ⌜ GroupFits k × ((y < k .side) × (m .reads < 2 ^ 32)) ⌝ }
+    requires { ⌜ Ready (now table) (widerOf m (now top) (now left)) (now flat) ⌝ }
+    requires { ⌜ (now norms ≡ normsOf) × (now places ≡ placesAfter (k .kind .kind)) ⌝ }
+    ensures { λ q. ⌜ Passed (now (s .entry)) (now (table .entry)) k
+        (k .side * y) (widerOf m (now (top .entry)) (now (left .entry))) (now (flat .entry))
+        (k .side * (y + 1)) (widerOf q (now (top .exit)) (now (left .exit))) (now (flat .exit)) ⌝ }
 {
-    let k = kind_at(f, small, j);
-    let p = place_at(j);
-    let x = p.x;
-    let y = p.y;
-    let ctx = (top[x] + left[y]) as usize;
-    let b = coded_block(
-        s,
-        m.next,
-        table,
-        k.kind,
-        ctx,
-        k.first,
-        k.q0,
-        k.q1,
-        flat,
-        spots_at(j),
-    );
-    let empty = settle(flat, j, b.end, m.empty);
-    let on = k.first < b.end;
-    top[x] = on as u8;
-    left[y] = on as u8;
-    let next = b.next;
+    let kind = k.kind;
+    let at = k.at + k.side * y;
+    let mut next = m.next;
+    let mut reads = m.reads;
+    let mut empty = m.empty;
+    let mut beside = left[k.flag + y];
+    let mut x = 0;
+    while x < k.side {
+        let ctx = (top[k.flag + x] + beside) as usize;
+        let spots = Spots {
+            at: at + x,
+            step: k.step,
+        };
+        let b = read_block(s, next, norms, table, places, kind, ctx, flat, spots);
+        beside = (kind.first < b.end) as u8;
+        top[k.flag + x] = beside;
+        empty = empty & (b.end <= 1);
+        reads = reads + b.reads;
+        next = b.next;
+        x = x + 1;
+    }
+    left[k.flag + y] = beside;
     Passing {
         next: next,
-        reads: m.reads + b.reads,
+        reads: reads,
         empty: empty,
     }
+}
+
+fn rows(
+    s: &[u8],
+    norms: &[u8; 512],
+    table: &[u8],
+    k: Group,
+    start: Passing,
+    top: &mut [u8; 9],
+    left: &mut [u8; 9],
+    flat: &mut [i16],
+) -> Passing
+    requires { ⌜ GroupFits k × (start .reads < 2 ^ 31) ⌝ }
+    requires { ⌜ Ready (now table) (widerOf start (now top) (now left)) (now flat) ⌝ }
+    requires { ⌜ now norms ≡ normsOf ⌝ }
+    ensures { λ q. ⌜ Passed (now (s .entry)) (now (table .entry)) k
+        0 (widerOf start (now (top .entry)) (now (left .entry))) (now (flat .entry))
+        (k .side * k .side) (widerOf q (now (top .exit)) (now (left .exit))) (now (flat .exit)) ⌝ }
+{
+    let places = places_after(k.kind.kind);
+    let mut m = start;
+    let mut y = 0;
+    while y < k.side {
+        m = row(s, norms, table, &places, k, m, y, top, left, flat);
+        y = y + 1;
+    }
+    m
+}
+
+// Behind a group: the second-order block has no say in whether the macroblock is empty.
+fn settle(flat: &mut [i16], g: usize, none: bool) -> bool
+    requires { ⌜ length (now flat) ≡ 400 ⌝ }
+    ensures { λ b. ⌜ (now (flat .exit) ≡ settledOf g (now (flat .entry))) × (b ≡ noneAfter g none) ⌝ }
+{
+    if g == 0 {
+        spread_second(flat);
+        return true;
+    }
+    none
+}
+
+// Whether so many numbers from a place on are 0.
+fn zeros(flat: &[i16], at: usize, n: usize) -> bool
+    requires { ⌜ at + n ≤ length (now flat) ⌝ }
+    ensures { λ b. ⌜ b ≡ zerosAt (now (flat .entry)) at n ⌝ }
+{
+    let mut all = true;
+    let mut i = 0;
+    while i < n {
+        all = zero(flat[at + i] as i32) & all;
+        i = i + 1;
+    }
+    all
 }
 
 // All parts, from numbers that are zeros. Small modes have no second-order block.
@@ -194,20 +246,34 @@ fn parts(
     left: &mut [u8; 9],
     flat: &mut [i16],
 ) -> Passing
-    requires { ⌜ (length (now table) ≡ probabilityCount) × (now flat ≡ replicate 400 (pos 0)) ⌝ }
+    requires { ⌜ (length (now table) ≡ probabilityCount) × ((now flat ≡ replicate 400 (pos 0)) × Ranged (start .next)) ⌝ }
     requires { ⌜ (Flags (now top) × Flags (now left)) × ((start .reads ≡ 0) × (start .empty ≡ true)) ⌝ }
     ensures { λ q. ⌜ WideReads (now (s .entry)) 0 30400
         (counted 0 (residualOf (now (table .entry)) f small false (now (top .entry)) (now (left .entry)))) (start .next)
         (modelAt (widerOf q (now (top .exit)) (now (left .exit))) (now (flat .exit)), q .reads) (q .next)
         × (length (now (flat .exit)) ≡ 400) ⌝ }
 {
+    let norms = norms();
     let mut m = start;
-    let mut j = small as usize;
-    while j < 25 {
-        m = part(s, table, f, small, m, j, top, left, flat);
-        j = j + 1;
+    let mut g = small as usize;
+    while g < 4 {
+        let k = group_at(f, small, g);
+        let q = rows(s, &norms, table, k, m, top, left, flat);
+        let empty = settle(flat, g, q.empty);
+        let next = q.next;
+        m = Passing {
+            next: next,
+            reads: q.reads,
+            empty: empty,
+        };
+        g = g + 1;
     }
-    m
+    let next = m.next;
+    Passing {
+        next: next,
+        reads: m.reads,
+        empty: m.empty & (zeros(flat, 256, 8) & zeros(flat, 0, 16)),
+    }
 }
 
 // The macroblock. Its coefficients reach `out` only where its end was not passed.

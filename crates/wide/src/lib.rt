@@ -1,5 +1,3 @@
-// The boolean decoder of RFC 6386, section 7.3, for many symbols in a row, with a 64-bit window and zero padding (wide), and the
-// extra bits of a number over it (extra). It refuses nothing. Its caller looks once, at the end, whether the partition's end was passed
-// (`inside`), and where it was reads again with `reader`.
-pub mod extra;
+// The boolean decoder of RFC 6386, section 7.3, for many symbols in a row, with a 64-bit window and zero padding. It refuses nothing: its
+// caller checks once, at the end, whether it ran past the partition's end (`inside`), and if it did reads again with `reader`.
 pub mod wide;

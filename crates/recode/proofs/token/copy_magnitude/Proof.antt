@@ -1,4 +1,4 @@
-use Rattle.coefficients.specs.FastLaws.{magnitude-small}
+use Rattle.coefficients.specs.BlockLaws.{magnitude-small}
 use Rattle.recode.specs.TokenCopies.{magnitude-none}
 use borrow.Author.Needs.{needs}
 use Rattle.recode.proofs.token.copy_magnitude.Statement.{statement}

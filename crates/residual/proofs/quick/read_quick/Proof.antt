@@ -1,6 +1,7 @@
 use native.Mathlib.Omega.{arith}
-use mathlib.Core.Path.{sym, _∙_}
+use mathlib.Core.Path.{refl, sym, _∙_}
 use borrow.Author.Tests.{not-false}
+use Rattle.residual.specs.SymbolsLaws.{ranged-widen}
 use Rattle.residual.specs.Quick.{widerOf}
 use Rattle.residual.specs.QuickLaws.{quick-fine}
 use borrow.Author.Needs.{needs}
@@ -14,7 +15,9 @@ slice-aggregate-parts : tie.Need-slice-aggregate-parts
 slice-aggregate-parts c = search needs
 
 parts-requires : tie.Need-parts-requires
-parts-requires c κs = search needs
+parts-requires c κs =
+    let p = c .before .before .before .before .before .before .pre in
+    ((p .0 .1, (refl, ranged-widen (c .before .before .before .widen .ensures) (p .0 .0))), (p .1 .0, (refl, refl)))
 
 inside-requires : tie.Need-inside-requires
 inside-requires c κs = search needs
