@@ -1,5 +1,4 @@
 -- The tags of the answers that this crate's code takes apart.
-use Prim.Native.Nat.{ℕ}
 use mathlib.Core.List.{List}
 use mathlib.Core.Logic.{_⊎_}
 use mathlib.Core.Path.{_≡_, refl}

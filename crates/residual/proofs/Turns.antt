@@ -29,7 +29,8 @@ use Rattle.transform.specs.declared.Transformed.{Transformed}
 use Rattle.transform.specs.Lanes.{macroblockLanes}
 use Rattle.residual.specs.Residual.{Model, Flags, ModelInRange, initial, coordinates, secondKind, kindOf, zeroOf, coded, spread, secondPlace, second, sixteenAt, stored, advance, blocksFrom, dcStage, cleared, residualOf, noResidual, toResidualCalled, residualAnswer}
 use Rattle.residual.specs.ResidualLaws.{kind-in, initial-whole, zeros-sixteen, sixteen-in, sixteen-fit, second-within, advance-within, blocks-few, residual-within}
-use Rattle.residual.specs.ResidualSteps.{modelOf, turnOf, Part, BlockPart, Held, coded-at, second-missing, second-ended, advance-missing, advance-ended, blocks-none, blocks-missing, blocks-next, residual-skip, residual-missing, residual-next, call-missing, call-handed}
+use Rattle.residual.specs.Parts.{modelOf, turnOf, Part, BlockPart, Held}
+use Rattle.residual.specs.ResidualSteps.{coded-at, second-missing, second-ended, advance-missing, advance-ended, blocks-none, blocks-missing, blocks-next, residual-skip, residual-missing, residual-next, call-missing, call-handed}
 use Rattle.residual.specs.declared.answers.Ended.the-variants as E
 use Rattle.residual.specs.declared.answers.ResidualRead.{ResidualRead}
 use Rattle.residual.specs.declared.blocks.Kind.{Kind}

@@ -1,6 +1,7 @@
 -- the residual of a macroblock: definitions, how one part follows another, laws that callers cite, and the source's own definitions
 pub mod Residual
 pub mod SquaresLaws
+pub mod Parts
 pub mod ResidualSteps
 pub mod ResidualLaws
 pub mod ResidualSource

@@ -18,7 +18,7 @@ use Rattle.reader.specs.Boolean.{Given, given, missing, validOf}
 use Rattle.reader.specs.BooleanLaws.{Valid}
 use Rattle.header.specs.Header.{headerOf}
 use Rattle.header.specs.HeaderLaws.{header-length}
-use Rattle.reader.specs.Reading.{Reading, run}
+use Rattle.reader.specs.Reading.{run}
 use Rattle.reader.specs.Trace.{count}
 use Rattle.reader.specs.Counts.{Took}
 use Rattle.reader.specs.CountsLaws.{took-done, took-stops, took-then, took-ends}
@@ -28,7 +28,7 @@ use Rattle.header.specs.QuantizersLaws.{segment-ready, segment-refused}
 use Rattle.header.specs.declared.quantizers.Factors.{Factors}
 use Rattle.header.specs.declared.quantizers.Quantizers.{Quantizers}
 use Rattle.header.specs.declared.quantizers.Quantizers.the-variants as Q
-use Rattle.coefficients.specs.BlockLaws.{Sixteen, Good, fromBlock, decoded, decode-reads}
+use Rattle.coefficients.specs.BlockLaws.{Sixteen, Good, decoded, decode-reads}
 use Rattle.coefficients.specs.BlockSteps.{table-done}
 use Rattle.coefficients.specs.Block.{Coefficients, block, headerTable, tableOf}
 use Rattle.coefficients.specs.Block as tokens
@@ -36,37 +36,14 @@ use Rattle.coefficients.specs.declared.block.BlockRead.{BlockRead}
 use Rattle.coefficients.specs.declared.block.Table.{Table}
 use Rattle.transform.specs.Transform.{samplesOf}
 use Rattle.transform.specs.Lanes.{macroblockLanes}
-use Rattle.residual.specs.Residual.{Model, Flags, ModelInRange, initial, coordinates, secondKind, kindOf, coded, flagged, spread, secondPlace, second, sixteenAt, stored, emptyOf, advance, blocksFrom, dcStage, cleared, residualOf, noResidual, toResidualCalled, flagsOf, residualArguments, residualAnswer, residualCallOf, residualByHeaderOf, residualReads, residualByHeaderReads}
+use Rattle.residual.specs.Parts.{modelOf, BlockPart}
+use Rattle.residual.specs.Residual.{Model, Flags, initial, coordinates, secondKind, kindOf, coded, flagged, spread, secondPlace, second, sixteenAt, stored, emptyOf, advance, blocksFrom, dcStage, cleared, residualOf, noResidual, toResidualCalled, flagsOf, residualArguments, residualAnswer, residualCallOf, residualByHeaderOf, residualReads, residualByHeaderReads}
 use Rattle.residual.specs.declared.answers.Ended.the-variants as E
 use Rattle.residual.specs.declared.answers.Residual.{Residual}
 use Rattle.residual.specs.declared.answers.ResidualRead.{ResidualRead}
 use Rattle.residual.specs.declared.blocks.Kind.{Kind}
 use Rattle.residual.specs.declared.blocks.State.{State}
-use Rattle.residual.specs.declared.blocks.Turn.{Turn}
 use Rattle.residual.specs.declared.contexts.FlagsAt.{FlagsAt}
-
--- the code's state with the coefficients beside it
-abbrev pub modelOf : State → List ℤ → Model
-modelOf m l = record { top = m .top; left = m .left; coefficients = l; empty = m .empty }
-
--- what a part that ended, or not, gives
-abbrev pub turnOf : Bool → State → List ℤ → Given Model
-turnOf true m l = given (modelOf m l) (m .reader)
-turnOf false m l = missing
-
--- a part as the code read it: what it gave, and how many symbols it took
-abbrev pub Part : Reading Model → List ℕ → Reader → Turn → List ℤ → Type 0
-Part g s r t flat = Took g s r (turnOf (t .ended) (t .state) flat) (t .reads)
-
--- a block, the same
-pub record BlockPart (table : List ℕ) (k : Kind) (ctx : ℕ) (old : List ℤ) (s : List ℕ) (r : Reader) (a : BlockRead) (l : List ℤ) : Type 0 where
-  pub read : Took (block table (k .kind) (k .q0) (k .q1) ctx (k .first) old) s r (fromBlock l (a .answer)) (a .reads)
-
--- what every part asks, and leaves
-pub record Held (s table : List ℕ) (m : State) (flat : List ℤ) : Type 0 where
-  pub reader : Valid s (m .reader)
-  pub size : length table ≡ probabilityCount
-  pub whole : ModelInRange (modelOf m flat)
 
 -- ---- the flat list, one store at a time
 pub stored-next : (p : List ℤ) (at : ℕ) (f : ℕ → ℤ) (n : ℕ) {l : List ℤ} {v : ℤ} → l ≡ placed p at f n → v ≡ f n → set l (at + n) v ≡ placed p at f (n + 1)

@@ -23,7 +23,7 @@ ghost use Rattle.numbers.specs.Flags.{bitOf};
 ghost use Rattle.reader.specs.BooleanLaws.{Valid};
 ghost use Rattle.residual.specs.Residual.{Flags, cleared, secondKind, kindOf, zeroOf};
 ghost use Rattle.residual.specs.Residual.{second, advance, blocksFrom, dcStage, residualOf};
-ghost use Rattle.residual.specs.ResidualSteps.{Held, Part, modelOf};
+ghost use Rattle.residual.specs.Parts.{Held, Part, modelOf};
 
 // What a block's tokens go by: the kind of its probabilities, its first position, and what its numbers are multiplied by.
 pub(crate) struct Kind {

@@ -7,7 +7,8 @@ use mir.Syntax.{w32}
 use Rattle.numbers.specs.Hand.{back}
 use Rattle.residual.proofs.Tags.{not-ended}
 use Rattle.residual.specs.Residual.{zeroOf}
-use Rattle.residual.specs.ResidualSteps.{BlockPart, coded-read}
+use Rattle.residual.specs.Parts.{BlockPart}
+use Rattle.residual.specs.ResidualSteps.{coded-read}
 use Rattle.residual.proofs.Turns.{kind-fine, sixteen-fine, advance-lost, advance-read}
 use borrow.Author.Needs.{needs}
 use Rattle.residual.proofs.blocks.block.Statement.{statement}

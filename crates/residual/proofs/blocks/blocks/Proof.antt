@@ -3,7 +3,7 @@ use native.Mathlib.Omega.{arith}
 use mathlib.Core.Path.{sym, _∙_}
 use borrow.Author.Tests.{not-true, not-false}
 use Rattle.residual.specs.Residual.{blocksFrom}
-use Rattle.residual.specs.ResidualSteps.{modelOf}
+use Rattle.residual.specs.Parts.{modelOf}
 use Rattle.residual.proofs.Turns.{Going, going-start, going-end, turn-few, going-missing, going-next}
 use Rattle.residual.proofs.blocks.blocks.Statement.{statement}
 use Rattle.residual.proofs.blocks.blocks.Tie as tie

@@ -5,7 +5,8 @@ use lib.ListN.{replicate}
 use Rattle.residual.proofs.Tags.{not-ended}
 use Rattle.residual.proofs.Turns.{second-fine, second-lost, second-read}
 use Rattle.residual.specs.ResidualLaws.{zeros-sixteen}
-use Rattle.residual.specs.ResidualSteps.{BlockPart, coded-read}
+use Rattle.residual.specs.Parts.{BlockPart}
+use Rattle.residual.specs.ResidualSteps.{coded-read}
 use borrow.Author.Needs.{needs}
 use Rattle.residual.proofs.blocks.read_second.Statement.{statement}
 use Rattle.residual.proofs.blocks.read_second.Tie as tie

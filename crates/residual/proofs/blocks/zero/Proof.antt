@@ -1,4 +1,4 @@
-use Prim.Native.Nat.{zero, suc, _-_}
+use Prim.Native.Nat.{zero, suc}
 use mathlib.Core.Path.{_≡_, refl}
 use native.Mathlib.Omega.{arith}
 use lib.Dec.{eqb}
