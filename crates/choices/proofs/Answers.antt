@@ -7,7 +7,7 @@ use types.Run.{OneOf}
 use denote.Enum.Declared.{tagOf}
 use Rattle.macroblock.specs.declared.ending.Finish.{Finish}
 use Rattle.macroblock.specs.declared.ending.Finish.the-variants as F
-use Rattle.macroblock.proofs.whole.Finish as finish
+use Rattle.macroblock.proofs.ending.Finish as finish
 use Rattle.choices.specs.declared.answer.Decoded.the-variants as D
 use Rattle.choices.specs.Answer.{stoppedOf}
 
