@@ -20,6 +20,7 @@ def read(folder, name):
         return f.read()
 
 
+signal.signal(number, signal.SIG_DFL)  # a gate in the background may ignore it, and what is ignored stays so
 running = subprocess.Popen(command, stdout=subprocess.PIPE, stderr=subprocess.PIPE)
 until = time.monotonic() + 20
 while len(written()) < files and running.poll() is None and time.monotonic() < until:
