@@ -1,7 +1,6 @@
 #include "file.h"
 #include "answers.h"
 #include "hookbarley.h"
-#include "save.h"
 #include <errno.h>
 #include <stdio.h>
 #include <stdlib.h>
@@ -51,6 +50,8 @@ static uint8_t *read_all(FILE *in, size_t *length) {
     *length = n;
     return more_memory(bytes, n); /* no more than that: a read past the end is found by a sanitizer */
 }
+
+int is_standard(const char *path) { return !strcmp(path, "-"); }
 
 int file_read(const char *path, struct file *file) {
     FILE *in = is_standard(path) ? stdin : fopen(path, "rb");

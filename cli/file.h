@@ -24,6 +24,8 @@ struct frame {
     size_t length;
 };
 
+int is_standard(const char *path); /* "-" */
+
 /* Reads a file, "-" for standard input, or returns 0 with the reason in errno. */
 int file_read(const char *path, struct file *file);
 

@@ -10,8 +10,6 @@
 #include <sys/stat.h>
 #include <unistd.h>
 
-int is_standard(const char *path) { return !strcmp(path, "-"); }
-
 FILE *save_lines(const char *path) { return is_standard(path) ? stderr : stdout; }
 
 static int is_plain(const char *path) {

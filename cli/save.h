@@ -2,6 +2,7 @@
 #ifndef CLI_SAVE_H
 #define CLI_SAVE_H
 
+#include "file.h"
 #include <stdio.h>
 
 /* A file under way: written beside its place, then moved there. What is no plain file (a pipe) is written as it is. */
@@ -24,8 +25,6 @@ int save_check(const char *path);
 /* Writes it, by what `write` writes: 0 or STATUS_USAGE and why on standard error. */
 typedef void save_writer(FILE *out, const void *of);
 int save(const char *path, save_writer *write, const void *of);
-
-int is_standard(const char *path); /* "-" */
 
 /* Where a line about the file goes: standard output, where that is not the file itself, else standard error. */
 FILE *save_lines(const char *path);
