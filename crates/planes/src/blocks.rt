@@ -58,8 +58,9 @@ pub(crate) fn coded_blocks(c: &[i16], n: usize) -> [bool; 16]
 {
     let mut coded = [false; 16];
     if n == 16 {
-        mark(&mut coded, 0, some_of_eight(c, 16, 0));
-        mark(&mut coded, 8, some_of_eight(c, 16, 8));
+        for h in 0..2usize {
+            mark(&mut coded, 8 * h, some_of_eight(c, 16, 8 * h));
+        }
         return coded;
     }
     mark(&mut coded, 0, some_of_eight(c, 8, 0));
@@ -67,8 +68,8 @@ pub(crate) fn coded_blocks(c: &[i16], n: usize) -> [bool; 16]
 }
 
 // Whether one of them has.
-pub(crate) fn any(coded: [bool; 16]) -> bool
-    ensures { λ r. ⌜ (r ≡ false → NoneBelow coded 16) ⌝ }
+pub(crate) fn any(coded: &[bool; 16]) -> bool
+    ensures { λ r. ⌜ (r ≡ false → NoneBelow (now (coded .entry)) 16) ⌝ }
 {
     let mut some = false;
     for i in 0..16usize {
@@ -108,14 +109,14 @@ fn add_blocks(
     x: usize,
     y: usize,
     m: usize,
-    coded: [bool; 16],
+    coded: &[bool; 16],
     r: &[i16; 256],
     c: &[i16],
     from: usize,
 )
     requires { ⌜ Square (length (now p)) w x y (4 * m) ⌝ }
     requires { ⌜ BlockSides m ⌝ }
-    requires { ⌜ Ready (now c) from (squareBlocks (4 * m) from (now c)) coded (now r) (m * m) ⌝ }
+    requires { ⌜ Ready (now c) from (squareBlocks (4 * m) from (now c)) (now coded) (now r) (m * m) ⌝ }
     ensures { λ _. ⌜ now (p .exit)
         ≡ blocksPainted (standRule w x y m) (now (p .entry)) w x y m (squareBlocks (4 * m) from (now (c .entry))) (m * m) ⌝ }
     ensures { λ _. ⌜ FirstFit (now (c .entry)) from (m * m) ⌝ }
@@ -147,13 +148,13 @@ fn small_blocks(
     y: usize,
     right: [u8; 4],
     modes: &[u8; 16],
-    coded: [bool; 16],
+    coded: &[bool; 16],
     r: &[i16; 256],
     c: &[i16],
 )
     requires { ⌜ Square (length (now p)) w x y 16 ⌝ }
     requires { ⌜ ((k : ℕ) → k < 16 → getD (now modes) k 0 < 10) ⌝ }
-    requires { ⌜ Ready (now c) 0 (squareBlocks 16 0 (now c)) coded (now r) 16 ⌝ }
+    requires { ⌜ Ready (now c) 0 (squareBlocks 16 0 (now c)) (now coded) (now r) 16 ⌝ }
     ensures { λ _. ⌜ now (p .exit) ≡ blocksPainted (smallRule w x y right (now (modes .entry))) (now (p .entry)) w x y 4
         (squareBlocks 16 0 (now (c .entry))) 16 ⌝ }
     ensures { λ _. ⌜ FirstFit (now (c .entry)) 0 16 ⌝ }
@@ -172,14 +173,14 @@ pub(crate) fn small_square(
     x: usize,
     y: usize,
     modes: &[u8; 16],
-    coded: [bool; 16],
+    coded: &[bool; 16],
     r: &[i16; 256],
     c: &[i16],
 )
     requires { ⌜ Square (length (now p)) w x y 16 ⌝ }
     requires { ⌜ (x + 16 < w → x + 20 ≤ w) ⌝ }
     requires { ⌜ ((k : ℕ) → k < 16 → getD (now modes) k 0 < 10) ⌝ }
-    requires { ⌜ Ready (now c) 0 (squareBlocks 16 0 (now c)) coded (now r) 16 ⌝ }
+    requires { ⌜ Ready (now c) 0 (squareBlocks 16 0 (now c)) (now coded) (now r) 16 ⌝ }
     ensures { λ _. ⌜ now (p .exit)
         ≡ squarePainted (now (p .entry)) w x y 16 true 0 (now (modes .entry)) (squareBlocks 16 0 (now (c .entry))) ⌝ }
     ensures { λ _. ⌜ FirstFit (now (c .entry)) 0 16 ⌝ }
@@ -196,7 +197,7 @@ pub(crate) fn large_square(
     y: usize,
     size: usize,
     mode: u8,
-    coded: [bool; 16],
+    coded: &[bool; 16],
     r: &[i16; 256],
     c: &[i16],
     from: usize,
@@ -204,7 +205,7 @@ pub(crate) fn large_square(
     requires { ⌜ Square (length (now p)) w x y size ⌝ }
     requires { ⌜ Size size ⌝ }
     requires { ⌜ mode < 4 ⌝ }
-    requires { ⌜ Ready (now c) from (squareBlocks size from (now c)) coded (now r) (size / 4 * (size / 4)) ⌝ }
+    requires { ⌜ Ready (now c) from (squareBlocks size from (now c)) (now coded) (now r) (size / 4 * (size / 4)) ⌝ }
     ensures { λ _. ⌜ now (p .exit) ≡ squarePainted (now (p .entry)) w x y size false mode [] (squareBlocks size from (now (c .entry))) ⌝ }
     ensures { λ _. ⌜ FirstFit (now (c .entry)) from (size / 4 * (size / 4)) ⌝ }
 {

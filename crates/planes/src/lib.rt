@@ -42,13 +42,13 @@ pub fn paint(
     }
     let coded = blocks::coded_blocks(coefficients, coefficients.len() / 16);
     let mut values = blocks::no_values();
-    if blocks::any(coded) {
+    if blocks::any(&coded) {
         residuals(coefficients, &mut values);
     }
     let x = checks::scaled(column, size);
     let y = checks::scaled(row, size);
     if small {
-        blocks::small_square(plane, stride, x, y, modes, coded, &values, coefficients);
+        blocks::small_square(plane, stride, x, y, modes, &coded, &values, coefficients);
     } else {
         blocks::large_square(
             plane,
@@ -57,7 +57,7 @@ pub fn paint(
             y,
             size,
             mode,
-            coded,
+            &coded,
             &values,
             coefficients,
             from,

@@ -51,7 +51,7 @@ coded-blocks-requires c κs =
 
 -- where the residuals stand ready
 abbrev fore : tie.Joined4 → tie.Else3
-fore c = c .before .before .before .before
+fore c = c .before .before .before .before .before
 
 abbrev start : tie.Joined4 → tie.Else1
 start c = fore c .before .before .before .before
@@ -63,11 +63,11 @@ few c =
     (t .0, t .1, omega (arith, size-some s))
 
 ready : (c : tie.Joined4) → let a = start c .before .before .before .args in
-    Ready (a .coefficients .now) (a .from) (squareBlocks (a .size) (a .from) (a .coefficients .now)) (c .before .before .before .coded-blocks .result) (c .if4 .values) (a .size / 4 * (a .size / 4))
+    Ready (a .coefficients .now) (a .from) (squareBlocks (a .size) (a .from) (a .coefficients .now)) (c .before .before .before .before .coded-blocks .result) (c .if4 .values) (a .size / 4 * (a .size / 4))
 ready c =
     let a = start c .before .before .before .args in
-    let d = c .before .before .before .coded-blocks .ensures in
-    let v = c .before .before .no-values .ensures in
+    let d = c .before .before .before .before .coded-blocks .ensures in
+    let v = c .before .before .before .no-values .ensures in
     ⊎-elim
     (λ w. ready-turned (a .from) (a .coefficients .now) (size (start c)) (blocks (fore c)) _ d v (w .2 .ensures) (w .3))
     (λ w. ready-plain (a .from) (a .coefficients .now) (size (start c)) (blocks (fore c)) _ d (w .1 ∙ v) (c .before .any .ensures (w .0 .left))) (c .if4 .came)
@@ -86,14 +86,14 @@ all c =
 
 small-square-requires : tie.Need-small-square-requires
 small-square-requires c κs =
-    let t = c .before .before in
+    let t = c .before .before .before in
     let g = good (t .before) in
     let e = t .if5 .taken in
     (luma-square g e, (luma-whole g e, (g .each e, ready-all _ (g .luma e) (all t) (ready (t .before .before .before)))))
 
 large-square-requires : tie.Need-large-square-requires
 large-square-requires c κs =
-    let t = c .before .before in
+    let t = c .before .before .before in
     let g = good (t .before) in
     (g .square, (g .size, (g .large (t .if5 .left), ready (t .before .before .before))))
 
@@ -103,12 +103,12 @@ fine : (c : tie.Joined4) → let a = start c .before .before .before .args in Fi
 fine c f =
     let a = start c .before .before .before .args in
     all-fine (a .plane .now) (a .stride) (a .column) (a .row) (a .size) (a .small) (a .mode) (a .modes .now) (squareBlocks (a .size) (a .from) (a .coefficients .now))
-    (modes (start c)) (square (fore c .before .before)) (square-fits (a .from) (a .coefficients .now) (size (start c)) (blocks (fore c)) (c .before .before .before .coded-blocks .ensures) f)
+    (modes (start c)) (square (fore c .before .before)) (square-fits (a .from) (a .coefficients .now) (size (start c)) (blocks (fore c)) (c .before .before .before .before .coded-blocks .ensures) f)
 
 returns-4 : tie.Need-returns-4
 returns-4 c =
     let q = c .before .before in
-    let t = q .before .before .before in
+    let t = q .before .before .before .before in
     let d = t .before in
     let a = start (d .before .before) .before .before .before .args in
     let e = t .if5 .taken in
@@ -121,7 +121,7 @@ returns-4 c =
 returns-5 : tie.Need-returns-5
 returns-5 c =
     let q = c .before .before in
-    let t = q .before .before .before in
+    let t = q .before .before .before .before in
     let d = t .before in
     let z = q .large-square .ensures in
     done _ _ _ _ _ _ _ _ _ (fine (d .before .before) (z .1)) (d .before .scaled .ensures) (d .scaled2 .ensures) (z .0 ∙ large-any _ _ _ _ _ _ _ _ _ (t .if5 .left))

@@ -16,11 +16,11 @@ use Rattle.planes.proofs.blocks.add_blocks.Statement.{statement}
 use Rattle.planes.proofs.blocks.add_blocks.Tie as tie
 
 abbrev Inv-loop : tie.InvT-loop
-Inv-loop p₀ w x y m r c from coded i₀ i-end p i =
+Inv-loop p₀ w x y m coded r c from i₀ i-end p i =
     (i ≤ m * m) × (p ≡ blocksPainted (standRule w x y m) p₀ w x y m (squareBlocks (4 * m) from c) i) × FirstFit c from i
 
 abbrev μ-loop : tie.MeasureT-loop
-μ-loop p₀ w x y m r c from coded i₀ i-end p i = m * m - i
+μ-loop p₀ w x y m coded r c from i₀ i-end p i = m * m - i
 
 -- where the sub-block lies
 lies : (c : tie.After-sub-block Inv-loop μ-loop) → let a = c .before .before .before .before .args in Lies (length (c .before .before .loop .p)) (a .w) (c .sub-block .result)
@@ -32,11 +32,11 @@ sub-block-requires : tie.Need-sub-block-requires Inv-loop μ-loop
 sub-block-requires c κs = let r = c .before .before .before .pre in (r .1 .0, (omega (arith, c .loop-test), (r .0 .columns, r .0 .wide, r .0 .high)))
 
 -- the first coefficient, as it is read
-abbrev first : tie.After-add-arg2 Inv-loop μ-loop → ℤ
-first c = let a = c .before .before .before .before .before .before .args in getD (a .c .now) (a .from + c .before .before .before .before .loop .i) (pos 0)
+abbrev first : tie.After-add-arg3 Inv-loop μ-loop → ℤ
+first c = let a = c .before .before .before .before .before .before .before .args in getD (a .c .now) (a .from + c .before .before .before .before .before .loop .i) (pos 0)
 
-dc : (c : tie.After-add-arg2 Inv-loop μ-loop) → Know (round w16 (first c)) (first c) (negsuc 32767) (pos 32767)
-dc c = taken (first c) (c .add-arg2 .given)
+dc : (c : tie.After-add-arg3 Inv-loop μ-loop) → Know (round w16 (first c)) (first c) (negsuc 32767) (pos 32767)
+dc c = taken (first c) (c .add-arg3 .given)
 
 -- its number among all
 among : (c : tie.After-sub-block Inv-loop μ-loop) → let a = c .before .before .before .before .args in (a .from + c .before .before .loop .i < 16) × (a .from + c .before .before .loop .i < length (a .c .now))
@@ -44,14 +44,14 @@ among c = let r = c .before .before .before .before .pre .1 .1 in (omega (arith,
 
 add-requires : tie.Need-add-requires Inv-loop μ-loop
 add-requires c κs =
-    let t = c .before .before in
+    let t = c .before .before .before in
     let r = t .before .before .before .before .pre .1 .1 in
     (lies-block (lies t), (among t .0, r .near))
 
 loop-again : tie.Need-loop-again Inv-loop μ-loop
 loop-again c =
     let d = c .before .before in
-    let t = d .before .before .before in
+    let t = d .before .before .before .before in
     let l = t .before .before .loop in
     let s = t .before .before .before .before in
     let h : l .i < s .args .m * s .args .m = omega (arith, t .before .loop-test) in (
@@ -71,7 +71,7 @@ pub add-blocks-spec : {M : Type 1} → statement M
 add-blocks-spec =
     tie.close
     (tie.spec Inv-loop μ-loop (λ c. omega (arith, sides-square (c .before .pre .1 .0))) (λ c. (omega arith, sym (blocks-none _ _ _ _ _ _ _), λ j h. absurd (omega arith)))
-    sub-block-requires (λ c. omega (arith, among c)) (λ c. among (c .before) .0) (λ c. omega (arith, among (c .before))) (λ c. among (c .before) .1)
+    sub-block-requires (λ c. omega (arith, among c)) (λ c. among (c .before) .0) (λ c. omega (arith, among (c .before .before))) (λ c. among (c .before .before) .1)
     add-requires
-    (λ c. omega (arith, sides-square (c .before .before .before .before .before .before .before .before .before .pre .1 .0), c .before .before .before .before .before .before .loop-test))
-    (λ c. omega (arith, c .before .before .before .before .before .before .loop-test)) loop-again (λ c. rw (c .before .loop .inv .1) (length-blocks _ _ _ _ _ _ _ _)) returns)
+    (λ c. omega (arith, sides-square (c .before .before .before .before .before .before .before .before .before .before .pre .1 .0), c .before .before .before .before .before .before .before .loop-test))
+    (λ c. omega (arith, c .before .before .before .before .before .before .before .loop-test)) loop-again (λ c. rw (c .before .loop .inv .1) (length-blocks _ _ _ _ _ _ _ _)) returns)

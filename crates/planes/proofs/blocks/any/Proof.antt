@@ -22,9 +22,9 @@ neither false b e = (refl, e)
 
 loop-again : tie.Need-loop-again Inv-loop μ-loop
 loop-again c =
-    let a = c .before .before .args in
-    let l = c .before .loop in
-    (omega arith, λ e. let n = neither (getD (a .t1) (l .i) false) (l .some) e in below-next (λ (j : ℕ). getD (a .t1) j false ≡ false) (l .i) (n .0) (l .inv .1 (n .1)))
+    let a = c .before .before .before .args in
+    let l = c .before .before .loop in
+    (omega arith, λ e. let n = neither (getD (a .coded .now) (l .i) false) (l .some) e in below-next (λ (j : ℕ). getD (a .coded .now) j false ≡ false) (l .i) (n .0) (l .inv .1 (n .1)))
 
 returns : tie.Need-returns Inv-loop μ-loop
 returns c = let e : c .before .loop .i ≡ 16 = omega arith in rw e at (c .before .loop .inv .1)

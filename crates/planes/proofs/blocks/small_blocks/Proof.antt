@@ -18,10 +18,10 @@ use Rattle.planes.proofs.blocks.small_blocks.Statement.{statement}
 use Rattle.planes.proofs.blocks.small_blocks.Tie as tie
 
 abbrev Inv-loop : tie.InvT-loop
-Inv-loop p₀ w x y right modes r c coded i₀ p i = (i ≤ 16) × (p ≡ blocksPainted (smallRule w x y right modes) p₀ w x y 4 (squareBlocks 16 0 c) i) × FirstFit c 0 i
+Inv-loop p₀ w x y right modes coded r c i₀ p i = (i ≤ 16) × (p ≡ blocksPainted (smallRule w x y right modes) p₀ w x y 4 (squareBlocks 16 0 c) i) × FirstFit c 0 i
 
 abbrev μ-loop : tie.MeasureT-loop
-μ-loop p₀ w x y right modes r c coded i₀ p i = 16 - i
+μ-loop p₀ w x y right modes coded r c i₀ p i = 16 - i
 
 -- where the sub-block lies, before it is predicted and after
 lies : (c : tie.After-sub-block Inv-loop μ-loop) → let a = c .before .before .before .before .args in Lies (length (c .before .before .loop .p)) (a .w) (c .sub-block .result)
@@ -40,24 +40,24 @@ predict-small-requires c κs =
     (lies t, (λ e. omega (arith, not-last i e, r .0 .columns, t .sub-block .ensures .across), r .1 .0 i (omega arith)))
 
 -- the first coefficient, as it is read
-abbrev turn : tie.After-add-arg2 Inv-loop μ-loop → tie.After-sub-block Inv-loop μ-loop
-turn c = c .before .before .before .before .before .before .before
+abbrev turn : tie.After-add-arg3 Inv-loop μ-loop → tie.After-sub-block Inv-loop μ-loop
+turn c = c .before .before .before .before .before .before .before .before
 
-abbrev first : tie.After-add-arg2 Inv-loop μ-loop → ℤ
+abbrev first : tie.After-add-arg3 Inv-loop μ-loop → ℤ
 first c = let t = turn c in getD (t .before .before .before .before .args .c .now) (t .before .before .loop .i) (pos 0)
 
-dc : (c : tie.After-add-arg2 Inv-loop μ-loop) → Know (round w16 (first c)) (first c) (negsuc 32767) (pos 32767)
-dc c = taken (first c) (c .add-arg2 .given)
+dc : (c : tie.After-add-arg3 Inv-loop μ-loop) → Know (round w16 (first c)) (first c) (negsuc 32767) (pos 32767)
+dc c = taken (first c) (c .add-arg3 .given)
 
 add-requires : tie.Need-add-requires Inv-loop μ-loop
 add-requires c κs =
-    let d = c .before .before .before .before in
+    let d = c .before .before .before .before .before in
     (lies-block (still d), (omega arith, turn c .before .before .before .before .pre .1 .1 .near))
 
 loop-again : tie.Need-loop-again Inv-loop μ-loop
 loop-again c =
     let n = c .before .before in
-    let d = n .before .before .before .before .before in
+    let d = n .before .before .before .before .before .before in
     let t = turn (n .before) in
     let s = t .before .before .before .before in
     let l = t .before .before .loop in (
@@ -75,6 +75,6 @@ small-blocks-spec =
     tie.close
     (tie.spec Inv-loop μ-loop (λ c. (omega arith, sym (blocks-none _ _ _ _ _ _ _), λ j h. absurd (omega arith)))
     (λ c κs. let r = c .before .before .before .pre in (inr refl, (omega arith, (r .0 .columns, r .0 .wide, r .0 .high)))) (λ c. omega arith) predict-small-requires
-    (λ c. omega arith) (λ c. omega arith) (λ c. omega (arith, c .before .before .before .before .before .before .before .before .before .before .pre .1 .1 .room))
+    (λ c. omega arith) (λ c. omega arith) (λ c. omega (arith, c .before .before .before .before .before .before .before .before .before .before .before .pre .1 .1 .room))
     add-requires (λ c. omega arith) (λ c. omega arith) loop-again
     (λ c. rw (c .before .loop .inv .1) (length-blocks _ _ _ _ _ _ _ _)) returns)
