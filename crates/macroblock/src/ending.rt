@@ -16,6 +16,7 @@ ghost use mathlib.Core.Bool.{not, _||_};
 ghost use Rattle.header.specs.Frame.{levelAt};
 ghost use Rattle.filter.specs.Strengths.{strengthAnswer, strengthsValuesOf};
 ghost use Rattle.modes.specs.Answers.{macroblockOf};
+ghost use Rattle.modes.specs.Modes.{bottomOf, rightOf};
 ghost use Rattle.transform.specs.Lanes.{macroblockBlocks};
 ghost use Rattle.macroblock.specs.Macroblock.{planesOf, macroblockCalled, noOutcome};
 ghost use Rattle.macroblock.specs.Ending.{endOutcome, macroblockEnded};
@@ -124,7 +125,10 @@ fn strength_of(frame: Frame, kinds: Kinds, empty: bool) -> Strength
     strength_at(l, frame.sharp, kinds.small | !empty)
 }
 
-fn told(frame: Frame, m: ModeData, residue: Residue) -> Outcome
+// `below` and `beside` are the last row and column of the modes, taken by the caller: an array that is lent once more here would be copied
+// byte by byte.
+fn told(frame: Frame, m: ModeData, residue: Residue, below: [u8; 4], beside: [u8; 4]) -> Outcome
+    requires { ⌜ (below ≡ bottomOf (m .modes)) × (beside ≡ rightOf (m .modes)) ⌝ }
     ensures { λ q. ⌜ q ≡ endOutcome frame (macroblockOf (m .kinds) (m .modes)) (m .next) residue ⌝ }
 {
     let kinds = m.kinds;
@@ -142,11 +146,11 @@ fn told(frame: Frame, m: ModeData, residue: Residue) -> Outcome
         modes: modes,
         strength: strength_of(frame, kinds, residue.empty),
         top: Context {
-            modes: bottom(&modes),
+            modes: below,
             flags: top,
         },
         left: Context {
-            modes: right(&modes),
+            modes: beside,
             flags: left,
         },
     }
@@ -171,5 +175,5 @@ pub fn complete(
     let kinds = m.kinds;
     let modes = m.modes;
     squares(&mut y[..], &mut u[..], &mut v[..], place, kinds, &modes, c);
-    told(frame, m, residue)
+    told(frame, m, residue, bottom(&modes), right(&modes))
 }
