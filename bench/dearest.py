@@ -56,7 +56,7 @@ def small_mode_table():
     """The 900 probabilities in the source's mode numbers, above first (crates/modes/src/table.rt)."""
     here = os.path.dirname(os.path.abspath(__file__))
     text = open(os.path.join(here, "..", "crates", "modes", "src", "table.rt"), encoding="utf-8").read()
-    body = text[text.index("[u8; 900] = [") + len("[u8; 900] = ["):]
+    body = text[text.index("] = [") + len("] = ["):]
     numbers = [int(x) for x in re.findall(r"\d+", re.sub(r"//[^\n]*", "", body[:body.index("];")]))]
     assert len(numbers) == 900
     return numbers

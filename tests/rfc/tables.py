@@ -92,7 +92,7 @@ class Repository:
         return [[int(x) for x in re.findall(r"\d+", g)] for g in re.findall(r"\(([^()]*)\)", body)]
 
     def const(self, path, name):
-        body = re.search(r"const " + name + r": \[[^\]]*\] = \[(.*?)\];", self.read(path), re.S).group(1)
+        body = re.search(r"const " + name + r": [^=]* = \[(.*?)\];", self.read(path), re.S).group(1)
         return [int(x) for x in re.findall(r"-?\d+", body)]
 
     def const_tree(self, path, name):

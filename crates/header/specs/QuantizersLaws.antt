@@ -18,13 +18,13 @@ use Rattle.header.specs.declared.quantizers.Quantizers.the-variants as Q
 use Rattle.header.specs.Quantizers.{dcSteps, acSteps, dcAt, acAt, indexOf, indexWith, secondAc, factorsOf, quantizersOf}
 
 -- ---- the tables' ranges: each a test of the whole table
-pub dc-in : (i : ℕ) → dcAt i < 158
+pub dc-in : (i : ℕ) {r : ℕ} → r ≡ dcAt i → (r ≡ dcAt i) × (r < 158)
 unfolding dcSteps
-dc-in i = ltb-true _ _ (all-of-any (λ x. ltb x 158) dcSteps 0 refl refl i)
+dc-in i e = (e, rw e (ltb-true _ _ (all-of-any (λ x. ltb x 158) dcSteps 0 refl refl i)))
 
-pub ac-in : (i : ℕ) → acAt i < 285
+pub ac-in : (i : ℕ) {r : ℕ} → r ≡ acAt i → (r ≡ acAt i) × (r < 285)
 unfolding acSteps
-ac-in i = ltb-true _ _ (all-of-any (λ x. ltb x 285) acSteps 0 refl refl i)
+ac-in i e = (e, rw e (ltb-true _ _ (all-of-any (λ x. ltb x 285) acSteps 0 refl refl i)))
 
 module _ (h : List ℤ) (segment : ℕ) where
   -- ---- the public call: its two answers

@@ -51,7 +51,14 @@ pub(crate) fn place(top: u8, left: u8) -> usize
 pub(crate) fn all_probabilities() -> [u8; 900]
     ensures { λ r. ⌜ Renumbered r ⌝ }
 {
-    BMODE
+    let rows = BMODE;
+    let mut all = [0u8; 900];
+    let mut i = 0;
+    while i < 900 {
+        all[i] = rows[i / 9][i % 9];
+        i = i + 1;
+    }
+    all
 }
 
 // The nine probabilities are lent from the table, not copied.

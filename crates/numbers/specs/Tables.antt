@@ -1,14 +1,16 @@
 -- A rule of a whole table by one test that computes: `refl` answers the test, and a law turns it into the rule at each entry.
-use Prim.Native.Nat.{ℕ, zero, suc, _+_, _<_}
-use mathlib.Core.Path.{_≡_, sym, _∙_, subst}
+use Prim.Native.Nat.{ℕ, zero, suc, _+_, _*_, _/_, _%_, _≤_, _<_}
+use mathlib.Core.Path.{_≡_, refl, sym, _∙_, ap, subst}
 use mathlib.Core.Bool.{Bool, true, _&&_}
-use mathlib.Core.List.{List, [], _∷_}
+use mathlib.Core.List.{List, [], _∷_, _++_}
 use mathlib.Core.Logic.{inl, inr}
-use native.Mathlib.Nat.{add-suc, suc-add, zero-add, add-zero}
+use native.Mathlib.Nat.{add-suc, suc-add, zero-add, add-zero, suc-mul, mod-lt, div-add-mod'}
 use native.Mathlib.Omega.{arith}
 use borrow.Author.Tests.{eqb-true}
 use lib.Dec.{eqb}
-use lib.ListN.{length, getD, List·getD-eq-default}
+use lib.ListN.{length, getD, set, List·getD-append, List·getD-eq-default}
+use lib.Seq.{getD-append-add}
+use Rattle.numbers.specs.Lists.{Filled, filled-none, filled-next, filled-all, built}
 use Rattle.numbers.specs.Tests.{lt-or, both-left, both-right}
 
 -- the test passes at each element and its place, counted from i
@@ -28,6 +30,16 @@ allBelow (suc n) test = test n && allBelow n test
 -- a's element at each place i is b's at π i
 abbrev pub permuted : List ℕ → List ℕ → (ℕ → ℕ) → Bool
 permuted a b π = allAt (λ i x. eqb x (getD b (π i) 0)) 0 a
+
+-- the rows of a table, one after the other
+abbrev pub flat : List (List ℕ) → List ℕ
+flat [] = []
+flat (r ∷ rs) = r ++ flat rs
+
+-- each row has w numbers
+abbrev pub inRows : ℕ → List (List ℕ) → Bool
+inRows w [] = true
+inRows w (r ∷ rs) = eqb (length r) w && inRows w rs
 
 module _ {ℓ} {A : Type ℓ} where
   from : (test : ℕ → A → Bool) (t : List A) (i : ℕ) (d : A) → allAt test i t ≡ true → (k : ℕ) → k < length t → test (i + k) (getD t k d) ≡ true
@@ -59,3 +71,35 @@ all-below test (suc n) e i h = elim (lt-or i n) [
 
 pub permuted-at : (a b : List ℕ) (π : ℕ → ℕ) → permuted a b π ≡ true → (i : ℕ) → i < length a → getD a i 0 ≡ getD b (π i) 0
 permuted-at a b π e i h = eqb-true (getD a i 0) (getD b (π i) 0) (all-at (λ i x. eqb x (getD b (π i) 0)) a 0 e i h)
+
+-- ---- a table in rows of w numbers: number i stands in row i / w, at i % w
+in-row : (w : ℕ) (rows : List (List ℕ)) → inRows w rows ≡ true → (q r : ℕ) → r < w → getD (getD rows q []) r 0 ≡ getD (flat rows) (q * w + r) 0
+in-row w [] e q r h = refl
+in-row w (x ∷ xs) e zero r h =
+    let n : length x ≡ w = eqb-true (length x) w (both-left _ _ e) in
+    let z : 0 * w + r ≡ r = omega arith in
+    rw z (sym (List·getD-append x (flat xs) 0 r (omega arith)))
+in-row w (x ∷ xs) e (suc q) r h =
+    let n : length x ≡ w = eqb-true (length x) w (both-left _ _ e) in
+    let z : suc q * w + r ≡ length x + (q * w + r) = omega (arith, suc-mul q w) in
+    rw z (in-row w xs (both-right (eqb (length x) w) _ e) q r h ∙ sym (getD-append-add x (flat xs) (q * w + r) 0))
+
+pub flat-at : (w : ℕ) (rows : List (List ℕ)) → 0 < w → inRows w rows ≡ true → (i : ℕ) → getD (getD rows (i / w) []) (i % w) 0 ≡ getD (flat rows) i 0
+flat-at w rows h e i = in-row w rows e (i / w) (i % w) (mod-lt i h) ∙ ap (λ (k : ℕ). getD (flat rows) k 0) (div-add-mod' i w)
+
+-- l, of n numbers, holds the table below i: what a loop that stores number i at i keeps
+pub record Laid (w : ℕ) (rows : List (List ℕ)) (n : ℕ) (l : List ℕ) (i : ℕ) : Type 0 where
+  pub wide : 0 < w
+  pub even : inRows w rows ≡ true
+  pub whole : length (flat rows) ≡ n
+  pub filled : Filled l n (λ k. getD (flat rows) k 0) i
+
+pub laid-none : (w : ℕ) (rows : List (List ℕ)) (n : ℕ) (l : List ℕ) → 0 < w → inRows w rows ≡ true → length (flat rows) ≡ n → length l ≡ n → Laid w rows n l 0
+laid-none w rows n l h e m f = record { wide = h; even = e; whole = m; filled = filled-none l n _ f }
+
+module _ {w : ℕ} {rows : List (List ℕ)} {n : ℕ} {l : List ℕ} {i : ℕ} (g : Laid w rows n l i) where
+  pub laid-next : i < n → Laid w rows n (set l i (getD (getD rows (i / w) []) (i % w) 0)) (i + 1)
+  laid-next h = record { wide = g .wide; even = g .even; whole = g .whole; filled = filled-next _ h (flat-at w rows (g .wide) (g .even) i) (g .filled) }
+
+  pub laid-all : n ≤ i → l ≡ flat rows
+  laid-all h = filled-all h (g .filled) ∙ sym (built (flat rows) n (λ k. getD (flat rows) k 0) 0 (g .whole) (λ k q. refl))

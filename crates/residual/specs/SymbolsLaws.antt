@@ -18,30 +18,32 @@ use Rattle.residual.specs.Symbols.{normsOf, Ranged}
 
 -- ---- the table
 module _ {l : List ℕ} {range : ℕ} (n : l ≡ normsOf) (h : 1 ≤ range) (k : range < 256) where
-  norm-is : getD l range 0 ≡ doublingsOf range
+  norm-is : getD l (range - 1) 0 ≡ doublingsOf range
   unfolding normsOf
-  norm-is = ap (λ (x : List ℕ). getD x range 0) n ∙ getD-build 512 _ range 0 (omega arith) ∙ rw (lt-ltb range 256 k) refl
+  norm-is =
+      let e : range - 1 + 1 ≡ range = omega arith in
+      ap (λ (x : List ℕ). getD x (range - 1) 0) n ∙ getD-build 510 _ (range - 1) 0 (omega arith) ∙ rw (lt-ltb (range - 1) 255 (omega arith), e) refl
 
-  norm-top : getD l (256 + range) 0 ≡ range * 2 ^ doublingsOf range - 1
+  norm-top : getD l (254 + range) 0 ≡ range * 2 ^ doublingsOf range - 1
   unfolding normsOf
   norm-top =
-      let e : 256 + range - 256 ≡ range = omega arith in
-      ap (λ (x : List ℕ). getD x (256 + range) 0) n ∙ getD-build 512 _ (256 + range) 0 (omega arith) ∙ rw (le-ltb (256 + range) 256 (omega arith), e) refl
+      let e : 254 + range - 254 ≡ range = omega arith in
+      ap (λ (x : List ℕ). getD x (254 + range) 0) n ∙ getD-build 510 _ (254 + range) 0 (omega arith) ∙ rw (le-ltb (254 + range) 255 (omega arith), e) refl
 
-  pub norm-few : getD l range 0 < 8
+  pub norm-few : getD l (range - 1) 0 < 8
   norm-few = omega (arith, norm-is, lifts range h k .few)
 
-  pub norm-byte : (1 ≤ getD l (256 + range) 0) × (getD l (256 + range) 0 < 256)
+  pub norm-byte : (1 ≤ getD l (254 + range) 0) × (getD l (254 + range) 0 < 256)
   norm-byte = let z = lifts range h k in (omega (arith, norm-top, z .least), omega (arith, norm-top, z .most))
 
-  top-is : getD l (256 + range) 0 ≡ less32 (range * 2 ^ (doublingsOf range % 32) % 2 ^ 32) 1
+  top-is : getD l (254 + range) 0 ≡ less32 (range * 2 ^ (doublingsOf range % 32) % 2 ^ 32) 1
   top-is =
       let z = lifts range h k in
       let j : doublingsOf range % 32 ≡ doublingsOf range = omega (arith, z .few) in
       rw j (omega (arith, norm-top, z .least, z .most))
 
   -- a range lifted by it
-  pub lifted-is : (w : Wide) (value : ℕ) {count : ℕ} → count ≡ less32 (w .count) (getD l range 0) → record { at = w .at; value = value * 2 ^ getD l range 0 % 2 ^ 64; top = getD l (256 + range) 0; count = count } ≡ liftedOf w value range
+  pub lifted-is : (w : Wide) (value : ℕ) {count : ℕ} → count ≡ less32 (w .count) (getD l (range - 1) 0) → record { at = w .at; value = value * 2 ^ getD l (range - 1) 0 % 2 ^ 64; top = getD l (254 + range) 0; count = count } ≡ liftedOf w value range
   lifted-is w value e = (λ i. record { at = w .at; value = value * 2 ^ norm-is i % 2 ^ 64; top = top-is i; count = (e ∙ ap (less32 (w .count)) norm-is) i })
 
 -- ---- what a symbol takes of the range

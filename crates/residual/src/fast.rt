@@ -87,7 +87,7 @@ pub(crate) struct WideBlock {
 
 // ---- the number of a token
 
-fn coded_category(s: &[u8], w: Wide, norms: &[u8; 512], probs: &[u8], base: u32) -> Numbered
+fn coded_category(s: &[u8], w: Wide, norms: &[u8; 510], probs: &[u8], base: u32) -> Numbered
     requires { ⌜ (length (now probs) ≤ 11) × (base ≤ 67) ⌝ }
     requires { ⌜ (now norms ≡ normsOf) × Ranged w ⌝ }
     ensures { λ q. ⌜ WideReads (now (s .entry)) 0 64 (category base (now (probs .entry))) w (q .value) (q .next) × ((q .value ≤ 2114) × Ranged (q .next)) ⌝ }
@@ -100,7 +100,7 @@ fn coded_category(s: &[u8], w: Wide, norms: &[u8; 512], probs: &[u8], base: u32)
     }
 }
 
-fn coded_large(s: &[u8], w: Wide, norms: &[u8; 512], token: u8) -> Numbered
+fn coded_large(s: &[u8], w: Wide, norms: &[u8; 510], token: u8) -> Numbered
     requires { ⌜ (6 ≤ token) × (token ≤ 11) ⌝ }
     requires { ⌜ (now norms ≡ normsOf) × Ranged w ⌝ }
     ensures { λ q. ⌜ WideReads (now (s .entry)) 0 64 (magnitude token) w (q .value) (q .next) × ((q .value ≤ 2114) × Ranged (q .next)) ⌝ }
@@ -115,7 +115,7 @@ fn coded_large(s: &[u8], w: Wide, norms: &[u8; 512], token: u8) -> Numbered
     }
 }
 
-fn coded_magnitude(s: &[u8], w: Wide, norms: &[u8; 512], token: u8) -> Numbered
+fn coded_magnitude(s: &[u8], w: Wide, norms: &[u8; 510], token: u8) -> Numbered
     requires { ⌜ (2 ≤ token) × (token ≤ 11) ⌝ }
     requires { ⌜ (now norms ≡ normsOf) × Ranged w ⌝ }
     ensures { λ q. ⌜ WideReads (now (s .entry)) 0 64 (magnitude token) w (q .value) (q .next) × ((q .value ≤ 2114) × Ranged (q .next)) ⌝ }
@@ -171,7 +171,7 @@ fn symbols(token: u8) -> u64
 }
 
 // From node 2, with eighteen bits loaded; eight are left for the sign. Most numbers are ones.
-fn read_number(s: &[u8], w: Wide, norms: &[u8; 512], table: &[u8], at: usize) -> Number
+fn read_number(s: &[u8], w: Wide, norms: &[u8; 510], table: &[u8], at: usize) -> Number
     requires { ⌜ at + 11 ≤ length (now table) ⌝ }
     requires { ⌜ (now norms ≡ normsOf) × Ranged w ⌝ }
     ensures { λ q. ⌜ Counting (now (s .entry)) (elevenAt (now (table .entry)) at) w q × Ranged (q .next) ⌝ }
@@ -258,7 +258,7 @@ fn place_after(places: &[u16; 16], n: usize) -> usize
 fn pass_zeros(
     s: &[u8],
     w: Wide,
-    norms: &[u8; 512],
+    norms: &[u8; 510],
     table: &[u8],
     places: &[u16; 16],
     kind: usize,
@@ -310,7 +310,7 @@ fn pass_zeros(
 pub(crate) fn read_block(
     s: &[u8],
     w: Wide,
-    norms: &[u8; 512],
+    norms: &[u8; 510],
     table: &[u8],
     places: &[u16; 16],
     k: Kind,

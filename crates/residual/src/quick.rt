@@ -136,7 +136,7 @@ fn group_at(f: Factors, small: bool, g: usize) -> Group
 // with two the compiler would no longer draw it in.
 fn row(
     s: &[u8],
-    norms: &[u8; 512],
+    norms: &[u8; 510],
     table: &[u8],
     places: &[u16; 16],
     k: Group,
@@ -184,7 +184,7 @@ fn row(
 
 fn rows(
     s: &[u8],
-    norms: &[u8; 512],
+    norms: &[u8; 510],
     table: &[u8],
     k: Group,
     start: Passing,

@@ -20,15 +20,15 @@ pub(crate) struct Numbered {
 }
 
 // The reader with a range of 1..255 and its doublings.
-fn lifted(w: Wide, norms: &[u8; 512], value: u64, range: u32) -> Wide
+fn lifted(w: Wide, norms: &[u8; 510], value: u64, range: u32) -> Wide
     requires { ⌜ (now norms ≡ normsOf) × ((1 ≤ range) × (range < 256)) ⌝ }
     ensures { λ q. ⌜ (q ≡ liftedOf w value range) × Ranged q ⌝ }
 {
-    let k = norms[range as usize] as u32;
+    let k = norms[range as usize - 1] as u32;
     Wide {
         at: w.at,
         value: value << k,
-        top: norms[256 + range as usize] as u32,
+        top: norms[254 + range as usize] as u32,
         count: wrapping_sub_u32(w.count, k),
     }
 }
@@ -71,7 +71,7 @@ fn part_of(top: u32, x: u32, on: bool) -> u32
 }
 
 // The reader after a bit.
-fn after(w: Wide, norms: &[u8; 512], x: u32, on: bool) -> Wide
+fn after(w: Wide, norms: &[u8; 510], x: u32, on: bool) -> Wide
     requires { ⌜ (now norms ≡ normsOf) × (Ranged w × (x < w .top)) ⌝ }
     requires { ⌜ on ≡ ltb x (w .value / 2 ^ 56) ⌝ }
     ensures { λ q. ⌜ (q ≡ liftedOf w (w .value - takenOff x on) (rangeOf (w .top) x on)) × Ranged q ⌝ }
@@ -80,7 +80,7 @@ fn after(w: Wide, norms: &[u8; 512], x: u32, on: bool) -> Wide
 }
 
 // One symbol.
-pub(crate) fn bit(w: Wide, norms: &[u8; 512], prob: u8) -> Bit
+pub(crate) fn bit(w: Wide, norms: &[u8; 510], prob: u8) -> Bit
     requires { ⌜ (now norms ≡ normsOf) × Ranged w ⌝ }
     ensures { λ q. ⌜ (q ≡ wideBitOf w prob) × Ranged (q .next) ⌝ }
 {
@@ -98,7 +98,7 @@ pub(crate) fn bit(w: Wide, norms: &[u8; 512], prob: u8) -> Bit
 }
 
 // The same without a branch, where the bit is a number and not a way.
-pub(crate) fn even(w: Wide, norms: &[u8; 512], prob: u8) -> Bit
+pub(crate) fn even(w: Wide, norms: &[u8; 510], prob: u8) -> Bit
     requires { ⌜ (now norms ≡ normsOf) × Ranged w ⌝ }
     ensures { λ q. ⌜ (q ≡ wideBitOf w prob) × Ranged (q .next) ⌝ }
 {
@@ -117,7 +117,7 @@ fn bit_value(bit: bool) -> u32
 }
 
 // A number of as many bits as there are probabilities, at most sixteen, most significant first: `reader::extra` in other words.
-pub(crate) fn extra_bits(s: &[u8], w: Wide, norms: &[u8; 512], probs: &[u8]) -> Numbered
+pub(crate) fn extra_bits(s: &[u8], w: Wide, norms: &[u8; 510], probs: &[u8]) -> Numbered
     requires { ⌜ ((now norms ≡ normsOf) × Ranged w) × (length (now probs) ≤ 16) ⌝ }
     ensures { λ q. ⌜ WideReads (now (s .entry)) 0 64 (extra (now (probs .entry))) w (q .value) (q .next)
         × ((q .value < 2 ^ length (now (probs .entry))) × Ranged (q .next)) ⌝ }

@@ -27,7 +27,7 @@ fn leaf(low: u8, on: bool) -> u8
 }
 
 // Node i, which has two leaves.
-fn last(s: &[u8], w: Wide, norms: &[u8; 512], table: &[u8], at: usize, i: usize, low: u8) -> Walked
+fn last(s: &[u8], w: Wide, norms: &[u8; 510], table: &[u8], at: usize, i: usize, low: u8) -> Walked
     requires { ⌜ (at + 11 ≤ length (now table)) × (i < 11) × (low < 100) ⌝ }
     requires { ⌜ (branchAt tokenTree i false ≡ B.Leaf low) × (branchAt tokenTree i true ≡ B.Leaf (low + 1)) ⌝ }
     requires { ⌜ (now norms ≡ normsOf) × Ranged w ⌝ }
@@ -43,7 +43,7 @@ fn last(s: &[u8], w: Wide, norms: &[u8; 512], table: &[u8], at: usize, i: usize,
 }
 
 // From node 6, with 22 bits loaded: the categories.
-fn category(s: &[u8], w: Wide, norms: &[u8; 512], table: &[u8], at: usize) -> Walked
+fn category(s: &[u8], w: Wide, norms: &[u8; 510], table: &[u8], at: usize) -> Walked
     requires { ⌜ at + 11 ≤ length (now table) ⌝ }
     requires { ⌜ (now norms ≡ normsOf) × Ranged w ⌝ }
     ensures { λ q. ⌜ ((m : ℕ) → WideReads (now (s .entry)) 22 0 (walk (suc (suc (suc m))) (elevenAt (now (table .entry)) at) tokenTree 6) w
@@ -63,7 +63,7 @@ fn category(s: &[u8], w: Wide, norms: &[u8; 512], table: &[u8], at: usize) -> Wa
 }
 
 // From node 3: two to four, and the categories.
-pub(crate) fn above(s: &[u8], w: Wide, norms: &[u8; 512], table: &[u8], at: usize) -> Walked
+pub(crate) fn above(s: &[u8], w: Wide, norms: &[u8; 510], table: &[u8], at: usize) -> Walked
     requires { ⌜ at + 11 ≤ length (now table) ⌝ }
     requires { ⌜ (now norms ≡ normsOf) × Ranged w ⌝ }
     ensures { λ q. ⌜ ((m : ℕ)

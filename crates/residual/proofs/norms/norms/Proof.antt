@@ -1,14 +1,61 @@
+use Prim.Native.Nat.{_-_}
+use native.Mathlib.Omega.{arith}
 use mathlib.Core.Path.{refl}
 use lib.Count.{leadingZeros}
+use lib.Dec.{lit<}
 use Rattle.numbers.specs.Lists.{build}
+use Rattle.numbers.specs.Tables.{Laid, laid-none, laid-next, laid-all}
 use Rattle.wide.specs.Wide.{doublingsOf}
 use Rattle.residual.specs.Symbols.{normsOf}
 use Rattle.residual.proofs.norms.norms.Statement.{statement}
 use Rattle.residual.proofs.norms.norms.Tie as tie
 
-returns : tie.Need-returns
+abbrev Inv-loop : tie.InvT-loop
+Inv-loop rows all₀ i₀ all i = Laid 10 rows 510 all i
+
+abbrev μ-loop : tie.MeasureT-loop
+μ-loop rows all₀ i₀ all i = 510 - i
+
+loop-holds : tie.Need-loop-holds Inv-loop μ-loop
+loop-holds c = laid-none 10 _ 510 _ (lit< tt) refl refl refl
+
+mul-all : tie.Need-mul-all Inv-loop μ-loop
+mul-all c = omega arith
+
+index-1-all : tie.Need-index-1-all Inv-loop μ-loop
+index-1-all c = omega arith
+
+index-2-all : tie.Need-index-2-all Inv-loop μ-loop
+index-2-all c = omega arith
+
+array-write-all : tie.Need-array-write-all Inv-loop μ-loop
+array-write-all c = omega arith
+
+add-i : tie.Need-add-i Inv-loop μ-loop
+add-i c = omega arith
+
+loop-less : tie.Need-loop-less Inv-loop μ-loop
+loop-less c = omega arith
+
+loop-again : tie.Need-loop-again Inv-loop μ-loop
+loop-again c = laid-next (c .before .before .loop .inv) (c .before .loop-test .taken)
+
+returns : tie.Need-returns Inv-loop μ-loop
 unfolding normsOf build doublingsOf leadingZeros
-returns c = refl
+returns c = laid-all (c .before .loop .inv) (c .loop-test .left)
 
 pub norms-spec : {M : Type 1} → statement M
-norms-spec = tie.close (tie.spec returns)
+norms-spec =
+    tie.close
+    (tie.spec
+    Inv-loop
+    μ-loop
+    loop-holds
+    mul-all
+    index-1-all
+    index-2-all
+    array-write-all
+    add-i
+    loop-less
+    loop-again
+    returns)
