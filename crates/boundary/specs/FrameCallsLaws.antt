@@ -12,7 +12,7 @@ use Rattle.reader.specs.Boolean.{Bytes}
 use Rattle.frame.specs.declared.take.Answer.{Answer}
 use Rattle.frame.specs.Take.{nothingTaken, takenOf, intoOf}
 use Rattle.frame.specs.PassesLaws.{tokens-eight, taken-is-fine, taken-or-refused}
-use Rattle.boundary.specs.FrameCalls.{numbersOf, tileAfter, FrameCalled, toFrameCalled, frameCalledOf}
+use Rattle.boundary.specs.FrameCalls.{numbersOf, tileAfter, toFrameCalled, frameCalledOf}
 use Rattle.boundary.specs.TileNumbers.{numbersOfTile, putOf, FieldsFit, tileOfNumbers}
 use Rattle.boundary.specs.TileNumbersLaws.{put-there, valid-fits, tile-back}
 

@@ -1,17 +1,14 @@
 -- There and back: a tile's numbers make the same tile, and a tile made of numbers has these numbers.
 use Prim.Native.Nat.{ℕ, _≤_, _<_}
-use mathlib.Core.Path.{_≡_, refl, sym, _∙_, ap}
-use mathlib.Core.Bool.{true, false}
+use mathlib.Core.Path.{_≡_, refl, sym, _∙_}
 use mathlib.Core.Logic.{⊎-elim}
 use mathlib.Core.List.{List}
 use native.Mathlib.Omega.{arith}
 use lib.ListN.{length, getD}
-use borrow.Author.Tests.{eq-eqb, ne-eqb, lt-ltb, le-ltb}
-use Rattle.numbers.specs.Tests.{lt-or}
+use Rattle.numbers.specs.Tests.{lt-or, eq-eqb, ne-eqb, lt-ltb, le-ltb}
 use Rattle.numbers.specs.Lists.{listed, build-listed, built}
 use Rattle.reader.specs.declared.boolean.Reader.{Reader}
 use Rattle.reader.specs.Boolean.{Valid}
-use Rattle.tile.specs.declared.Span.{Span}
 use Rattle.tile.specs.declared.Tile.{Tile}
 use Rattle.tile.specs.Partitions.{noSpan}
 use Rattle.frame.specs.declared.take.ShownSize.{ShownSize}

@@ -5,7 +5,7 @@ use mathlib.Core.Bool.{Bool, true, false, _&&_}
 use mathlib.Core.List.{List}
 use lib.Dec.{leb, ltb, eqb}
 use lib.IntN.{ℤ, pos, _-ℤ_}
-use lib.ListN.{length, getD}
+use lib.ListN.{length}
 use Rattle.numbers.specs.Lists.{byteAt, build}
 use Rattle.reader.specs.Boolean.{firstReader}
 use Rattle.tile.specs.declared.Span.{Span}

@@ -6,13 +6,12 @@ use mathlib.Core.List.{List}
 use mathlib.Core.Logic.{⊎-elim}
 use native.Mathlib.Omega.{arith}
 use native.Mathlib.Numerals.{add-one}
-use borrow.Author.Tests.{leb-true, le-leb, lt-leb, lt-ltb, le-ltb}
 use lib.Dec.{leb, eqb}
 use lib.IntN.{ℤ, pos, negsuc, _-ℤ_}
 use mir.Syntax.{w32}
 use lib.ListN.{length}
 use Rattle.numbers.specs.Lists.{byteAt}
-use Rattle.numbers.specs.Tests.{lt-or, both-left, both-right}
+use Rattle.numbers.specs.Tests.{lt-or, both-left, both-right, leb-true, le-leb, lt-leb, lt-ltb, le-ltb}
 use Rattle.numbers.specs.In.{In}
 use Rattle.numbers.specs.Know.{Know, num, plainly, round, wider, know-sub}
 use Rattle.numbers.specs.Hand.{unsigned-below, answered}

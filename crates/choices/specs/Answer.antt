@@ -2,7 +2,7 @@
 use Prim.Native.Nat.{ℕ}
 use Rattle.macroblock.specs.declared.ending.Finish.{Finish}
 use Rattle.macroblock.specs.declared.ending.Finish.the-variants as F
-use Rattle.choices.specs.declared.answer.Decoded.{Decoded}
+pub use Rattle.choices.specs.declared.answer.Decoded.{Decoded}
 use Rattle.choices.specs.declared.answer.Decoded.the-variants as D
 
 -- how the picture ends where macroblock k is not finished

@@ -12,8 +12,8 @@ use Rattle.header.specs.Entries.{entryCount}
 use Rattle.header.specs.Header.{entriesOf}
 use Rattle.tile.specs.declared.Tile.{Tile}
 use Rattle.tile.specs.Checks.{sidesOf, countOf, partitionsOf}
-use Rattle.lent.specs.declared.sizes.Sizes.{Sizes}
 use Rattle.lent.specs.Records.{Form, packed}
+use Rattle.lent.specs.declared.sizes.Sizes.{Sizes}
 use Rattle.lent.specs.Sizes.{sizesFine, Sized}
 
 -- what the picture call is given besides memory, and the form of its columns

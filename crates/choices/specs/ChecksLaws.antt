@@ -1,5 +1,5 @@
 -- What an answer of the checks says: 0, every fact that the decoder rests on; k, that check k failed and none before it.
-use Prim.Native.Nat.{ℕ, zero, suc, _+_, _*_, _/_, _≤_, _<_}
+use Prim.Native.Nat.{ℕ, zero, suc, _+_, _≤_, _<_}
 use mathlib.Core.Path.{_≡_, refl, sym, ap}
 use mathlib.Core.Bool.{Bool, true, false, _&&_}
 use mathlib.Core.List.{List, [], _∷_}
@@ -10,8 +10,7 @@ use lib.Dec.{eqb, lit<, lit≤}
 use lib.IntN.{ℤ, pos, negsuc}
 use lib.Signed.{_≤ℤ_, ltZ}
 use lib.ListN.{length, getD}
-use borrow.Author.Tests.{eqb-true, eq-eqb, ne-eqb}
-use Rattle.numbers.specs.Tests.{never, not-so, both-left, both-right, both-true, both-false}
+use Rattle.numbers.specs.Tests.{never, not-so, both-left, both-right, both-true, both-false, eqb-true, eq-eqb, ne-eqb}
 use Rattle.numbers.specs.In.{In}
 use Rattle.numbers.specs.Parts.{to-le, lt-parts}
 use Rattle.reader.specs.declared.boolean.Reader.{Reader}
@@ -19,9 +18,9 @@ use Rattle.reader.specs.BooleanLaws.{Bytes, Valid}
 use Rattle.header.specs.Entries.{entryCount}
 use Rattle.header.specs.Header.{entry, outside, fineTo, entriesOf, headerOf}
 use Rattle.header.specs.HeaderLaws.{entries-each, fine-none, fine-next, entries-all, header-fine}
-use Rattle.lent.specs.declared.sizes.Sizes.{Sizes}
 use Rattle.lent.specs.Memory.{Memory, sizesOf, blankOf}
 use Rattle.lent.specs.Records.{packed, old}
+use Rattle.lent.specs.declared.sizes.Sizes.{Sizes}
 use Rattle.lent.specs.Sizes.{sizesFine}
 use Rattle.lent.specs.SizesLaws.{sizes-fact, sizes-test, blank-sizes}
 use Rattle.tile.specs.Partitions.{tokenContents, readersOf}

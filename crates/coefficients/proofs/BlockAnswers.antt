@@ -4,9 +4,9 @@ use native.Mathlib.Omega.{arith}
 use mathlib.Core.Path.{_≡_, refl}
 use mathlib.Core.Logic.{_⊎_}
 use denote.Enum.Declared.{tagOf}
-use Rattle.reader.specs.declared.boolean.Symbol.{Symbol}
 use Rattle.reader.specs.declared.extra.Number.{Number}
 use Rattle.reader.specs.declared.token.Token.{Token}
+use Rattle.reader.specs.declared.boolean.Symbol.{Symbol}
 use Rattle.reader.specs.Boolean.{missing}
 use Rattle.reader.specs.ReadingLaws.{fromSymbol}
 use Rattle.reader.specs.ExtraLaws.{fromNumber}

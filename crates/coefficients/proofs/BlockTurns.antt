@@ -11,25 +11,24 @@ use lib.ListN.{length, getD, set}
 use mir.Syntax.{w32}
 use Rattle.numbers.specs.Hand.{there}
 use Rattle.numbers.specs.Know.{round}
+use Rattle.reader.specs.declared.boolean.Reader.{Reader}
 use Rattle.reader.specs.Boolean.{Given, given, missing}
 use Rattle.reader.specs.BooleanLaws.{Bytes, Valid}
 use Rattle.reader.specs.Counts.{Took, tokenCount}
 use Rattle.reader.specs.CountsLaws.{took-as, token-took}
 use Rattle.reader.specs.Reading.{Reading, run}
 use Rattle.reader.specs.ReadingLaws.{ReadTo, run-valid}
+use Rattle.reader.specs.declared.token.Token.{Token}
 use Rattle.reader.specs.Token.{token, tokenAnswer}
 use Rattle.reader.specs.TokenLaws.{fromToken, token-fits}
 use Rattle.reader.specs.Trace.{count}
 use Rattle.reader.specs.TraceLaws.{count-within}
-use Rattle.reader.specs.declared.boolean.Reader.{Reader}
-use Rattle.reader.specs.declared.token.Token.{Token}
 use Rattle.reader.specs.declared.token.Token.the-variants as T
 use Rattle.coefficients.specs.BlockLaws.{SixteenBits, signed-within}
 use Rattle.coefficients.specs.BlockSteps.{fromSigned, SignedRead, signed-took, block-none, block-missing, block-ends, block-zero, block-lost, block-number}
-use Rattle.coefficients.specs.Block.{signedValue, zigzag, probabilityPlace, probabilitiesAt, quantizerAt, contextAfter, Coefficients, blockFrom, block, toBlockCalled}
+use Rattle.coefficients.specs.Block.{Signed, signedValue, zigzag, probabilityPlace, probabilitiesAt, quantizerAt, contextAfter, Coefficients, blockFrom, block, toBlockCalled}
 use Rattle.coefficients.specs.declared.block.Block.the-variants as K
 use Rattle.coefficients.specs.declared.block.BlockRead.{BlockRead}
-use Rattle.coefficients.specs.declared.block.Signed.{Signed}
 use Rattle.coefficients.specs.declared.block.Signed.the-variants as G
 
 -- `whole` from the reader r₀ is what is left of it after `reads` symbols: `more` positions from n on

@@ -8,21 +8,21 @@ use lib.ListN.{length, getD, set, replicate}
 use lib.Signed.{leZ}
 use Rattle.numbers.specs.Lists.{build}
 use Rattle.numbers.specs.Wrap.{wrapZ}
+use Rattle.reader.specs.declared.boolean.Reader.{Reader}
 use Rattle.reader.specs.Boolean.{Given, given, missing, validOf, noReader}
+use Rattle.reader.specs.declared.extra.Number.{Number}
 use Rattle.reader.specs.Extra.{extra, toNumber}
 use Rattle.header.specs.Entries.{coefficientProbability, entryCount, probabilityCount}
 use Rattle.header.specs.Header.{entry, probabilityOf}
 use Rattle.reader.specs.Reading.{Reading, done, symbol, run, _>>=_}
 use Rattle.reader.specs.Token.{token, elevenAt}
 use Rattle.reader.specs.Trace.{count}
-use Rattle.reader.specs.declared.boolean.Reader.{Reader}
-use Rattle.reader.specs.declared.extra.Number.{Number}
 use Rattle.reader.specs.declared.extra.Number.the-variants as N
 use Rattle.coefficients.specs.declared.block.Block.{Block}
 use Rattle.coefficients.specs.declared.block.Block.the-variants as B
-use Rattle.coefficients.specs.declared.block.Signed.{Signed}
+pub use Rattle.coefficients.specs.declared.block.Signed.{Signed}
 use Rattle.coefficients.specs.declared.block.Signed.the-variants as S
-use Rattle.coefficients.specs.declared.block.Table.{Table}
+pub use Rattle.coefficients.specs.declared.block.Table.{Table}
 use Rattle.numbers.specs.declared.Checked.the-variants as H
 
 -- ---- the number of a token (section 13.2, 3448-3494, DCTextra)

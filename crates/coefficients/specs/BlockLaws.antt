@@ -8,15 +8,15 @@ use mathlib.Core.Path.{_≡_, refl, sym, _∙_, ap}
 use lib.Dec.{ltb, leb, eqb, lit<}
 use lib.IntN.{ℤ, pos, negsuc}
 use lib.ListN.{length, getD, set, length-set, List·getD-eq-default}
-use borrow.Author.Tests.{ltb-true, leb-true, lt-ltb, le-ltb, le-leb, eq-eqb, ne-eqb}
 use Rattle.numbers.specs.Bounds.{each-set}
 use Rattle.numbers.specs.In.{In, Each}
 use Rattle.numbers.specs.Lists.{length-build, getD-build}
 use Rattle.numbers.specs.Parts.{le-true}
 use Rattle.numbers.specs.Tables.{allOf, allBelow, all-of-any, all-below}
-use Rattle.numbers.specs.Tests.{lt-or, eq-or, not-first, both-left, both-right, both-true}
+use Rattle.numbers.specs.Tests.{lt-or, eq-or, not-first, both-left, both-right, both-true, ltb-true, leb-true, lt-ltb, le-ltb, le-leb, eq-eqb, ne-eqb}
 use Rattle.numbers.specs.Wrap.{wrapZ}
 use Rattle.numbers.specs.WrapLaws.{wrap-in}
+use Rattle.reader.specs.declared.boolean.Reader.{Reader}
 use Rattle.reader.specs.Boolean.{Given, given, missing, validOf}
 use Rattle.reader.specs.BooleanLaws.{Bytes, Valid, valid-test}
 use Rattle.header.specs.Entries.{coefficientProbability, entryCount, probabilityCount}
@@ -31,14 +31,11 @@ use Rattle.reader.specs.ReadingLaws.{within-symbol, within-bind, within-more}
 use Rattle.reader.specs.Token.{token}
 use Rattle.reader.specs.TokenLaws.{eleven-at, token-fits}
 use Rattle.reader.specs.Trace.{count}
-use Rattle.reader.specs.declared.boolean.Reader.{Reader}
 use Rattle.coefficients.specs.BlockSteps.{fromSigned, place-below, decode-passed, reads-passed, table-refused, table-done}
-use Rattle.coefficients.specs.Block.{categories, bases, category, magnitude, signOf, signedValue, zigzag, quantizerAt, contextAfter, headerTable, probabilitiesAt, probabilityPlace, Coefficients, blockFrom, block, BlockCalled, toBlockCalled, blockOf, sixteenBits, blockArguments, blockCallOf, tableOf, blockReads}
+use Rattle.coefficients.specs.Block.{Signed, Table, categories, bases, category, magnitude, signOf, signedValue, zigzag, quantizerAt, contextAfter, headerTable, probabilitiesAt, probabilityPlace, Coefficients, blockFrom, block, BlockCalled, toBlockCalled, blockOf, sixteenBits, blockArguments, blockCallOf, tableOf, blockReads}
 use Rattle.coefficients.specs.declared.block.Block.{Block}
 use Rattle.coefficients.specs.declared.block.Block.the-variants as K
-use Rattle.coefficients.specs.declared.block.Signed.{Signed}
 use Rattle.coefficients.specs.declared.block.Signed.the-variants as G
-use Rattle.coefficients.specs.declared.block.Table.{Table}
 use Rattle.numbers.specs.declared.Checked.the-variants as H
 
 -- ---- what each grammar gives, and how much it asks

@@ -10,26 +10,24 @@ use lib.Dec.{ltb, leb, eqb}
 use lib.IntN.{ℤ, pos, negsuc}
 use lib.ListN.{length, getD, set, replicate}
 use lib.Signed.{leZ}
-use borrow.Author.Tests.{ltb-true, leb-true, eqb-true, lt-ltb, eq-eqb, ne-eqb}
 use Rattle.numbers.specs.Tables.{all-of-any}
-use Rattle.numbers.specs.Tests.{both-left, both-right}
+use Rattle.numbers.specs.Tests.{both-left, both-right, ltb-true, leb-true, eqb-true, lt-ltb, eq-eqb, ne-eqb}
 use Rattle.numbers.specs.Wrap.{wrapZ}
 use Rattle.header.specs.Entries.{entryCount, probabilityCount}
+use Rattle.reader.specs.declared.boolean.Reader.{Reader}
 use Rattle.reader.specs.Boolean.{Given, given, missing, validOf}
 use Rattle.reader.specs.Counts.{Took}
 use Rattle.reader.specs.CountsLaws.{took-as, took-is, took-done, took-got, took-missing, took-stops, took-then, took-ends}
+use Rattle.reader.specs.declared.extra.Number.{Number}
 use Rattle.reader.specs.Extra.{extra, toNumber}
 use Rattle.reader.specs.ExtraLaws.{fromNumber, from-number}
 use Rattle.reader.specs.Reading.{done, symbol, run}
 use Rattle.reader.specs.Token.{token}
 use Rattle.reader.specs.Trace.{count}
-use Rattle.reader.specs.declared.boolean.Reader.{Reader}
-use Rattle.reader.specs.declared.extra.Number.{Number}
 use Rattle.reader.specs.declared.extra.Number.the-variants as N
-use Rattle.coefficients.specs.Block.{category, magnitude, signOf, signedValue, bands, zigzag, quantizerAt, contextAfter, toSigned, magnitudeOf, signedOf, numericOf, numberAnswer, signedAnswer, headerTable, probabilitiesAt, probabilityPlace, Coefficients, blockFrom, refusedBlock, block, blockOf, sixteenBits, blockArguments, blockCallOf, blockByHeaderOf, tableOf, blockReads, blockByHeaderReads}
+use Rattle.coefficients.specs.Block.{Signed, category, magnitude, signOf, signedValue, bands, zigzag, quantizerAt, contextAfter, toSigned, magnitudeOf, signedOf, numericOf, numberAnswer, signedAnswer, headerTable, probabilitiesAt, probabilityPlace, Coefficients, blockFrom, refusedBlock, block, blockOf, sixteenBits, blockArguments, blockCallOf, blockByHeaderOf, tableOf, blockReads, blockByHeaderReads}
 use Rattle.coefficients.specs.declared.block.Block.the-variants as B
 use Rattle.coefficients.specs.declared.block.BlockRead.{BlockRead}
-use Rattle.coefficients.specs.declared.block.Signed.{Signed}
 use Rattle.coefficients.specs.declared.block.Signed.the-variants as G
 use Rattle.numbers.specs.declared.Checked.the-variants as H
 

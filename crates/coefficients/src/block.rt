@@ -26,7 +26,7 @@ ghost use Rattle.reader.specs.BooleanLaws.{Valid};
 ghost use Rattle.reader.specs.Reading.{run};
 ghost use Rattle.reader.specs.Extra.{toNumber};
 ghost use Rattle.reader.specs.Trace.{count};
-ghost use Rattle.coefficients.specs.Block.{category, magnitude, signOf, bands, zigzag, probabilityPlace, quantizerAt, contextAfter};
+ghost use Rattle.coefficients.specs.Block.{category, magnitude, signOf, bands, probabilityPlace, quantizerAt, contextAfter};
 ghost use Rattle.coefficients.specs.Block.{magnitudeOf, signedValue, signedOf, numericOf, numberAnswer, signedAnswer};
 ghost use Rattle.coefficients.specs.Block.{blockOf, sixteenBits, blockArguments, blockCallOf};
 ghost use Rattle.coefficients.specs.Block.{blockByHeaderOf, tableOf, block, blockReads, blockByHeaderReads};

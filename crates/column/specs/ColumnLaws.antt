@@ -8,13 +8,12 @@ use native.Mathlib.Nat.{add-mul-mod-self-right, add-mul-div-right, mod-eq-of-lt,
 use lib.ListN.{length, getD}
 use lib.Dec.{eqb, lit<}
 use lib.Bits.{bitAnd, and-block, and-mask}
-use borrow.Author.Tests.{eqb-true}
 use Rattle.numbers.specs.Lists.{listed, built, build-listed}
-use Rattle.numbers.specs.Tests.{both-left, both-right}
+use Rattle.numbers.specs.Tests.{both-left, both-right, eqb-true}
 use Rattle.numbers.specs.Tables.{allBelow, all-below}
-use Rattle.modes.specs.declared.contexts.Context.{Context}
 use Rattle.modes.specs.Answers.{eachBelow}
 use Rattle.modes.specs.ModesLaws.{each-fact}
+use Rattle.modes.specs.declared.contexts.Context.{Context}
 use Rattle.modes.specs.Contexts.{contextFine, Shaped}
 use Rattle.column.specs.Column.{packedOf, digitsOf, halfOf, packedBytes, contextUnpacked}
 

@@ -8,8 +8,7 @@ use Rattle.numbers.specs.Lists.{build}
 use Rattle.numbers.specs.Runs.{copied}
 use Rattle.filter.specs.Kernel.{samplesAcross}
 use Rattle.straight.specs.Straight.{actsOf}
-use Rattle.deblock.specs.declared.edges.Edge.{Edge}
-use Rattle.deblock.specs.Deblock.{acrossOf}
+use Rattle.deblock.specs.Deblock.{Edge, acrossOf}
 
 -- whether a rule acts on each of the sixteen
 unfoldable pub actingOf : Edge → List ℕ → List Bool

@@ -8,23 +8,21 @@ use native.Mathlib.Omega.{arith}
 use native.Mathlib.Numerals.{add-one}
 use native.Mathlib.Nat.{mul-le-mul-right}
 use lib.Dec.{eqb}
-use borrow.Author.Tests.{eqb-true}
 use lib.ListN.{length, getD, set, replicate}
 use lib.Seq.{ext-getD}
-use Rattle.numbers.specs.Tests.{lt-or, eq-or, never}
+use Rattle.numbers.specs.Tests.{lt-or, eq-or, never, eqb-true}
 use Rattle.numbers.specs.Tables.{allBelow, all-below}
-use Rattle.numbers.specs.Lists.{Filled, filled-next, build, built, build-same, getD-build, getD-build-past, length-build, getD-constant}
+use Rattle.numbers.specs.Lists.{Filled, filled-next, built, build-same, getD-build, getD-build-past, length-build, getD-constant}
 use Rattle.numbers.specs.Runs.{Off, copied, length-copied, copied-keeps, copied-in, copied-off}
 use Rattle.filter.specs.Kernel.{samplesAcross}
 use Rattle.filter.specs.KernelLaws.{Bytes}
 use Rattle.straight.specs.Straight.{actsOf, straightOf}
 use Rattle.straight.specs.StraightLaws.{straight-filter, acts-none}
 use Rattle.planes.specs.Places.{next-row}
-use Rattle.deblock.specs.declared.edges.Edge.{Edge}
-use Rattle.deblock.specs.Deblock.{Change, turns, acrossOf, laidBack, keptOf, positionOf, sweepOf}
+use Rattle.deblock.specs.Deblock.{Edge, Change, turns, acrossOf, laidBack, keptOf, positionOf, sweepOf}
 use Rattle.deblock.specs.DeblockLaws.{Closed, turns-closed, length-across, across-bytes, position-bytes, position-laid, position-still, length-edge, position-off, position-at}
 use Rattle.deblock.specs.LocalLaws.{edge-moves-six, one-row}
-use Rattle.deblock.specs.MovesLaws.{Number, number}
+use Rattle.deblock.specs.MovesLaws.{number}
 use Rattle.deblock.specs.Block.{actingOf, rowsCopied, shuffledOf, columnsOf, sampleRows}
 
 -- ---- rows copied

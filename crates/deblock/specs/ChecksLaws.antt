@@ -6,10 +6,9 @@ use mathlib.Core.List.{List}
 use mathlib.Core.Logic.{inl, inr}
 use native.Mathlib.Numerals.{add-one}
 use native.Mathlib.Omega.{arith}
-use borrow.Author.Tests.{leb-true, le-leb}
 use lib.Dec.{leb}
 use lib.ListN.{length}
-use Rattle.numbers.specs.Tests.{not-so, both-left, both-right, both-true}
+use Rattle.numbers.specs.Tests.{not-so, both-left, both-right, both-true, leb-true, le-leb}
 use Rattle.numbers.specs.Tables.{allBelow, all-below}
 use Rattle.filter.specs.declared.strengths.Strength.{Strength}
 use Rattle.tile.specs.Checks.{sidesOf, Sides}
@@ -17,9 +16,8 @@ use Rattle.tile.specs.ChecksLaws.{sides-fact, sides-test}
 use Rattle.lent.specs.Records.{recordsIn, strengthWidth, strengthAt}
 use Rattle.lent.specs.Sizes.{lumaFine, chromaFine, strengthsFine}
 use Rattle.lent.specs.SizesLaws.{long-fact, long-test, luma-area, chroma-area}
-use Rattle.deblock.specs.Deblock.{deblockLengths, DeblockLengths, limitsOf, deblockRefusal, DeblockAnswer, when, rasterOf, planesDeblocked, deblockOf, deblockNumberOf}
+use Rattle.deblock.specs.Deblock.{Done, Refused, deblockLengths, DeblockLengths, limitsOf, deblockRefusal, DeblockAnswer, when, rasterOf, planesDeblocked, deblockOf, deblockNumberOf}
 use Rattle.macroblock.specs.Macroblock.{Planes}
-use Rattle.deblock.specs.declared.Deblocked.the-variants.{Done, Refused}
 use Rattle.deblock.specs.Located.{Beside, WholePlane}
 
 pub lengths : (w h y u v s : ℕ) → deblockLengths w h y u v s ≡ true → DeblockLengths w h y u v s

@@ -19,9 +19,9 @@ use Rattle.lent.specs.Records.{recordsIn, strengthWidth, strengthAt}
 use Rattle.lent.specs.Sizes.{lumaFine, chromaFine, strengthsFine}
 use Rattle.tile.specs.Checks.{sidesOf, blocksOf}
 use Rattle.macroblock.specs.Macroblock.{Planes}
-use Rattle.deblock.specs.declared.edges.Edge.{Edge}
+pub use Rattle.deblock.specs.declared.edges.Edge.{Edge}
 use Rattle.deblock.specs.declared.Deblocked.{Deblocked}
-use Rattle.deblock.specs.declared.Deblocked.the-variants.{Done, Refused}
+pub use Rattle.deblock.specs.declared.Deblocked.the-variants.{Done, Refused}
 
 -- what becomes of a plane
 abbrev pub Change : Type 0

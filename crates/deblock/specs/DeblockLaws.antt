@@ -2,22 +2,20 @@
 use Prim.Native.Nat.{ℕ, zero, suc, _+_, _-_, _*_, _/_, _%_, _≤_, _<_}
 use mathlib.Core.Path.{_≡_, refl, sym, _∙_, ap}
 use mathlib.Core.Bool.{Bool, true, false, not}
-use mathlib.Core.List.{List, [], _∷_}
+use mathlib.Core.List.{List}
 use mathlib.Core.Logic.{inl, inr}
 use native.Mathlib.Omega.{arith}
 use native.Mathlib.Numerals.{add-one}
 use native.Mathlib.Nat.{mul-le-mul-right, suc-mul}
 use lib.Dec.{eqb}
-use borrow.Author.Tests.{eqb-false, eq-eqb, ne-eqb}
 use Rattle.filter.specs.declared.strengths.Strength.{Strength}
 use Rattle.lent.specs.Records.{strengthAt}
 use lib.ListN.{length, getD, set, length-set}
 use lib.Seq.{getD-set-same, getD-set-other, set-getD, ext-getD}
-use Rattle.numbers.specs.Tests.{lt-or, never}
-use Rattle.numbers.specs.Lists.{build, set-keeps, length-build, getD-build, getD-build-past}
+use Rattle.numbers.specs.Tests.{lt-or, never, eqb-false, eq-eqb, ne-eqb}
+use Rattle.numbers.specs.Lists.{set-keeps, length-build, getD-build, getD-build-past}
 use Rattle.filter.specs.KernelLaws.{Bytes, filter-bytes, outermost-stay}
-use Rattle.deblock.specs.declared.edges.Edge.{Edge}
-use Rattle.deblock.specs.Deblock.{Change, turns, when, acrossOf, laidBack, keptOf, positionOf, sweepOf, verticalEdges, horizontalEdges, innerAt, innersOf, outerEdge, innerEdge, squareOf, macroblockEdges, rasterOf}
+use Rattle.deblock.specs.Deblock.{Edge, Change, turns, when, acrossOf, laidBack, keptOf, positionOf, sweepOf, verticalEdges, horizontalEdges, innerAt, innersOf, outerEdge, innerEdge, squareOf, macroblockEdges, rasterOf}
 
 -- ---- changes one after the other
 pub turns-none : (f : ℕ → Change) (p : List ℕ) → turns f 0 p ≡ p

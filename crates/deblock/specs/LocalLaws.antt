@@ -20,9 +20,7 @@ use Rattle.lent.specs.Records.{strengthWidth, strengthAt}
 use Rattle.macroblock.specs.Macroblock.{Planes}
 use Rattle.planes.specs.Predict.{Size}
 use Rattle.planes.specs.Places.{size-some, next-row}
-use Rattle.deblock.specs.declared.edges.Edge.{Edge}
-use Rattle.deblock.specs.declared.Deblocked.the-variants.{Done}
-use Rattle.deblock.specs.Deblock.{Change, turns, when, acrossOf, laidBack, keptOf, positionOf, sweepOf, verticalEdges, horizontalEdges, innerAt, squareOf, macroblockEdges, rasterOf, planesDeblocked, deblockLengths, limitsOf, deblockRefusal, deblockOf}
+use Rattle.deblock.specs.Deblock.{Edge, Done, Change, turns, when, acrossOf, laidBack, keptOf, positionOf, sweepOf, verticalEdges, horizontalEdges, innerAt, squareOf, macroblockEdges, rasterOf, planesDeblocked, deblockLengths, limitsOf, deblockRefusal, deblockOf}
 use Rattle.deblock.specs.DeblockLaws.{Closed, turns-closed, when-closed, inners-closed, square-closed, laid-other, block-no}
 use Rattle.deblock.specs.ChecksLaws as checks
 use Rattle.deblock.specs.Located.{size-eight, inner-few, past-first, column-in, row-in}

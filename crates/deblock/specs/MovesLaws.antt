@@ -7,23 +7,21 @@ use mathlib.Core.List.{List, [], _∷_}
 use mathlib.Core.Logic.{_⊎_, inl, inr}
 use native.Mathlib.Omega.{arith}
 use native.Mathlib.Nat.{add-mul, mul-comm, div-add-mod, div-add-mod', mod-lt, one-mul}
-use borrow.Author.Tests.{eq-eqb, ne-eqb, leb-true}
 use lib.Dec.{eqb, leb}
 use lib.IntN.{pos, _-ℤ_}
 use lib.ListN.{length, getD, List·getD-eq-default}
-use Rattle.numbers.specs.Tests.{lt-or, eq-or}
+use Rattle.numbers.specs.Tests.{lt-or, eq-or, eq-eqb, ne-eqb, leb-true}
 use Rattle.numbers.specs.Parts.{natAbs-parts, sub-parts-ℤ}
-use Rattle.numbers.specs.Lists.{build, set-keeps}
+use Rattle.numbers.specs.Lists.{build}
 use Rattle.numbers.specs.Tables.{allBelow, all-below}
 use Rattle.filter.specs.Kernel.{apart}
-use Rattle.filter.specs.KernelLaws.{Bytes, filter-bytes}
+use Rattle.filter.specs.KernelLaws.{Bytes}
 use Rattle.filter.specs.Moves.{farthest}
 use Rattle.filter.specs.MovesLaws.{moves-at-most}
 use Rattle.filter.specs.declared.strengths.Strength.{Strength}
 use Rattle.planes.specs.Predict.{Size}
 use Rattle.planes.specs.Places.{Square, by-size, next-row}
-use Rattle.deblock.specs.declared.edges.Edge.{Edge}
-use Rattle.deblock.specs.Deblock.{Change, turns, when, acrossOf, laidBack, keptOf, positionOf, sweepOf, verticalEdges, horizontalEdges, innerAt, innersOf, outerEdge, innerEdge, squareOf, macroblockEdges, rasterOf}
+use Rattle.deblock.specs.Deblock.{Edge, Change, turns, when, acrossOf, keptOf, positionOf, sweepOf, verticalEdges, horizontalEdges, innerAt, innersOf, outerEdge, innerEdge, squareOf, macroblockEdges, rasterOf}
 use Rattle.deblock.specs.Moves.{total, tap, line, reachOf, most}
 use Rattle.deblock.specs.Located.{Upright, Level, PlaneGrid, size-eight, upright-in, level-in, square-left, square-top, square-upright, square-level, past-first, grid-square}
 use Rattle.deblock.specs.DeblockLaws.{across-at, across-bytes, length-position, position-bytes, position-off, position-at, not-zero}

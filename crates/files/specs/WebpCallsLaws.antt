@@ -5,7 +5,7 @@ use mathlib.Core.List.{List}
 use Rattle.webp.specs.declared.read.Found.{Found}
 use Rattle.webp.specs.declared.write.WrapAnswer.{WrapAnswer}
 use Rattle.webp.specs.Webp.{findOf, foundNumberOf, foundStartOf, foundLengthOf, wrapOf, wrappedNumberOf, wrappedLengthOf}
-use Rattle.files.specs.WebpCalls.{WebpFound, toFound, webpFoundOf, WebpWrapped, toWrapped, webpWrappedOf}
+use Rattle.files.specs.WebpCalls.{toFound, webpFoundOf, toWrapped, webpWrappedOf}
 
 pub webp-found : (bytes : List ℕ) {f : Found} {n a l : ℕ} → f ≡ findOf bytes → a ≡ foundStartOf f → l ≡ foundLengthOf f → n ≡ foundNumberOf f
     → record { number = n; start = a; len = l } ≡ webpFoundOf bytes

@@ -5,10 +5,8 @@ use mathlib.Core.Path.{_≡_}
 use mathlib.Core.Bool.{Bool, true, false}
 use mathlib.Core.List.{List, [], _∷_}
 use lib.ListN.{getD}
-use Rattle.filter.specs.declared.answers.Rule.{Rule}
-use Rattle.filter.specs.declared.answers.Rule.the-variants.{EdgeFailed, Rough, Simple, HighVariance, MacroblockEdge, InnerEdge}
-use Rattle.filter.specs.declared.explain.Explanation.{Explanation}
-use Rattle.filter.specs.Kernel.{Samples, samplesAcross, withinLimit, smooth, highVariance, ruleOf, stepsOf, movedOf}
+pub use Rattle.filter.specs.declared.explain.Explanation.{Explanation}
+use Rattle.filter.specs.Kernel.{Rule, EdgeFailed, Rough, Simple, HighVariance, MacroblockEdge, InnerEdge, Samples, samplesAcross, withinLimit, smooth, highVariance, ruleOf, stepsOf, movedOf}
 
 -- What a rule does to eight samples, told.
 unfoldable pub toldOf : List ℕ → Rule → Explanation

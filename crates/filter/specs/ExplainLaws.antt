@@ -10,10 +10,7 @@ use lib.IntN.{ℤ, pos, negsuc, _+ℤ_}
 use Rattle.numbers.specs.Tests.{never, lt-or}
 use Rattle.numbers.specs.In.{Each}
 use Rattle.numbers.specs.Clamp.{clipZ}
-use Rattle.filter.specs.declared.answers.Rule.{Rule}
-use Rattle.filter.specs.declared.answers.Rule.the-variants.{EdgeFailed, Rough, Simple, HighVariance, MacroblockEdge, InnerEdge}
-use Rattle.filter.specs.declared.explain.Explanation.{Explanation}
-use Rattle.filter.specs.Kernel.{Samples, samplesAcross, withinLimit, firstFalse, smooth, roughAt, highVariance, ruleOf, stepsOf, movedOf, filterOf}
+use Rattle.filter.specs.Kernel.{Rule, EdgeFailed, Rough, Simple, HighVariance, MacroblockEdge, InnerEdge, Samples, samplesAcross, withinLimit, firstFalse, smooth, roughAt, highVariance, ruleOf, stepsOf, movedOf, filterOf}
 use Rattle.filter.specs.KernelLaws.{rule-edge-failed, rule-simple, rule-rough, rule-smooth, filter-at, steps-in}
 use Rattle.filter.specs.Explain.{toldOf, explainOf, smoothPairs, smoothPair, SmoothBefore, Reason, named}
 

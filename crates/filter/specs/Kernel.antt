@@ -9,8 +9,8 @@ use lib.IntN.{ℤ, pos, negℤ, natAbs, _+ℤ_, _-ℤ_, _*ℤ_}
 use lib.Signed.{shrZ}
 use Rattle.numbers.specs.Clamp.{clipZ, signedTo, signedByteZ}
 use Rattle.numbers.specs.Lists.{build}
-use Rattle.filter.specs.declared.answers.Rule.{Rule}
-use Rattle.filter.specs.declared.answers.Rule.the-variants.{EdgeFailed, Rough, Simple, HighVariance, MacroblockEdge, InnerEdge}
+pub use Rattle.filter.specs.declared.answers.Rule.{Rule}
+pub use Rattle.filter.specs.declared.answers.Rule.the-variants.{EdgeFailed, Rough, Simple, HighVariance, MacroblockEdge, InnerEdge}
 use Rattle.filter.specs.declared.answers.Pixel.{Pixel}
 use Rattle.filter.specs.declared.answers.Pixel.the-variants.{Value, Refused}
 

@@ -6,13 +6,12 @@ use mathlib.Core.Logic.{inl, inr}
 use Prim.Native.Nat.{ℕ, zero, suc, _+_, _-_, _*_, _/_, _≤_, _<_}
 use native.Mathlib.Omega.{arith}
 use native.Mathlib.Nat.{add-zero}
-use borrow.Author.Tests.{lt-ltb, le-ltb}
 use lib.Dec.{T, ltb, lit<}
 use lib.ListN.{length, getD}
 use lib.IntN.{ℤ, pos, negsuc, negℤ, natAbs, _+ℤ_, _-ℤ_, _*ℤ_}
 use lib.Signed.{leZ}
 use mir.Syntax.{w32}
-use Rattle.numbers.specs.Tests.{never, lt-or, eq-or}
+use Rattle.numbers.specs.Tests.{never, lt-or, eq-or, lt-ltb, le-ltb}
 use Rattle.numbers.specs.In.{In, Each}
 use Rattle.numbers.specs.Parts.{to-le, of-le, of-eq, add-parts, sub-parts-ℤ, up-neg, dn-neg, up-times, dn-times, shr-parts}
 use Rattle.numbers.specs.Order.{times-mono, In-wider}
@@ -23,11 +22,9 @@ use Rattle.numbers.specs.Bounds.{each-[], each-∷}
 use Rattle.numbers.specs.Clamp.{signedByteZ, clipZ}
 use Rattle.numbers.specs.ClampLaws.{signed-in, upTo-same, upTo-le}
 use Rattle.numbers.specs.Lists.{build, built, length-build, getD-build, getD-build-past, getD-constant}
-use Rattle.filter.specs.declared.answers.Rule.{Rule}
-use Rattle.filter.specs.declared.answers.Rule.the-variants.{EdgeFailed, Rough, Simple, HighVariance, MacroblockEdge, InnerEdge}
 use Rattle.filter.specs.declared.answers.Pixel.the-variants.{Value, Refused}
 pub use Rattle.filter.specs.Kernel.{Bytes}
-use Rattle.filter.specs.Kernel.{Samples, samplesAcross, apart, withinLimit, firstFalse, smooth, pairs, roughAt, highVariance, ruleOf, across, tapped, eighth, part, half, sides, noSteps, commonSteps, macroblockSteps, innerSteps, stepsOf, movedOf, filterOf, pixelOf}
+use Rattle.filter.specs.Kernel.{Rule, EdgeFailed, Rough, Simple, HighVariance, MacroblockEdge, InnerEdge, Samples, samplesAcross, apart, withinLimit, firstFalse, smooth, pairs, roughAt, highVariance, ruleOf, across, tapped, eighth, part, half, sides, noSteps, commonSteps, macroblockSteps, innerSteps, stepsOf, movedOf, filterOf, pixelOf}
 
 -- ---- how far two samples lie apart: the greater less the other
 pub apart-above : (a b : ℕ) → b ≤ a → a - b ≡ apart (pos a) (pos b)

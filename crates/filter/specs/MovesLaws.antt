@@ -13,9 +13,7 @@ use Rattle.numbers.specs.Order.{In-wider}
 use Rattle.numbers.specs.Clamp.{clampZ, upTo, clipZ, signedByteZ}
 use Rattle.numbers.specs.ClampLaws.{clamp-cases, signed-in, upTo-is}
 use Rattle.numbers.specs.Lists.{build}
-use Rattle.filter.specs.declared.answers.Rule.{Rule}
-use Rattle.filter.specs.declared.answers.Rule.the-variants.{EdgeFailed, Rough, Simple, HighVariance, MacroblockEdge, InnerEdge}
-use Rattle.filter.specs.Kernel.{Samples, samplesAcross, apart, withinLimit, firstFalse, smooth, roughAt, highVariance, ruleOf, across, tapped, eighth, part, half, sides, noSteps, commonSteps, macroblockSteps, innerSteps, stepsOf, movedOf, filterOf}
+use Rattle.filter.specs.Kernel.{Rule, EdgeFailed, Rough, Simple, HighVariance, MacroblockEdge, InnerEdge, Samples, samplesAcross, apart, withinLimit, firstFalse, smooth, roughAt, highVariance, ruleOf, across, tapped, eighth, part, half, sides, noSteps, commonSteps, macroblockSteps, innerSteps, stepsOf, movedOf, filterOf}
 use Rattle.filter.specs.KernelLaws.{Bytes, eighth-in, half-in, part-in, moved-none, filter-at, steps-by-tests}
 use Rattle.filter.specs.Moves.{bounds, farthest, movesOf, cliff}
 

@@ -5,12 +5,11 @@ use mathlib.Core.List.{List, _∷_}
 use mathlib.Core.Logic.{inl, inr}
 use Prim.Native.Nat.{ℕ, _+_, _*_, _/_, _<_, _≤_}
 use native.Mathlib.Omega.{arith}
-use borrow.Author.Tests.{le-leb, lt-leb}
 use lib.Dec.{T, leb, ltb, lit<, lit≤}
 use lib.ListN.{getD}
 use lib.IntN.{ℤ, pos, negsuc, negℤ, natAbs, _+ℤ_, _-ℤ_, _*ℤ_, +ℤ-idl, +ℤ-comm}
 use lib.Signed.{_≤ℤ_, leZ, leZ-yes, shrZ}
-use Rattle.numbers.specs.Tests.{lt-or}
+use Rattle.numbers.specs.Tests.{lt-or, le-leb, lt-leb}
 use Rattle.numbers.specs.Parts.{to-le, of-le, of-eq, lt-parts, nlt-le, ≤ℤ-trans, add-parts, sub-parts-ℤ, up-neg, dn-neg, shr-parts}
 use Rattle.numbers.specs.Order.{shr-mono}
 use Rattle.numbers.specs.Clamp.{clampZ, clipZ, signedTo, signedByteZ}

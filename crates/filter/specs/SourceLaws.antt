@@ -5,13 +5,12 @@ use mathlib.Core.List.{List, [], _∷_}
 use Prim.Native.Nat.{ℕ, suc, _+_, _*_, _<_}
 use native.Mathlib.Omega.{arith}
 use native.Mathlib.Nat.{zero-add}
-use borrow.Author.Tests.{ltb-true}
 use lib.Dec.{T, ltb}
 use lib.ListN.{getD}
 use lib.IntN.{ℤ, pos, negsuc, natAbs, _+ℤ_, _-ℤ_, _*ℤ_}
 use lib.Signed.{_≤ℤ_, ltZ, leZ, leZ-yes, shrZ}
 use mir.Syntax.{w32}
-use Rattle.numbers.specs.Tests.{cond-at}
+use Rattle.numbers.specs.Tests.{cond-at, ltb-true}
 use Rattle.numbers.specs.Powers.{cases8}
 use Rattle.numbers.specs.In.{In}
 use Rattle.numbers.specs.Parts.{≤ℤ-trans}

@@ -1,18 +1,14 @@
 -- The laws of strengths: each number's cases, their ranges, the answer with good arguments.
 use Prim.Native.Nat.{ℕ, _+_, _-_, _/_, _≤_, _<_, min, max}
-use mathlib.Core.Path.{_≡_, refl, sym, _∙_}
+use mathlib.Core.Path.{_≡_, sym}
 use mathlib.Core.Logic.{⊎-elim}
-use mathlib.Core.Bool.{Bool, true, false}
+use mathlib.Core.Bool.{Bool, true}
 use native.Mathlib.Omega.{arith}
-use lib.Dec.{ltb, leb, eqb}
-use borrow.Author.Tests.{lt-ltb, le-ltb, le-leb, lt-leb, eq-eqb, ne-eqb}
-use Rattle.numbers.specs.Tests.{lt-or, eq-or, both-true}
+use Rattle.numbers.specs.Tests.{lt-or, eq-or, both-true, lt-ltb, le-ltb, le-leb, lt-leb, eq-eqb, ne-eqb}
 use Rattle.numbers.specs.Flags.{bitOf}
 use Rattle.numbers.specs.Flags.{bit-small}
-use Rattle.filter.specs.declared.strengths.Strength.{Strength}
-use Rattle.filter.specs.declared.strengths.Strengths.{Strengths}
 use Rattle.filter.specs.declared.strengths.Strengths.the-variants as T
-use Rattle.filter.specs.Strengths.{slowed, innerOf, thresholdOf, noStrength, strengthOf, strengthFine, strengthAnswer}
+use Rattle.filter.specs.Strengths.{Strength, slowed, innerOf, thresholdOf, noStrength, strengthOf, strengthFine, strengthAnswer}
 
 -- ---- the interior limit
 module _ (level sharp : ℕ) where

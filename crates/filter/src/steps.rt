@@ -9,7 +9,7 @@ ghost use lib.ListN.{getD};
 ghost use Rattle.numbers.specs.In.{In, Each};
 ghost use Rattle.numbers.specs.Clamp.{signedByteZ};
 ghost use Rattle.numbers.specs.Lists.{build};
-ghost use Rattle.filter.specs.Kernel.{samplesAcross, across, tapped, eighth, sides, noSteps, commonSteps, macroblockSteps};
+ghost use Rattle.filter.specs.Kernel.{samplesAcross, across, tapped, eighth, sides, commonSteps, macroblockSteps};
 ghost use Rattle.filter.specs.Kernel.{innerSteps, stepsOf, movedOf};
 
 // v as a signed byte, -128..=127.

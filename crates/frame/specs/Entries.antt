@@ -1,19 +1,12 @@
 -- The 1096 entries that every layer reads, made from the fields of the coded header, each stored by its name. Those with no name are 0.
 use Prim.Native.Nat.{ℕ, zero, suc, _+_, _-_}
-use mathlib.Core.Bool.{Bool, true, false}
+use mathlib.Core.Bool.{true, false}
 use mathlib.Core.List.{List, [], _∷_}
 use lib.Dec.{ltb}
 use lib.IntN.{ℤ, pos, _-ℤ_}
 use lib.ListN.{getD, set, replicate}
 use Rattle.numbers.specs.Lists.{build}
-use Rattle.frame.specs.declared.fields.CodedNumber.{CodedNumber}
-use Rattle.frame.specs.declared.fields.Four.{Four}
-use Rattle.frame.specs.declared.fields.Three.{Three}
-use Rattle.frame.specs.declared.fields.Segments.{Segments}
-use Rattle.frame.specs.declared.fields.Filter.{Filter}
-use Rattle.frame.specs.declared.fields.QuantIndices.{QuantIndices}
-use Rattle.frame.specs.declared.fields.Header.{Header}
-use Rattle.frame.specs.Header.{noValue}
+use Rattle.frame.specs.Header.{CodedNumber, Four, Three, Segments, Filter, QuantIndices, Header, noValue}
 use Rattle.header.specs.Entries as Name
 
 -- a coded number as a number: its magnitude, negative where its sign is not 0

@@ -1,31 +1,22 @@
 -- The entries of a header that was read: 1096 of them, each in -255..255.
 use Prim.Native.Nat.{ℕ, zero, suc, _-_, _≤_, _<_}
-use mathlib.Core.Path.{_≡_, refl, sym, _∙_, ap}
+use mathlib.Core.Path.{_≡_, refl, _∙_, ap}
 use mathlib.Core.Logic.{⊎-elim}
-use mathlib.Core.Bool.{Bool, true, false}
 use mathlib.Core.List.{List, [], _∷_}
 use native.Mathlib.Omega.{arith}
-use lib.Dec.{ltb, lit<}
+use lib.Dec.{lit<}
 use lib.IntN.{ℤ, pos, negsuc, _-ℤ_}
-use lib.ListN.{length, getD, set, replicate}
-use borrow.Author.Tests.{lt-ltb, le-ltb}
-use Rattle.numbers.specs.Tests.{lt-or}
+use lib.ListN.{length, getD, set}
+use Rattle.numbers.specs.Tests.{lt-or, lt-ltb, le-ltb}
 use Rattle.numbers.specs.In.{In, Each}
 use Rattle.numbers.specs.Parts.{of-le, ≤ℤ-trans}
 use mir.Syntax.{w32}
 use Rattle.numbers.specs.Know.{num, plainly, know-sub, round}
 use Rattle.numbers.specs.Hand.{unsigned-below, answered}
-use Rattle.numbers.specs.Lists.{build, length-build, getD-build, getD-build-past, set-keeps, getD-constant}
-use Rattle.frame.specs.declared.fields.CodedNumber.{CodedNumber}
-use Rattle.frame.specs.declared.fields.Four.{Four}
-use Rattle.frame.specs.declared.fields.Three.{Three}
-use Rattle.frame.specs.declared.fields.Segments.{Segments}
-use Rattle.frame.specs.declared.fields.Filter.{Filter}
-use Rattle.frame.specs.declared.fields.QuantIndices.{QuantIndices}
-use Rattle.frame.specs.declared.fields.Header.{Header}
-use Rattle.frame.specs.Header.{noValue}
+use Rattle.numbers.specs.Lists.{length-build, getD-build, getD-build-past, set-keeps, getD-constant}
+use Rattle.frame.specs.Header.{CodedNumber, Four, Three, Segments, Filter, QuantIndices, Header, noValue}
 use Rattle.frame.specs.Fine.{Small, FineFour, FineThree, FineSegments, FineFilter, FineQuantIndices, FineTaken}
-use Rattle.frame.specs.Entries.{negative, valueOf, plain, storedEntries, fourFrom, threeFrom, withSegments, withFilter, withQuantizers, numbers, numberAt, entries}
+use Rattle.frame.specs.Entries.{negative, valueOf, storedEntries, fourFrom, threeFrom, withSegments, withFilter, withQuantizers, numbers, numberAt, entries}
 
 -- as the code makes it
 pub value-plain : (sign size : ℕ) → sign ≡ 0 → pos size ≡ negative sign size

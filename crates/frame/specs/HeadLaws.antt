@@ -9,8 +9,7 @@ use native.Mathlib.Omega.{arith}
 use lib.Pow.{pow-pos}
 use lib.Dec.{ltb, leb, eqb, lit<}
 use lib.ListN.{length, getD}
-use borrow.Author.Tests.{le-leb, lt-ltb, le-ltb}
-use Rattle.numbers.specs.Tests.{lt-or}
+use Rattle.numbers.specs.Tests.{lt-or, le-leb, lt-ltb, le-ltb}
 use Rattle.numbers.specs.Lists.{build-same}
 use Rattle.numbers.specs.Tables.{allBelow}
 use Rattle.reader.specs.declared.boolean.Reader.{Reader}
@@ -19,12 +18,10 @@ use Rattle.reader.specs.Reading.{run}
 use Rattle.tile.specs.declared.Span.{Span}
 use Rattle.tile.specs.Partitions.{noSpan, spanAt}
 use Rattle.tile.specs.PartitionsLaws.{part-same}
-use Rattle.frame.specs.declared.fields.Header.{Header}
-use Rattle.frame.specs.declared.take.Taken.{Taken}
-use Rattle.frame.specs.Header.{header}
+use Rattle.frame.specs.Header.{Header, header}
 use Rattle.frame.specs.Tag.{twoAt, threeAt, tagOf, firstSize, roundedOf, tagFine}
 use Rattle.frame.specs.Places.{partitionCount, partitionSize, partitionStart, lengthOf, partitionSpan, tokenSpans, tokensInside}
-use Rattle.frame.specs.Take.{nothingTaken, firstOf, sizesPlace, tileOf, answerOf, wholeOf, partitionsPlaced, codedOf, givenHeader, takenOf}
+use Rattle.frame.specs.Take.{Taken, nothingTaken, firstOf, sizesPlace, tileOf, answerOf, wholeOf, partitionsPlaced, codedOf, givenHeader, takenOf}
 use Rattle.frame.specs.PlacesLaws.{place-stays, place-after, inside-all}
 use Rattle.frame.specs.Entries.{entries}
 use Rattle.frame.specs.TakeLaws.{take-coded}

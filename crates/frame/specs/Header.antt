@@ -7,15 +7,15 @@ use lib.ListN.{getD, set, replicate}
 use Rattle.header.specs.Entries.{probabilityCount}
 use Rattle.reader.specs.Reading.{Reading, done, _>>=_, symbol}
 use Rattle.reader.specs.Extra.{extra}
-use Rattle.frame.specs.declared.fields.CodedNumber.{CodedNumber}
-use Rattle.frame.specs.declared.fields.Four.{Four}
-use Rattle.frame.specs.declared.fields.Three.{Three}
+pub use Rattle.frame.specs.declared.fields.CodedNumber.{CodedNumber}
+pub use Rattle.frame.specs.declared.fields.Four.{Four}
+pub use Rattle.frame.specs.declared.fields.Three.{Three}
 use Rattle.frame.specs.declared.fields.Features.{Features}
-use Rattle.frame.specs.declared.fields.Segments.{Segments}
+pub use Rattle.frame.specs.declared.fields.Segments.{Segments}
 use Rattle.frame.specs.declared.fields.Deltas.{Deltas}
-use Rattle.frame.specs.declared.fields.Filter.{Filter}
-use Rattle.frame.specs.declared.fields.QuantIndices.{QuantIndices}
-use Rattle.frame.specs.declared.fields.Header.{Header}
+pub use Rattle.frame.specs.declared.fields.Filter.{Filter}
+pub use Rattle.frame.specs.declared.fields.QuantIndices.{QuantIndices}
+pub use Rattle.frame.specs.declared.fields.Header.{Header}
 use Rattle.frame.specs.Tables.{defaultProbs, updateProbs}
 
 -- L(n): n bits, the highest first, each with probability 128 (section 8, 1373-1376)

@@ -5,9 +5,9 @@ use mathlib.Core.Bool.{Bool, true, false}
 use mathlib.Core.List.{List}
 use native.Mathlib.Omega.{arith}
 use lib.Dec.{ltb, lit<, lit≤}
-use lib.ListN.{length, getD, set, replicate, length-replicate}
+use lib.ListN.{getD, set, replicate, length-replicate}
 use lib.Pow.{pow-mono}
-use borrow.Author.Tests.{ltb-true, lt-ltb}
+use borrow.Author.Tests.{ltb-true}
 use Rattle.header.specs.Entries.{probabilityCount}
 use Rattle.numbers.specs.Lists.{set-keeps}
 use Rattle.numbers.specs.Tables.{all-of-any}
@@ -15,7 +15,7 @@ use Rattle.reader.specs.declared.boolean.Reader.{Reader}
 use Rattle.reader.specs.BooleanLaws.{Bytes}
 use Rattle.reader.specs.Reads.{Reads}
 use Rattle.reader.specs.ReadsLaws.{reads-done}
-use Rattle.reader.specs.Reading.{Reading, done, ask, symbol, Within, ends, asks}
+use Rattle.reader.specs.Reading.{Reading, Within, ends}
 use Rattle.reader.specs.ReadingLaws.{within-bind, within-more, within-weaken, within-symbol}
 use Rattle.reader.specs.ExtraLaws.{extra-within}
 use Rattle.frame.specs.Fine.{Small, FineFour, FineThree, FineFeatures, FineSegments, FineDeltas, FineFilter, FineQuantIndices, FineTaken}

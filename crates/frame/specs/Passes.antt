@@ -10,8 +10,7 @@ use Rattle.header.specs.Entries.{entryCount}
 use Rattle.tile.specs.declared.Tile.{Tile}
 use Rattle.tile.specs.Partitions.{spanAt}
 use Rattle.tile.specs.Checks.{Sides, Counted, Cut}
-use Rattle.frame.specs.declared.take.Taken.{Taken}
-use Rattle.frame.specs.Take.{refusedAnswer, nothingTaken}
+use Rattle.frame.specs.Take.{Taken, refusedAnswer, nothingTaken}
 
 -- a side covers the true size, by less than 16 more
 pub record Covers (true side : ℕ) : Type 0 where

@@ -9,8 +9,7 @@ use native.Mathlib.Omega.{arith}
 use lib.Dec.{leb, eqb, lit≤}
 use lib.IntN.{ℤ}
 use lib.ListN.{length, getD}
-use borrow.Author.Tests.{leb-true, le-leb, lt-leb, eqb-true, eq-eqb}
-use Rattle.numbers.specs.Tests.{lt-or, never, both-left, both-right}
+use Rattle.numbers.specs.Tests.{lt-or, never, both-left, both-right, leb-true, le-leb, lt-leb, eqb-true, eq-eqb}
 use Rattle.numbers.specs.Lists.{getD-build, length-build}
 use Rattle.numbers.specs.Tables.{all-below}
 use Rattle.reader.specs.declared.boolean.Reader.{Reader}
@@ -21,14 +20,13 @@ use Rattle.tile.specs.Partitions.{noSpan, spanAt, contentsOf}
 use Rattle.tile.specs.PartitionsLaws.{part-bytes, span-at}
 use Rattle.tile.specs.Checks.{Side, Counted, Inside}
 use Rattle.frame.specs.declared.fields.Header.{Header}
-use Rattle.frame.specs.declared.take.Taken.{Taken}
 use Rattle.frame.specs.Fine.{FineTaken}
 use Rattle.frame.specs.HeaderLaws.{header-within}
 use Rattle.frame.specs.Tag.{firstSize, widthOf, heightOf, roundedOf, startCodeOf, versionOf, interOf, tagFine}
 use Rattle.frame.specs.Places.{partitionCount, partitionStart, lengthOf, partitionSpan, tokenSpans, tokensInside}
 use Rattle.frame.specs.PlacesLaws.{span-is, place-apart, place-after}
 use Rattle.frame.specs.EntriesLaws.{entries-length, entries-each}
-use Rattle.frame.specs.Take.{nothingTaken, firstOf, sizesPlace, tileOf, wholeOf, partitionsPlaced, codedOf, givenHeader, takenOf, intoOf}
+use Rattle.frame.specs.Take.{Taken, nothingTaken, firstOf, sizesPlace, tileOf, wholeOf, partitionsPlaced, codedOf, givenHeader, takenOf, intoOf}
 use Rattle.frame.specs.TakeLaws.{take-tag, take-first, take-short, take-coded}
 use Rattle.frame.specs.Passes.{Covers, Passes, InOrder, FrameRefused, FrameKept}
 

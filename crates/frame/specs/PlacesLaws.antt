@@ -8,8 +8,7 @@ use native.Mathlib.Omega.{arith}
 use native.Mathlib.Nat.{add-suc, add-zero, zero-add}
 use lib.Dec.{leb}
 use lib.ListN.{length}
-use borrow.Author.Tests.{lt-ltb, le-ltb, le-leb, leb-true}
-use Rattle.numbers.specs.Tests.{lt-or, not-so, both-right, both-true}
+use Rattle.numbers.specs.Tests.{lt-or, not-so, both-right, both-true, lt-ltb, le-ltb, le-leb, leb-true}
 use Rattle.numbers.specs.Tables.{allBelow, all-below}
 use Rattle.frame.specs.Tag.{threeAt}
 use Rattle.tile.specs.Partitions.{noSpan}

@@ -1,6 +1,6 @@
 -- THE call: the key frame's own header made into what the picture call takes, with its refusals in order.
 use Prim.Native.Nat.{ℕ, _+_}
-use mathlib.Core.Bool.{Bool, true, false, not}
+use mathlib.Core.Bool.{true, false, not}
 use mathlib.Core.List.{List}
 use lib.Dec.{ltb, leb, eqb}
 use lib.IntN.{ℤ, pos}
@@ -8,14 +8,13 @@ use lib.ListN.{length, replicate}
 use Rattle.reader.specs.declared.boolean.Reader.{Reader}
 use Rattle.reader.specs.Boolean.{Given, given, missing, firstReader, noReader}
 use Rattle.reader.specs.Reading.{run}
-use Rattle.frame.specs.declared.fields.Header.{Header}
 use Rattle.header.specs.Entries.{entryCount}
 use Rattle.tile.specs.declared.Span.{Span}
 use Rattle.tile.specs.declared.Tile.{Tile}
 use Rattle.tile.specs.Partitions.{noSpan, contentsOf}
-use Rattle.frame.specs.declared.take.Answer.{Answer}
-use Rattle.frame.specs.declared.take.Taken.{Taken}
-use Rattle.frame.specs.Header.{header}
+pub use Rattle.frame.specs.declared.take.Answer.{Answer}
+pub use Rattle.frame.specs.declared.take.Taken.{Taken}
+use Rattle.frame.specs.Header.{Header, header}
 use Rattle.frame.specs.Tag.{firstSize, widthOf, heightOf, tagFine, roundedOf}
 use Rattle.frame.specs.Places.{partitionCount, tokenSpans, tokensInside}
 use Rattle.frame.specs.Entries.{entries}

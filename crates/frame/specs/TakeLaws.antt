@@ -1,32 +1,29 @@
 -- The call, as the code makes it: one test after the other.
 use Prim.Native.Nat.{ℕ, _+_, _≤_, _<_}
-use mathlib.Core.Path.{_≡_, refl, sym, _∙_, ap}
+use mathlib.Core.Path.{_≡_, sym, _∙_, ap}
 use mathlib.Core.Bool.{true, false, not}
 use mathlib.Core.List.{List}
 use native.Mathlib.Omega.{arith}
-use lib.Dec.{ltb, leb, eqb}
+use lib.Dec.{leb, eqb}
 use lib.IntN.{ℤ}
 use lib.ListN.{length}
 use borrow.Author.Tests.{lt-ltb, le-ltb, eq-eqb, ne-eqb}
 use Rattle.reader.specs.declared.boolean.Reader.{Reader}
-use Rattle.reader.specs.Boolean.{given, missing, firstReader, validOf}
+use Rattle.reader.specs.Boolean.{given, firstReader, validOf}
 use Rattle.reader.specs.BooleanLaws.{Bytes, first-valid, valid-test, valid-fact}
 use Rattle.reader.specs.Reading.{run}
 use Rattle.reader.specs.ReadingLaws.{run-valid}
-use Rattle.frame.specs.declared.fields.Header.{Header}
 use Rattle.tile.specs.declared.Span.{Span}
 use Rattle.tile.specs.Partitions.{contentsOf}
-use Rattle.frame.specs.declared.take.Answer.{Answer}
-use Rattle.frame.specs.declared.take.Taken.{Taken}
-use Rattle.frame.specs.Header.{header}
+use Rattle.frame.specs.Header.{Header, header}
 use Rattle.frame.specs.Tag.{threeAt, firstSize, widthOf, heightOf, roundedOf, tagFine}
-use Rattle.frame.specs.Places.{partitionCount, partitionStart, tokenSpans, tokensInside}
+use Rattle.frame.specs.Places.{partitionCount, partitionStart, tokenSpans}
 use Rattle.frame.specs.Fine.{FineTaken}
 use Rattle.frame.specs.HeaderLaws.{header-within}
 use Rattle.frame.specs.Entries.{entries}
 use Rattle.reader.specs.Reads.{Reads}
 use Rattle.frame.specs.PlacesLaws.{inside-all, inside-not}
-use Rattle.frame.specs.Take.{refusedAnswer, nothingTaken, firstOf, sizesPlace, wholeOf, partitionsPlaced, codedOf, givenHeader, takenOf, storedOf, intoOf}
+use Rattle.frame.specs.Take.{Answer, Taken, refusedAnswer, nothingTaken, firstOf, sizesPlace, wholeOf, partitionsPlaced, codedOf, givenHeader, takenOf, storedOf, intoOf}
 
 -- nineteen bits
 pub first-small : (b : List ℕ) → Bytes b → firstSize b < 524288

@@ -7,13 +7,11 @@ use lib.ListN.{getD, replicate}
 use Rattle.numbers.specs.Clamp.{upTo}
 use Rattle.header.specs.Entries.{mapOn, mapProbability, sharpness, skipsOn, skipProbability}
 use Rattle.header.specs.Header.{entry, presentAt, probabilityAt, headerOf}
-use Rattle.header.specs.Quantizers.{factorsOf, noFactors}
+use Rattle.header.specs.Quantizers.{Factors, factorsOf, noFactors}
 use Rattle.header.specs.Levels.{levelOf}
-use Rattle.header.specs.declared.quantizers.Factors.{Factors}
-use Rattle.header.specs.declared.frame.Announced.{Announced}
-use Rattle.header.specs.declared.frame.Frame.{Frame}
-use Rattle.header.specs.declared.frame.Framed.{Framed}
-use Rattle.numbers.specs.declared.Checked.{Checked}
+pub use Rattle.header.specs.declared.frame.Announced.{Announced}
+pub use Rattle.header.specs.declared.frame.Frame.{Frame}
+pub use Rattle.header.specs.declared.frame.Framed.{Framed}
 use Rattle.numbers.specs.declared.Checked.the-variants as T
 
 -- the filter levels of the four segments, for small modes or large

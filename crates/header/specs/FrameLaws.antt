@@ -10,14 +10,11 @@ use Rattle.header.specs.HeaderLaws.{probability-below}
 use Rattle.numbers.specs.Clamp.{upTo}
 use Rattle.header.specs.Entries.{mapOn, mapProbability, sharpness, skipsOn, skipProbability}
 use Rattle.header.specs.Header.{entry, presentAt, probabilityAt, headerOf}
-use Rattle.header.specs.declared.quantizers.Factors.{Factors}
-use Rattle.header.specs.Quantizers.{factorsOf, noFactors}
+use Rattle.header.specs.Quantizers.{Factors, factorsOf, noFactors}
 use Rattle.header.specs.Levels.{levelOf}
 use Rattle.header.specs.LevelsLaws.{level-in}
-use Rattle.header.specs.declared.frame.Announced.{Announced}
-use Rattle.header.specs.declared.frame.Frame.{Frame}
 use Rattle.numbers.specs.declared.Checked.the-variants as T
-use Rattle.header.specs.Frame.{levelsOf, announcedOf, noAnnounced, frameOf, noFrame, factorsAt, levelAt, framedOf}
+use Rattle.header.specs.Frame.{Announced, Frame, levelsOf, announcedOf, noAnnounced, frameOf, noFrame, factorsAt, levelAt, framedOf}
 
 -- ---- the parts together
 pub no-frame : {a b c d : Factors} {n : Announced} → a ≡ noFactors → b ≡ noFactors → c ≡ noFactors → d ≡ noFactors → n ≡ noAnnounced

@@ -1,17 +1,16 @@
 -- The laws of the header's test: what a fine header is.
 use Prim.Native.Nat.{ℕ, zero, suc, _+_, _-_, _/_, _%_, _<_}
-use mathlib.Core.Path.{_≡_, refl, sym, _∙_, ap}
+use mathlib.Core.Path.{_≡_, refl, sym, ap}
 use mathlib.Core.Logic.{⊎-elim}
-use mathlib.Core.Bool.{Bool, true, false, not, _&&_, _||_}
+use mathlib.Core.Bool.{Bool, true, false, not, _||_}
 use mathlib.Core.List.{List}
 use native.Mathlib.Omega.{arith}
 use native.Mathlib.Numerals.{add-one}
 use lib.Dec.{eqb}
-use lib.ListN.{length, getD, List·getD-eq-default}
+use lib.ListN.{length, List·getD-eq-default}
 use lib.IntN.{ℤ, pos, negsuc, _+ℤ_, _*ℤ_}
 use lib.Signed.{ltZ, shrZ}
-use borrow.Author.Tests.{eq-eqb, ne-eqb, eqb-true, not-true, not-false}
-use Rattle.numbers.specs.Tests.{lt-or, never, not-so, both-left, both-right, both-true}
+use Rattle.numbers.specs.Tests.{lt-or, never, not-so, both-left, both-right, both-true, eq-eqb, eqb-true, not-true}
 use Rattle.numbers.specs.In.{In, Each}
 use Rattle.numbers.specs.Parts.{nlt-le, of-le, of-eq, add-parts, up-times, dn-times}
 use Rattle.header.specs.Entries.{entryCount}

@@ -5,8 +5,7 @@ use mathlib.Core.Bool.{Bool, true, false, _&&_}
 use mathlib.Core.List.{List}
 use lib.Dec.{ltb}
 use lib.IntN.{ℤ, pos, negsuc, _+ℤ_}
-use borrow.Author.Tests.{lt-ltb, le-ltb}
-use Rattle.numbers.specs.Tests.{both-true, both-false}
+use Rattle.numbers.specs.Tests.{both-true, both-false, lt-ltb, le-ltb}
 use Rattle.numbers.specs.In.{In, Each}
 use Rattle.numbers.specs.Order.{In-wider}
 use Rattle.numbers.specs.Know.{num, plainly, inside, know-add}
@@ -14,7 +13,6 @@ use Rattle.numbers.specs.Clamp.{upTo}
 use Rattle.numbers.specs.ClampLaws.{upTo-le}
 use Rattle.header.specs.Entries.{segmentLevel, frameLevel, deltasOn, intraDelta, smallDelta}
 use Rattle.header.specs.Header.{presentAt, headerOf}
-use Rattle.header.specs.declared.levels.Level.{Level}
 use Rattle.header.specs.declared.levels.Level.the-variants as L
 use Rattle.header.specs.Own.{segmentedOf}
 use Rattle.header.specs.Levels.{levelDeltas, deltaOf, levelOf, levelAnswer}

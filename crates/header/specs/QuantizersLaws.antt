@@ -1,21 +1,17 @@
 -- The laws of the quantizers: the tables' ranges, and the answer with good arguments.
-use Prim.Native.Nat.{ℕ, _+_, _*_, _/_, _≤_, _<_, min, max}
-use mathlib.Core.Path.{_≡_, refl, sym, _∙_, ap}
-use mathlib.Core.Bool.{Bool, true, false, not, _&&_}
+use Prim.Native.Nat.{ℕ, _*_, _/_, _≤_, _<_, min}
+use mathlib.Core.Path.{_≡_, refl}
+use mathlib.Core.Bool.{true, false, _&&_}
 use mathlib.Core.List.{List}
 use native.Mathlib.Omega.{arith}
-use lib.Dec.{ltb, leb}
-use lib.ListN.{getD}
-use lib.IntN.{ℤ, pos, _+ℤ_}
-use borrow.Author.Tests.{ltb-true, lt-ltb, le-ltb}
-use Rattle.numbers.specs.Tests.{both-left, both-right, both-true, both-false}
+use lib.Dec.{ltb}
+use lib.IntN.{ℤ}
+use Rattle.numbers.specs.Tests.{both-true, both-false, ltb-true, lt-ltb, le-ltb}
 use Rattle.numbers.specs.Tables.{all-of-any}
 use Rattle.header.specs.Entries.{ydcDelta, y2dcDelta, y2acDelta, uvdcDelta, uvacDelta}
 use Rattle.header.specs.Header.{entry, headerOf}
-use Rattle.header.specs.declared.quantizers.Factors.{Factors}
-use Rattle.header.specs.declared.quantizers.Quantizers.{Quantizers}
 use Rattle.header.specs.declared.quantizers.Quantizers.the-variants as Q
-use Rattle.header.specs.Quantizers.{dcSteps, acSteps, dcAt, acAt, indexOf, indexWith, secondAc, factorsOf, quantizersOf}
+use Rattle.header.specs.Quantizers.{Factors, dcSteps, acSteps, dcAt, acAt, indexOf, indexWith, secondAc, factorsOf, quantizersOf}
 
 -- ---- the tables' ranges: each a test of the whole table
 pub dc-in : (i : ℕ) {r : ℕ} → r ≡ dcAt i → (r ≡ dcAt i) × (r < 158)

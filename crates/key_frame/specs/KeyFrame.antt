@@ -6,17 +6,15 @@ use mathlib.Core.List.{List}
 use lib.IntN.{ℤ}
 use Rattle.header.specs.Entries.{frameLevel}
 use Rattle.header.specs.Header.{presentAt}
-use Rattle.tile.specs.declared.Tile.{Tile}
 use Rattle.lent.specs.Memory.{Memory, memoryOf, sizesOf}
 use Rattle.macroblock.specs.declared.arguments.SymbolCounts.{SymbolCounts}
-use Rattle.macroblock.specs.Macroblock.{Planes, planesOf}
+use Rattle.macroblock.specs.Macroblock.{Planes}
 use Rattle.choices.specs.Checks.{Call, callOf, refusalOf}
 use Rattle.choices.specs.Answer.{numberOf, valuesOf}
 use Rattle.picture.specs.Picture.{Ended, pictureOf, planesIn}
 use Rattle.picture.specs.Counts.{costOf}
 use Rattle.deblock.specs.Deblock.{deblockOf}
 use Rattle.frame.specs.declared.take.Answer.{Answer}
-use Rattle.frame.specs.declared.take.Taken.{Taken}
 use Rattle.frame.specs.Take.{refusedAnswer, takenOf, intoOf}
 use Rattle.key_frame.specs.declared.Shown.{Shown}
 

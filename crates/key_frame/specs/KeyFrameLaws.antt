@@ -1,6 +1,6 @@
 -- The laws of the call on a key frame that its proofs and its callers cite: which way it goes.
 use Prim.Native.Nat.{ℕ, zero, suc}
-use mathlib.Core.Path.{_≡_, refl, sym, _∙_, ap, ap₂}
+use mathlib.Core.Path.{_≡_, refl, sym, _∙_, ap}
 use mathlib.Core.Bool.{true, false}
 use mathlib.Core.List.{List}
 use native.Mathlib.Omega.{arith}
@@ -15,14 +15,14 @@ use Rattle.choices.specs.Checks.{callOf, refusalOf}
 use Rattle.choices.specs.Answer.{numberOf, valuesOf}
 use Rattle.picture.specs.Picture.{Ended, pictureOf, planesIn}
 use Rattle.picture.specs.Counts.{costOf}
-use Rattle.deblock.specs.Deblock.{DeblockAnswer, deblockOf}
+use Rattle.deblock.specs.Deblock.{deblockOf}
 use Rattle.frame.specs.declared.take.Answer.{Answer}
 use Rattle.frame.specs.declared.take.Taken.{Taken}
-use Rattle.frame.specs.Take.{refusedAnswer, takenOf, storedOf, intoOf}
+use Rattle.frame.specs.Take.{takenOf, storedOf, intoOf}
 use Rattle.frame.specs.TakeLaws.{into-length, into-stored, into-refused, stored-is}
 use Rattle.frame.specs.PassesLaws.{entries-whole}
 use Rattle.key_frame.specs.declared.Shown.{Shown}
-use Rattle.key_frame.specs.KeyFrame.{frameCall, framePlanes, withPlanes, framed, keyFramed, refusedShown, shownOf, frameShown, shownFrame, keyFrameOf}
+use Rattle.key_frame.specs.KeyFrame.{frameCall, framePlanes, withPlanes, framed, keyFramed, refusedShown, frameShown, shownFrame, keyFrameOf}
 
 -- ---- the loop filter: on, or off
 module _ (header : List ℤ) (a : Answer) (strengths : List ℕ) (d : Planes) where

@@ -15,9 +15,8 @@ use Rattle.modes.specs.declared.contexts.Context.{Context}
 use Rattle.modes.specs.Contexts.{emptyContext, contextFine, Shaped}
 use Rattle.column.specs.Column.{digitsOf}
 use Rattle.column.specs.ColumnLaws.{unpacked-shaped, context-back}
-use Rattle.lent.specs.declared.columns.ColumnRecord.{ColumnRecord}
 use Rattle.numbers.specs.declared.Checked.the-variants as K
-use Rattle.lent.specs.Records.{recordAt, recordsIn, Form, packed, old, formWidth, columnWidth, columnBytes, contextIn, columnAt, columnSet, columnFound, Columns}
+use Rattle.lent.specs.Records.{ColumnRecord, recordAt, recordsIn, Form, packed, old, formWidth, columnWidth, columnBytes, contextIn, columnAt, columnSet, columnFound, Columns}
 use Rattle.lent.specs.RecordsLaws.{bytes-are, record-back, record-other, record-set-length, record-zeros, read-good}
 
 -- ---- the bytes of a context say which it is

@@ -6,19 +6,17 @@ use mathlib.Core.Bool.{Bool, true, false, _&&_}
 use lib.ListN.{length, getD, length-append, List·getD-append}
 use lib.Seq.{getD-append-add, getD-append-seam}
 use lib.Dec.{ltb, lit<}
-use borrow.Author.Tests.{lt-ltb}
-use Rattle.numbers.specs.Tests.{both-true, both-left}
+use Rattle.numbers.specs.Tests.{both-true, both-left, lt-ltb}
 use Rattle.numbers.specs.Flags.{bitOf}
 use Rattle.numbers.specs.Runs.{copied}
-use Rattle.filter.specs.declared.strengths.Strength.{Strength}
-use Rattle.modes.specs.declared.answers.Kinds.{Kinds}
 use Rattle.modes.specs.Modes.{zeros, Macroblock}
 use Rattle.modes.specs.ModesLaws.{InRange}
+use Rattle.modes.specs.declared.answers.Kinds.{Kinds}
 use Rattle.modes.specs.Answers.{kindsOf}
-use Rattle.lent.specs.declared.macroblocks.StrengthRecord.{StrengthRecord}
 use Rattle.numbers.specs.declared.Checked.the-variants as K
+use Rattle.filter.specs.declared.strengths.Strength.{Strength}
 use Rattle.filter.specs.Strengths.{strengthFine}
-use Rattle.lent.specs.Records.{recordsIn, FoundRecord, modeWidth, modeRecord, isOn, kindsIn, modesIn, kindsAt, modesAt, modeSet, kindsFine, modeFound, strengthWidth, strengthRecord, strengthIn, strengthAt, strengthSet, strengthFound}
+use Rattle.lent.specs.Records.{StrengthRecord, recordsIn, FoundRecord, modeWidth, modeRecord, isOn, kindsIn, modesIn, kindsAt, modesAt, modeSet, kindsFine, modeFound, strengthWidth, strengthRecord, strengthIn, strengthAt, strengthSet, strengthFound}
 use Rattle.lent.specs.RecordsLaws.{copied-middle, bytes-are, record-back, record-other, record-set-length, read-good}
 
 -- ---- modes

@@ -11,15 +11,15 @@ use Rattle.numbers.specs.Flags.{bitOf}
 use Rattle.filter.specs.declared.strengths.Strength.{Strength}
 use Rattle.filter.specs.Strengths.{strengthFine}
 use Rattle.modes.specs.declared.answers.Kinds.{Kinds}
-use Rattle.modes.specs.declared.contexts.Context.{Context}
 use Rattle.modes.specs.Answers.{eachBelow}
+use Rattle.modes.specs.declared.contexts.Context.{Context}
 use Rattle.modes.specs.Contexts.{contextFine}
 use Rattle.numbers.specs.declared.Checked.{Checked}
 use Rattle.numbers.specs.declared.Checked.the-variants as K
 use Rattle.column.specs.Column.{packedBytes, contextUnpacked}
-use Rattle.lent.specs.declared.columns.ColumnRecord.{ColumnRecord}
-use Rattle.lent.specs.declared.macroblocks.ModeRecord.{ModeRecord}
-use Rattle.lent.specs.declared.macroblocks.StrengthRecord.{StrengthRecord}
+pub use Rattle.lent.specs.declared.columns.ColumnRecord.{ColumnRecord}
+pub use Rattle.lent.specs.declared.macroblocks.ModeRecord.{ModeRecord}
+pub use Rattle.lent.specs.declared.macroblocks.StrengthRecord.{StrengthRecord}
 
 -- ---- records of `width` bytes, side by side
 -- record i

@@ -9,8 +9,7 @@ use native.Mathlib.Nat.{zero-add, suc-mul, mul-le-mul-right, le-div-iff-mul-le}
 use lib.ListN.{length, getD, take, drop, replicate, length-replicate, length-append, length-drop, List·getD-append}
 use lib.Seq.{ext-getD, getD-take, getD-drop, getD-append-add, length-take-le}
 use lib.Dec.{ltb}
-use borrow.Author.Tests.{lt-ltb, le-ltb}
-use Rattle.numbers.specs.Tests.{lt-or, both-true, both-false}
+use Rattle.numbers.specs.Tests.{lt-or, both-true, both-false, lt-ltb, le-ltb}
 use Rattle.numbers.specs.Lists.{length-build, getD-build, built, build-same, build-listed, getD-constant}
 use Rattle.numbers.specs.Runs.{copied, Off, length-copied, copied-in, copied-off}
 use Rattle.lent.specs.Records.{recordAt, recordSet, recordsIn, bytesOf, Written, recordWritten, recordFound}

@@ -4,7 +4,7 @@ use mathlib.Core.Path.{_≡_}
 use mathlib.Core.Bool.{Bool, _&&_}
 use lib.Dec.{eqb}
 use Rattle.tile.specs.Checks.{sidesOf, blocksOf}
-use Rattle.lent.specs.declared.sizes.Sizes.{Sizes}
+pub use Rattle.lent.specs.declared.sizes.Sizes.{Sizes}
 use Rattle.lent.specs.Records.{Form, formWidth, modeWidth, strengthWidth}
 
 -- a memory of n bytes is as long as it must be

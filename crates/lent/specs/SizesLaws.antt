@@ -7,14 +7,12 @@ use native.Mathlib.Omega.{arith}
 use native.Mathlib.Nat.{mul-comm}
 use lib.Dec.{eqb}
 use lib.ListN.{length-replicate}
-use borrow.Author.Tests.{eqb-true, eq-eqb, ne-eqb}
-use Rattle.numbers.specs.Tests.{eq-or, both-left, both-right, both-true}
+use Rattle.numbers.specs.Tests.{eq-or, both-left, both-right, both-true, eqb-true, eq-eqb, ne-eqb}
 use Rattle.tile.specs.Checks.{sidesOf, Sides}
 use Rattle.tile.specs.ChecksLaws.{sides-fact, sides-test}
-use Rattle.lent.specs.declared.sizes.Sizes.{Sizes}
 use Rattle.lent.specs.Records.{Form, packed, old, formWidth}
 use Rattle.lent.specs.Memory.{Memory, sizesOf, blankOf}
-use Rattle.lent.specs.Sizes.{longOf, lumaFine, chromaFine, columnsFine, modesFine, strengthsFine, sizesFine, Sized}
+use Rattle.lent.specs.Sizes.{Sizes, longOf, lumaFine, chromaFine, columnsFine, modesFine, strengthsFine, sizesFine, Sized}
 
 -- ---- one memory
 module _ (w h n : ℕ) {must : ℕ} where

@@ -14,10 +14,7 @@ use Rattle.header.specs.FrameLaws.{Probabilities, Sound}
 use Rattle.modes.specs.Modes.{Macroblock}
 use Rattle.modes.specs.Answers.{contextsOf}
 use Rattle.residual.specs.Residual.{Flags}
-use Rattle.macroblock.specs.declared.arguments.Place.{Place}
-use Rattle.macroblock.specs.declared.arguments.Readers.{Readers}
-use Rattle.macroblock.specs.declared.arguments.Around.{Around}
-use Rattle.macroblock.specs.Macroblock.{Planes, MacroblockCalled, toMacroblockCalled, tokenStep}
+use Rattle.macroblock.specs.Macroblock.{Place, Readers, Around, Planes, MacroblockCalled, toMacroblockCalled, tokenStep}
 
 -- the planes hold whole macroblocks, and the one at this place is among them
 pub record Laid (place : Place) (p : Planes) : Type 0 where

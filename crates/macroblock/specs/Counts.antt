@@ -12,11 +12,8 @@ use Rattle.header.specs.declared.frame.Frame.{Frame}
 use Rattle.header.specs.Frame.{factorsAt}
 use Rattle.modes.specs.Modes.{Macroblock, modesOf}
 use Rattle.residual.specs.Residual.{residualOf}
-use Rattle.macroblock.specs.declared.arguments.Place.{Place}
-use Rattle.macroblock.specs.declared.arguments.Readers.{Readers}
-use Rattle.macroblock.specs.declared.arguments.SymbolCounts.{SymbolCounts}
-use Rattle.macroblock.specs.declared.arguments.Around.{Around}
-use Rattle.macroblock.specs.Macroblock.{Planes, readyOf, placeFine}
+pub use Rattle.macroblock.specs.declared.arguments.SymbolCounts.{SymbolCounts}
+use Rattle.macroblock.specs.Macroblock.{Place, Readers, Around, Planes, readyOf, placeFine}
 
 -- both counts
 abbrev pub readsMade : (first tokens : ℕ) → SymbolCounts

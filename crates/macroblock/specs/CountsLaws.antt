@@ -1,6 +1,6 @@
 -- The laws of a macroblock's counts: which they are, as the code finds them, and how large they can be.
 use Prim.Native.Nat.{ℕ, _≤_}
-use mathlib.Core.Path.{_≡_, refl, sym, _∙_, ap, subst}
+use mathlib.Core.Path.{_≡_, sym, _∙_, ap}
 use mathlib.Core.Bool.{Bool, true, false, _&&_}
 use mathlib.Core.List.{List}
 use native.Mathlib.Omega.{arith}
@@ -18,14 +18,10 @@ use Rattle.modes.specs.Modes.{Macroblock, modesOf}
 use Rattle.modes.specs.ModesLaws.{modes-within}
 use Rattle.residual.specs.Residual.{residualOf}
 use Rattle.residual.specs.ResidualLaws.{residual-within}
-use Rattle.macroblock.specs.declared.arguments.Place.{Place}
-use Rattle.macroblock.specs.declared.arguments.Readers.{Readers}
-use Rattle.macroblock.specs.declared.arguments.SymbolCounts.{SymbolCounts}
-use Rattle.macroblock.specs.declared.arguments.Around.{Around}
-use Rattle.macroblock.specs.Macroblock.{Planes, readyOf, placeFine}
+use Rattle.macroblock.specs.Macroblock.{Place, Readers, Around, Planes, readyOf, placeFine}
 use Rattle.macroblock.specs.Asked.{Ready, Laid}
 use Rattle.macroblock.specs.DecodeLaws.{ready-test, laid-test}
-use Rattle.macroblock.specs.Counts.{noReads, macroblockTokenReads, readsOf, decodeReads, AtMost}
+use Rattle.macroblock.specs.Counts.{SymbolCounts, noReads, macroblockTokenReads, readsOf, decodeReads, AtMost}
 
 module _ (first tokens : List ℕ) (readers : Readers) (f : Frame) (table : List ℕ) (around : Around) where
   abbrev modesRun : Given Macroblock

@@ -1,22 +1,20 @@
 -- The end of a macroblock, once its modes and its residual are read: as `endOf` has it where all is in range, and else whatever can be made.
-use mathlib.Core.Bool.{Bool, false, not, _||_}
+use mathlib.Core.Bool.{false, not, _||_}
 use mathlib.Core.List.{List}
 use Prim.Native.Nat.{_/_}
 use lib.IntN.{ℤ}
 use lib.ListN.{getD, take, drop}
 use Rattle.reader.specs.declared.boolean.Reader.{Reader}
-use Rattle.header.specs.Frame.{levelAt}
 use Rattle.header.specs.declared.frame.Frame.{Frame}
+use Rattle.header.specs.Frame.{levelAt}
 use Rattle.modes.specs.Modes.{Macroblock}
 use Rattle.modes.specs.Answers.{kindsOf}
 use Rattle.residual.specs.Residual.{Model}
 use Rattle.planes.specs.Paint.{paintOf}
 use Rattle.filter.specs.Strengths.{strengthAnswer, strengthsValuesOf}
-use Rattle.macroblock.specs.declared.arguments.Place.{Place}
-use Rattle.macroblock.specs.declared.ending.Outcome.{Outcome}
 use Rattle.macroblock.specs.declared.ending.Residue.{Residue}
 use Rattle.macroblock.specs.declared.ending.Finish.the-variants as F
-use Rattle.macroblock.specs.Macroblock.{Planes, MacroblockCalled, below, beside}
+use Rattle.macroblock.specs.Macroblock.{Place, Outcome, Planes, MacroblockCalled, below, beside}
 
 -- each of the three squares painted, or as it was where it cannot be
 abbrev pub squaresOf : Place → Macroblock → List ℤ → Planes → Planes

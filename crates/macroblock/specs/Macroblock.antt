@@ -1,30 +1,30 @@
 -- One macroblock (the source's vp8_macroblock): its modes, then its residual, then its three squares, its strengths and the contexts
 -- that it leaves. Where a byte is missing nothing is painted.
-use Prim.Native.Nat.{ℕ, _+_, _*_, _/_, _%_}
+use Prim.Native.Nat.{ℕ, _*_, _/_, _%_}
 use mathlib.Core.Bool.{Bool, true, false, not, _&&_, _||_}
-use mathlib.Core.List.{List, [], _∷_}
+use mathlib.Core.List.{List}
 use lib.Dec.{ltb, leb, eqb}
 use lib.IntN.{ℤ}
 use lib.ListN.{length, getD, take, drop, replicate}
 use Rattle.header.specs.Entries.{probabilityCount}
+use Rattle.reader.specs.declared.boolean.Reader.{Reader}
 use Rattle.reader.specs.Boolean.{Given, given, missing, validOf}
 use Rattle.reader.specs.Reading.{run}
-use Rattle.reader.specs.declared.boolean.Reader.{Reader}
-use Rattle.header.specs.Frame.{factorsAt, levelAt}
 use Rattle.header.specs.declared.frame.Frame.{Frame}
-use Rattle.modes.specs.declared.contexts.Context.{Context}
+use Rattle.header.specs.Frame.{factorsAt, levelAt}
 use Rattle.modes.specs.Modes.{Macroblock, modesOf, bottomOf, rightOf}
 use Rattle.modes.specs.Answers.{kindsOf}
+use Rattle.modes.specs.declared.contexts.Context.{Context}
 use Rattle.modes.specs.Contexts.{emptyContext, contextFine}
 use Rattle.residual.specs.Residual.{Model, residualOf}
 use Rattle.planes.specs.Paint.{squarePainted}
 use Rattle.filter.specs.declared.strengths.Strength.{Strength}
 use Rattle.filter.specs.Strengths.{strengthOf, noStrength}
-use Rattle.macroblock.specs.declared.arguments.Place.{Place}
-use Rattle.macroblock.specs.declared.arguments.Readers.{Readers}
-use Rattle.macroblock.specs.declared.arguments.Around.{Around}
-use Rattle.macroblock.specs.declared.ending.Outcome.{Outcome}
-use Rattle.macroblock.specs.declared.ending.Finish.{Finish}
+pub use Rattle.macroblock.specs.declared.arguments.Place.{Place}
+pub use Rattle.macroblock.specs.declared.arguments.Readers.{Readers}
+pub use Rattle.macroblock.specs.declared.arguments.Around.{Around}
+pub use Rattle.macroblock.specs.declared.ending.Outcome.{Outcome}
+pub use Rattle.macroblock.specs.declared.ending.Finish.{Finish}
 use Rattle.macroblock.specs.declared.ending.Finish.the-variants as F
 
 -- ---- the three planes, before a macroblock and after it

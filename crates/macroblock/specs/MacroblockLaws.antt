@@ -9,7 +9,7 @@ use lib.IntN.{ℤ, pos, negsuc}
 use lib.ListN.{length, getD, take, drop, length-take, length-drop, replicate, List·getD-eq-default}
 use lib.Seq.{getD-take, getD-drop, length-take-le, take-all, drop-drop}
 use Rattle.numbers.specs.Tests.{lt-or, never}
-use Rattle.numbers.specs.In.{In, Each}
+use Rattle.numbers.specs.In.{Each}
 use Rattle.numbers.specs.Parts.{of-le}
 use Rattle.reader.specs.declared.boolean.Reader.{Reader}
 use Rattle.reader.specs.Boolean.{Given, given, missing}
@@ -17,10 +17,10 @@ use Rattle.reader.specs.Reading.{run}
 use Rattle.header.specs.declared.frame.Frame.{Frame}
 use Rattle.header.specs.Frame.{factorsAt, levelAt}
 use Rattle.header.specs.FrameLaws.{Sound}
-use Rattle.modes.specs.declared.contexts.Context.{Context}
 use Rattle.modes.specs.Modes.{Macroblock, modesOf, bottomOf, rightOf}
 use Rattle.modes.specs.ModesLaws.{InRange}
 use Rattle.modes.specs.Answers.{kindsOf}
+use Rattle.modes.specs.declared.contexts.Context.{Context}
 use Rattle.modes.specs.Contexts.{emptyContext}
 use Rattle.transform.specs.Lanes.{byBlocks, macroblockBlocks}
 use Rattle.transform.specs.LanesLaws.{length-by-blocks, blocks-luma, blocks-chroma}
@@ -31,14 +31,9 @@ use Rattle.planes.specs.PaintLaws.{Proper, paint-good, square-taken}
 use Rattle.filter.specs.declared.strengths.Strength.{Strength}
 use Rattle.filter.specs.Strengths.{noStrength, strengthsValuesOf}
 use Rattle.filter.specs.StrengthsLaws.{strength-good}
-use Rattle.macroblock.specs.declared.arguments.Place.{Place}
-use Rattle.macroblock.specs.declared.arguments.Readers.{Readers}
-use Rattle.macroblock.specs.declared.arguments.Around.{Around}
-use Rattle.macroblock.specs.declared.ending.Finish.{Finish}
 use Rattle.macroblock.specs.declared.ending.Finish.the-variants as F
-use Rattle.macroblock.specs.declared.ending.Outcome.{Outcome}
 use Rattle.macroblock.specs.declared.ending.Residue.{Residue}
-use Rattle.macroblock.specs.Macroblock.{Planes, finished, paintedPlanes, below, beside, endOf, afterTokens, afterModes, tokenStep, stepOf, toMacroblockCalled, noOutcome}
+use Rattle.macroblock.specs.Macroblock.{Place, Readers, Around, Finish, Outcome, Planes, finished, paintedPlanes, below, beside, endOf, afterTokens, afterModes, tokenStep, stepOf, toMacroblockCalled, noOutcome}
 use Rattle.macroblock.specs.Ending.{squaresOf, residueOf, endOutcome, macroblockEnded}
 use Rattle.macroblock.specs.Asked.{Laid, Painting, tokensCalled}
 

@@ -4,17 +4,14 @@ use Prim.Native.Nat.{ℕ}
 use mathlib.Core.Bool.{Bool, true, false, _&&_}
 use mathlib.Core.List.{List}
 use lib.ListN.{length, replicate}
+use Rattle.reader.specs.declared.boolean.Reader.{Reader}
 use Rattle.reader.specs.Boolean.{validOf}
 use Rattle.reader.specs.Reading.{run}
-use Rattle.reader.specs.declared.boolean.Reader.{Reader}
 use Rattle.header.specs.declared.frame.Frame.{Frame}
 use Rattle.modes.specs.Modes.{modesOf}
 use Rattle.residual.specs.Residual.{Model, initial}
-use Rattle.macroblock.specs.declared.arguments.Place.{Place}
-use Rattle.macroblock.specs.declared.arguments.Readers.{Readers}
-use Rattle.macroblock.specs.declared.arguments.Around.{Around}
 use Rattle.macroblock.specs.declared.ending.Finish.the-variants as F
-use Rattle.macroblock.specs.Macroblock.{Planes, Step, finished, endOf, afterModes, MacroblockCalled, toMacroblockCalled, noOutcome, frameFine, aroundFine, placeFine}
+use Rattle.macroblock.specs.Macroblock.{Place, Readers, Around, Planes, Step, finished, endOf, afterModes, MacroblockCalled, toMacroblockCalled, noOutcome, frameFine, aroundFine, placeFine}
 
 -- no residual: 384 coefficients of 0, empty, and all nine flags 0 on either side
 abbrev pub noResidual : Model

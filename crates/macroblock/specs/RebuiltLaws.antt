@@ -1,5 +1,5 @@
 -- The laws of a macroblock that is rebuilt from its modes: what its call asks, which way it goes, what it leaves and what it does not touch.
-use Prim.Native.Nat.{ℕ, _≤_, _<_}
+use Prim.Native.Nat.{ℕ}
 use mathlib.Core.Path.{_≡_, refl, sym, _∙_, ap, subst}
 use mathlib.Core.Bool.{Bool, true, false, not, _&&_, _||_}
 use mathlib.Core.List.{List}
@@ -18,22 +18,17 @@ use Rattle.header.specs.Frame.{levelAt}
 use Rattle.header.specs.FrameLaws.{Sound}
 use Rattle.filter.specs.Strengths.{strengthFine}
 use Rattle.filter.specs.StrengthsLaws.{strength-fine}
-use Rattle.modes.specs.declared.contexts.Context.{Context}
 use Rattle.modes.specs.Modes.{Macroblock, modesOf}
 use Rattle.modes.specs.ModesLaws.{InRange, modes-within}
-use Rattle.modes.specs.Answers.{eachBelow, contextsOf}
+use Rattle.modes.specs.Answers.{eachBelow}
 use Rattle.modes.specs.Contexts.{contextFine}
 use Rattle.modes.specs.ContextsLaws.{contexts-fine}
-use Rattle.transform.specs.Lanes.{macroblockLanes, macroblockBlocks}
+use Rattle.transform.specs.Lanes.{macroblockBlocks}
 use Rattle.transform.specs.LanesLaws.{blocks-of-squares, squares-zeros}
-use Rattle.residual.specs.Residual.{Model, ModelInRange, Flags}
+use Rattle.residual.specs.Residual.{ModelInRange, Flags}
 use Rattle.residual.specs.ResidualLaws.{initial-whole}
-use Rattle.macroblock.specs.declared.arguments.Place.{Place}
-use Rattle.macroblock.specs.declared.arguments.Readers.{Readers}
-use Rattle.macroblock.specs.declared.arguments.Around.{Around}
-use Rattle.macroblock.specs.declared.ending.Outcome.{Outcome}
 use Rattle.macroblock.specs.declared.ending.Finish.the-variants as F
-use Rattle.macroblock.specs.Macroblock.{Planes, Finished, Step, finished, no-modes, no-tokens, toMacroblockCalled, strengthMade, endOf, afterModes, noOutcome, levelsFine, placeFine}
+use Rattle.macroblock.specs.Macroblock.{Place, Readers, Around, Outcome, Planes, Finished, Step, finished, no-modes, no-tokens, toMacroblockCalled, strengthMade, endOf, afterModes, noOutcome, levelsFine, placeFine}
 use Rattle.macroblock.specs.Ending.{residueOf, macroblockEnded}
 use Rattle.macroblock.specs.Asked.{Laid, Ready, Legible, FrameSizes, AroundSizes}
 use Rattle.macroblock.specs.MacroblockLaws.{painting, complete-good}

@@ -15,9 +15,7 @@ use Rattle.reader.specs.Reading.{run}
 use Rattle.modes.specs.Modes.{modesOf}
 use Rattle.residual.specs.Residual.{Model, residualOf}
 use Rattle.filter.specs.Strengths.{strengthOf}
-use Rattle.macroblock.specs.declared.arguments.Readers.{Readers}
-use Rattle.macroblock.specs.declared.arguments.Around.{Around}
-use Rattle.macroblock.specs.Macroblock.{Finished, below, beside}
+use Rattle.macroblock.specs.Macroblock.{Readers, Around, Finished, below, beside}
 
 -- the modes; the residual with the segment's factors; the strengths of the segment's level and of what was coded; the modes and flags that are
 -- left below and to the right

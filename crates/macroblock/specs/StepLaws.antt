@@ -12,10 +12,10 @@ use Rattle.reader.specs.Boolean.{Given, given, missing}
 use Rattle.reader.specs.BooleanLaws.{Bytes, Valid}
 use Rattle.reader.specs.Reading.{run}
 use Rattle.reader.specs.ReadingLaws.{ReadTo, run-valid}
-use Rattle.modes.specs.declared.contexts.Context.{Context}
 use Rattle.modes.specs.Answers.{macroblockOf}
 use Rattle.modes.specs.Modes.{Macroblock, modesOf, bottomOf, rightOf}
 use Rattle.modes.specs.ModesLaws.{InRange, modes-within, modes-test, bottom-modes, right-modes}
+use Rattle.modes.specs.declared.contexts.Context.{Context}
 use Rattle.modes.specs.Contexts.{contextFine}
 use Rattle.modes.specs.Contexts.{Shaped}
 use Rattle.residual.specs.Residual.{Model, ModelInRange, Flags, residualOf}
@@ -23,18 +23,13 @@ use Rattle.residual.specs.ResidualLaws.{residual-within}
 use Rattle.planes.specs.Paint.{PaintedPlane, sampleAt, squarePainted, paintOf}
 use Rattle.planes.specs.PaintLaws.{length-paint, paint-bytes, paint-off, paint-good}
 use Rattle.planes.specs.Places.{Outside}
-use Rattle.header.specs.declared.frame.Frame.{Frame}
-use Rattle.macroblock.specs.declared.ending.Finish.{Finish}
 use Rattle.macroblock.specs.declared.ending.Finish.the-variants as F
-use Rattle.macroblock.specs.declared.ending.Outcome.{Outcome}
-use Rattle.macroblock.specs.declared.arguments.Place.{Place}
-use Rattle.macroblock.specs.declared.arguments.Readers.{Readers}
-use Rattle.macroblock.specs.declared.arguments.Around.{Around}
 use Rattle.header.specs.FrameLaws.{Sound, frame-sound, frame-announced, frame-factors, frame-level, frame-sharp}
 use Rattle.filter.specs.Strengths.{strengthOf}
 use Rattle.filter.specs.StrengthsLaws.{limit-most}
+use Rattle.header.specs.declared.frame.Frame.{Frame}
 use Rattle.header.specs.Frame.{frameOf, factorsAt, levelAt}
-use Rattle.macroblock.specs.Macroblock.{Planes, Finished, Step, finished, no-modes, no-tokens, MacroblockCalled, toMacroblockCalled, paintedPlanes, strengthMade, below, beside, endOf, afterTokens, afterModes, tokenStep, stepOf, macroblockCallOf, finishNumberOf}
+use Rattle.macroblock.specs.Macroblock.{Finish, Outcome, Place, Readers, Around, Planes, Finished, Step, finished, no-modes, no-tokens, MacroblockCalled, toMacroblockCalled, paintedPlanes, strengthMade, below, beside, endOf, afterTokens, afterModes, tokenStep, stepOf, macroblockCallOf, finishNumberOf}
 use Rattle.macroblock.specs.Source.{Source}
 use Rattle.macroblock.specs.Asked.{Laid, Painting, Ready}
 use Rattle.macroblock.specs.MacroblockLaws.{painting, luma-proper, chroma-proper}

@@ -6,12 +6,9 @@ use Prim.Native.Nat.{ℕ}
 use Rattle.header.specs.declared.frame.Frame.{Frame}
 use Rattle.header.specs.Frame.{levelAt}
 use Rattle.header.specs.FrameLaws.{Sound}
-use Rattle.macroblock.specs.declared.arguments.Place.{Place}
-use Rattle.macroblock.specs.declared.arguments.Readers.{Readers}
-use Rattle.macroblock.specs.declared.arguments.Around.{Around}
 use Rattle.filter.specs.Strengths.{strengthFine}
 use Rattle.filter.specs.StrengthsLaws.{strength-fine}
-use Rattle.macroblock.specs.Macroblock.{Planes, Finished, finished, stepOf}
+use Rattle.macroblock.specs.Macroblock.{Place, Readers, Around, Planes, Finished, finished, stepOf}
 use Rattle.macroblock.specs.StepLaws.{step-both}
 
 pub step-strength : (first tokens : List ℕ) (readers : Readers) (f : Frame) (table : List ℕ) (around : Around) (place : Place) (p : Planes) {x : Finished}

@@ -8,9 +8,9 @@ use native.Mathlib.Omega.{arith}
 use lib.ListN.{set}
 use denote.Enum.Declared.{tagOf}
 use Rattle.header.specs.declared.frame.Announced.{Announced}
+use Rattle.reader.specs.declared.boolean.Symbol.the-variants as S
 use Rattle.reader.specs.declared.boolean.Reader.{Reader}
 use Rattle.reader.specs.declared.boolean.Symbol.{Symbol}
-use Rattle.reader.specs.declared.boolean.Symbol.the-variants as S
 use Rattle.reader.specs.Boolean.{Given, given, missing, toSymbol}
 use Rattle.reader.specs.BooleanLaws.{Bytes, Valid}
 use Rattle.reader.specs.Reading.{Reading, done, _>>=_, symbol, run, Within}

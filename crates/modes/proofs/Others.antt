@@ -4,8 +4,8 @@ use mathlib.Core.Path.{_≡_, refl}
 use mathlib.Core.Logic.{_⊎_}
 use mathlib.Core.List.{List}
 use denote.Enum.Declared.{tagOf}
-use Rattle.reader.specs.declared.boolean.Symbol.{Symbol}
 use Rattle.reader.specs.declared.trees.Walked.{Walked}
+use Rattle.reader.specs.declared.boolean.Symbol.{Symbol}
 use Rattle.reader.specs.Boolean.{missing}
 use Rattle.reader.specs.ReadingLaws.{fromSymbol}
 use Rattle.reader.specs.TreesLaws.{fromWalked}

@@ -8,24 +8,22 @@ use lib.Dec.{lit<}
 use lib.IntN.{ℤ}
 use lib.ListN.{length, getD, set, replicate}
 use Rattle.header.specs.declared.frame.Announced.{Announced}
-use Rattle.reader.specs.declared.boolean.Reader.{Reader}
 use Rattle.reader.specs.declared.trees.Branch.the-variants as B
+use Rattle.reader.specs.declared.boolean.Reader.{Reader}
 use Rattle.reader.specs.Boolean.{given}
 use Rattle.reader.specs.BooleanLaws.{Bytes, Valid}
 use Rattle.reader.specs.Reading.{Reading, done, _>>=_, symbol, run}
 use Rattle.reader.specs.Trees.{leaf, branchOf, branchAt, walk}
 use Rattle.wide.specs.Padded.{runPadded}
+use Rattle.wide.specs.declared.wide.Bit.{Bit}
+use Rattle.wide.specs.declared.wide.Wide.{Wide}
 use Rattle.wide.specs.Wide.{fillOf, wideBitOf, widenOf, eightInside, narrowOf}
 use Rattle.wide.specs.WideLaws.{Sim}
 use Rattle.wide.specs.WideRuns.{WideReads, Gave, Going, going-start, going-fill, going-bit, going-done, going-call, going-last, reads-as, reads-then, walking-start, walking-node, walking-leaf, wide-run}
-use Rattle.wide.specs.declared.wide.Bit.{Bit}
-use Rattle.wide.specs.declared.wide.Wide.{Wide}
-use Rattle.modes.specs.declared.answers.Kinds.{Kinds}
-use Rattle.modes.specs.declared.answers.Prefix.{Prefix}
 use Rattle.modes.specs.declared.quick.Coded.{Coded}
-use Rattle.modes.specs.Modes.{Modes, segTree, tree, segment, skip, prefix, largeMode, blockMode, modeAbove, modeLeft, smallFrom, zeros, smallModes, luma, Macroblock, modesOf}
+use Rattle.modes.specs.Modes.{Prefix, Modes, segTree, tree, segment, skip, prefix, largeMode, blockMode, modeAbove, modeLeft, smallFrom, zeros, smallModes, luma, Macroblock, modesOf}
 use Rattle.modes.specs.ModesLaws.{set-modes, zeros-modes}
-use Rattle.modes.specs.Answers.{macroblockOf}
+use Rattle.modes.specs.Answers.{Kinds, macroblockOf}
 use Rattle.modes.specs.Quick.{lastOf}
 
 -- ---- the last symbol of a walk: one of two leaves

@@ -7,20 +7,19 @@ use lib.IntN.{ℤ}
 use lib.Dec.{ltb, eqb}
 use Rattle.numbers.specs.Tables.{allOf}
 use Rattle.header.specs.Entries.{entryCount}
-use Rattle.header.specs.Frame.{announcedOf}
 use Rattle.header.specs.declared.frame.Announced.{Announced}
+use Rattle.header.specs.Frame.{announcedOf}
 use Rattle.reader.specs.declared.boolean.Reader.{Reader}
 use Rattle.reader.specs.Boolean.{Given, given, missing, validOf, noReader}
 use Rattle.reader.specs.Reading.{run}
-use Rattle.modes.specs.declared.answers.Prefix.{Prefix}
-use Rattle.modes.specs.declared.answers.Kinds.{Kinds}
+pub use Rattle.modes.specs.declared.answers.Kinds.{Kinds}
 use Rattle.modes.specs.declared.answers.Mode.{Mode}
 use Rattle.modes.specs.declared.answers.Headed.{Headed}
 use Rattle.modes.specs.declared.answers.Next.{Next}
 use Rattle.modes.specs.declared.answers.Stage.{Stage}
 use Rattle.modes.specs.declared.answers.Sixteen.{Sixteen}
 use Rattle.modes.specs.declared.answers.Staged.{Staged}
-use Rattle.modes.specs.Modes.{prefix, largeMode, blockMode, smallModes, Macroblock, modesOf}
+use Rattle.modes.specs.Modes.{Prefix, prefix, largeMode, blockMode, smallModes, Macroblock, modesOf}
 use Rattle.modes.specs.declared.answers.Mode.the-variants as M
 use Rattle.modes.specs.declared.answers.Headed.the-variants as H
 use Rattle.modes.specs.declared.answers.Next.the-variants as N

@@ -7,29 +7,26 @@ use mathlib.Core.Bool.{Bool, true, false, _&&_}
 use lib.ListN.{length}
 use lib.IntN.{ℤ}
 use lib.Dec.{ltb, eqb}
-use borrow.Author.Tests.{lt-ltb, le-ltb, eq-eqb, ne-eqb}
-use Rattle.numbers.specs.Tests.{both-true, both-false, not-first}
+use Rattle.numbers.specs.Tests.{both-true, both-false, not-first, lt-ltb, le-ltb, eq-eqb, ne-eqb}
 use Rattle.header.specs.Entries.{entryCount}
+use Rattle.header.specs.declared.frame.Announced.{Announced}
 use Rattle.header.specs.Frame.{announcedOf}
 use Rattle.header.specs.FrameLaws.{Probabilities}
-use Rattle.header.specs.declared.frame.Announced.{Announced}
 use Rattle.reader.specs.declared.boolean.Reader.{Reader}
 use Rattle.reader.specs.declared.boolean.Symbol.{Symbol}
 use Rattle.reader.specs.Boolean.{Given, given, missing, validOf, toSymbol}
 use Rattle.reader.specs.BooleanLaws.{Bytes, Valid, valid-test}
 use Rattle.reader.specs.Reading.{run}
 use Rattle.reader.specs.ReadingLaws.{fromSymbol, ReadTo, run-valid}
-use Rattle.modes.specs.declared.answers.Prefix.{Prefix}
-use Rattle.modes.specs.declared.answers.Kinds.{Kinds}
 use Rattle.modes.specs.declared.answers.Mode.{Mode}
 use Rattle.modes.specs.declared.answers.Headed.{Headed}
 use Rattle.modes.specs.declared.answers.Next.{Next}
 use Rattle.modes.specs.declared.answers.Stage.{Stage}
 use Rattle.modes.specs.declared.answers.Sixteen.{Sixteen}
 use Rattle.modes.specs.declared.answers.Staged.{Staged}
-use Rattle.modes.specs.Modes.{prefix, largeMode, blockMode, smallModes, Macroblock, modesOf}
+use Rattle.modes.specs.Modes.{Prefix, prefix, largeMode, blockMode, smallModes, Macroblock, modesOf}
 use Rattle.modes.specs.ModesLaws.{InRange, modes-within}
-use Rattle.modes.specs.Answers.{toMode, toHeaded, toSixteen, macroblockOf, toStaged, contextsOf, prefixAnswer, mainAnswer, blockAnswer, smallAnswer, modesAnswer}
+use Rattle.modes.specs.Answers.{Kinds, toMode, toHeaded, toSixteen, macroblockOf, toStaged, contextsOf, prefixAnswer, mainAnswer, blockAnswer, smallAnswer, modesAnswer}
 use Rattle.modes.specs.declared.answers.Mode.the-variants as M
 use Rattle.modes.specs.declared.answers.Headed.the-variants as H
 use Rattle.modes.specs.declared.answers.Next.the-variants as N

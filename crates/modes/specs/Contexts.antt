@@ -1,9 +1,8 @@
 -- What a macroblock leaves to the one below it and the one right of it: four modes, nine flags.
-use Prim.Native.Nat.{ℕ}
 use mathlib.Core.Path.{_≡_}
 use mathlib.Core.Bool.{Bool, _&&_}
 use lib.ListN.{length, replicate}
-use Rattle.modes.specs.declared.contexts.Context.{Context}
+pub use Rattle.modes.specs.declared.contexts.Context.{Context}
 use Rattle.modes.specs.Answers.{eachBelow}
 
 -- outside the picture: every mode DC (RFC 6386, section 11.3, 2490-2493), no coefficients (section 13.3, 3608-3612)

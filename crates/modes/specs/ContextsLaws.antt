@@ -7,11 +7,9 @@ use mathlib.Core.Logic.{inl, inr}
 use mathlib.Core.Path.{_≡_, refl, sym, _∙_}
 use lib.Dec.{ltb}
 use lib.ListN.{length, getD}
-use borrow.Author.Tests.{ltb-true, lt-ltb}
-use Rattle.numbers.specs.Tests.{lt-or, never, not-so, both-left, both-right, both-true}
-use Rattle.modes.specs.declared.contexts.Context.{Context}
+use Rattle.numbers.specs.Tests.{lt-or, never, not-so, both-left, both-right, both-true, ltb-true, lt-ltb}
 use Rattle.modes.specs.Answers.{eachBelow, contextsOf}
-use Rattle.modes.specs.Contexts.{contextFine}
+use Rattle.modes.specs.Contexts.{Context, contextFine}
 use Rattle.modes.specs.ModesLaws.{each-at, each-all}
 
 -- the modes of two contexts in range are what the modes' call asks

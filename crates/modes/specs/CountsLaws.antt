@@ -7,12 +7,11 @@ use native.Mathlib.Omega.{arith}
 use native.Mathlib.Nat.{add-zero}
 use native.Mathlib.Numerals.{add-one}
 use lib.Dec.{leb, lit≤}
-use borrow.Author.Tests.{leb-true}
 use Rattle.numbers.specs.Tables.{all-of-any}
 use lib.ListN.{length, getD, set, length-set}
 use lib.Seq.{getD-set-same, getD-set-other}
 use Rattle.numbers.specs.Flags.{bitOf}
-use Rattle.numbers.specs.Tests.{both-true, both-false}
+use Rattle.numbers.specs.Tests.{both-true, both-false, leb-true}
 use Rattle.header.specs.declared.frame.Announced.{Announced}
 use Rattle.reader.specs.declared.boolean.Reader.{Reader}
 use Rattle.reader.specs.Boolean.{given, validOf}
@@ -21,9 +20,8 @@ use Rattle.reader.specs.Reading.{symbol, run}
 use Rattle.reader.specs.Trace.{count}
 use Rattle.reader.specs.Counts.{Costs, ends}
 use Rattle.reader.specs.CountsLaws.{costs-reads, costs-bind, costs-after, costs-symbol, costs-walk}
-use Rattle.modes.specs.declared.answers.Prefix.{Prefix}
 use Rattle.modes.specs.Table.{probabilities}
-use Rattle.modes.specs.Modes.{segTree, yTree, uvTree, bTree, tree, optional, segment, skip, prefix, largeMode, blockMode, modeAbove, modeLeft, smallFrom, zeros, smallModes, luma, Macroblock, modesOf}
+use Rattle.modes.specs.Modes.{Prefix, segTree, yTree, uvTree, bTree, tree, optional, segment, skip, prefix, largeMode, blockMode, modeAbove, modeLeft, smallFrom, zeros, smallModes, luma, Macroblock, modesOf}
 use Rattle.modes.specs.Answers.{contextsOf}
 use Rattle.modes.specs.Counts.{modesReads, prefixReads, largeReads, smallDepths, smallReads, lumaReads, modesRead}
 

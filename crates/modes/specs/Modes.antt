@@ -9,7 +9,7 @@ use lib.Dec.{ltb, eqb}
 use Rattle.reader.specs.Reading.{Reading, done, _>>=_, symbol}
 use Rattle.header.specs.declared.frame.Announced.{Announced}
 use Rattle.reader.specs.Trees.{node, leaf, walk}
-use Rattle.modes.specs.declared.answers.Prefix.{Prefix}
+pub use Rattle.modes.specs.declared.answers.Prefix.{Prefix}
 use Rattle.modes.specs.Table.{probabilities}
 
 -- ---- the trees: node i is entries 2i and 2i + 1, each a node or a leaf, which is a mode

@@ -8,8 +8,7 @@ use native.Mathlib.Omega.{arith}
 use lib.ListN.{length, getD, set, length-set, replicate}
 use lib.IntN.{ℤ}
 use lib.Dec.{ltb, lit<, lit≤}
-use borrow.Author.Tests.{ltb-true, lt-ltb, le-ltb, eq-eqb, ne-eqb}
-use Rattle.numbers.specs.Tests.{lt-or, eq-or, never, both-left, both-right, both-true}
+use Rattle.numbers.specs.Tests.{lt-or, eq-or, never, both-left, both-right, both-true, ltb-true, lt-ltb, le-ltb, eq-eqb, ne-eqb}
 use Rattle.numbers.specs.Lists.{set-keeps}
 use Rattle.numbers.specs.Tables.{allAt, all-of, all-of-any}
 use Rattle.reader.specs.BooleanLaws.{Bytes}
@@ -18,10 +17,9 @@ use Rattle.reader.specs.ReadingLaws.{within-bind, within-more, within-symbol}
 use Rattle.header.specs.declared.frame.Announced.{Announced}
 use Rattle.header.specs.FrameLaws.{Probabilities}
 use Rattle.reader.specs.TreesLaws.{leavesReached, walk-below}
-use Rattle.modes.specs.declared.answers.Prefix.{Prefix}
 use Rattle.modes.specs.Table.{probabilities}
 use Rattle.modes.specs.TableLaws.{probabilities-bytes}
-use Rattle.modes.specs.Modes.{Modes, segTree, yTree, uvTree, bTree, tree, optional, segment, skip, prefix, largeMode, blockMode, modeAbove, modeLeft, smallFrom, zeros, smallModes, luma, Macroblock, modesOf, bottomOf, rightOf}
+use Rattle.modes.specs.Modes.{Prefix, Modes, segTree, yTree, uvTree, bTree, tree, optional, segment, skip, prefix, largeMode, blockMode, modeAbove, modeLeft, smallFrom, zeros, smallModes, luma, Macroblock, modesOf, bottomOf, rightOf}
 use Rattle.modes.specs.Answers.{eachBelow, contextsOf}
 
 pub each-fact : (m : ℕ) (l : List ℕ) → 0 < m → eachBelow m l ≡ true → (j : ℕ) → getD l j 0 < m

@@ -4,8 +4,8 @@ use mathlib.Core.List.{List, [], _∷_}
 use mathlib.Core.Bool.{true, false}
 use lib.IntN.{ℤ}
 use Rattle.reader.specs.Trees.{node, leaf}
-use Rattle.wide.specs.Wide.{wideBitOf}
 use Rattle.wide.specs.declared.wide.Wide.{Wide}
+use Rattle.wide.specs.Wide.{wideBitOf}
 use Rattle.modes.specs.declared.quick.Coded.{Coded}
 
 -- the last symbol of a walk: one of two leaves

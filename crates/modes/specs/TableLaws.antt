@@ -8,8 +8,7 @@ use native.Mathlib.Omega.{arith}
 use lib.ListN.{length, getD, take, drop, length-drop, List·getD-eq-default}
 use lib.Seq.{ext-getD, getD-take, getD-drop, length-take-le}
 use lib.Dec.{ltb, leb, lit<}
-use borrow.Author.Tests.{ltb-true, leb-true}
-use Rattle.numbers.specs.Tests.{lt-or, both-left, both-right}
+use Rattle.numbers.specs.Tests.{lt-or, both-left, both-right, ltb-true, leb-true}
 use Rattle.numbers.specs.Tables.{allOf, all-of, all-of-any, permuted, permuted-at}
 use Rattle.reader.specs.BooleanLaws.{Bytes}
 use Rattle.modes.specs.Table.{rfcNumbers, rfcOf, rfcPlace, rfcTable, probabilities, Renumbered}

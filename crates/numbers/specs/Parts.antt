@@ -5,13 +5,12 @@ use mathlib.Core.Bool.{Bool, true, false, not}
 use Prim.Native.Nat.{ℕ, zero, suc, _+_, _*_, _-_, _/_, _^_, _<_, _≤_}
 use native.Mathlib.Omega.{arith}
 use native.Mathlib.Nat.{mul-zero, mul-suc, div-add-mod, mod-lt}
-use borrow.Author.Tests.{ltb-true, ltb-false, leb-false}
 use lib.Dec.{T, ltb, ltb→lt, leb→le, le→leb}
 use lib.IntN.{ℤ, pos, negsuc, negℤ, natAbs, subℕ, _+ℤ_, _-ℤ_, _*ℤ_}
 use lib.Signed.{_≤ℤ_, leZ, ltZ, leZ-yes, ltZ-no, shrZ}
 use mir.Syntax.{Width}
 use mir.Val.{SFits, hbits}
-use Rattle.numbers.specs.Tests.{never, true-of, of-true, cond-at}
+use Rattle.numbers.specs.Tests.{never, true-of, of-true, cond-at, ltb-true, ltb-false, leb-false}
 
 abbrev pub up : ℤ → ℕ
 up (pos k) = k

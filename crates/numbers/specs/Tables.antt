@@ -6,12 +6,11 @@ use mathlib.Core.List.{List, [], _∷_, _++_}
 use mathlib.Core.Logic.{inl, inr}
 use native.Mathlib.Nat.{add-suc, suc-add, zero-add, add-zero, suc-mul, mod-lt, div-add-mod'}
 use native.Mathlib.Omega.{arith}
-use borrow.Author.Tests.{eqb-true}
 use lib.Dec.{eqb}
 use lib.ListN.{length, getD, set, List·getD-append, List·getD-eq-default}
 use lib.Seq.{getD-append-add}
 use Rattle.numbers.specs.Lists.{Filled, filled-none, filled-next, filled-all, built}
-use Rattle.numbers.specs.Tests.{lt-or, both-left, both-right}
+use Rattle.numbers.specs.Tests.{lt-or, both-left, both-right, eqb-true}
 
 -- the test passes at each element and its place, counted from i
 abbrev pub allAt {ℓ} : {A : Type ℓ} → (ℕ → A → Bool) → ℕ → List A → Bool

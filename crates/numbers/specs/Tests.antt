@@ -6,6 +6,7 @@ use mathlib.Core.Logic.{_⊎_, inl, inr, ⊎-elim}
 use native.Mathlib.Decide.{decLt, ℕ-discrete}
 use native.Mathlib.Omega.{arith}
 use lib.Dec.{T}
+pub use borrow.Author.Tests.{ltb-true, ltb-false, lt-ltb, le-ltb, leb-true, leb-false, le-leb, lt-leb, eqb-true, eqb-false, eq-eqb, ne-eqb, not-true, not-false}
 
 pub lt-or : (a b : ℕ) → (a < b) ⊎ (b ≤ a)
 lt-or a b = elim (decLt a b) [ yes h ↦ inl h | no h ↦ inr (omega arith) ]

@@ -1,13 +1,12 @@
 -- For a caller's `let .. else`: every answer of a macroblock but Done is a refusal.
-use Prim.Native.Nat.{ℕ}
 use native.Mathlib.Omega.{arith}
 use mathlib.Core.Logic.{_⊎_, ⊎-elim}
-use mathlib.Core.List.{List, [], _∷_}
-use mathlib.Core.Path.{_≡_, refl}
+use mathlib.Core.List.{[], _∷_}
+use mathlib.Core.Path.{_≡_}
 use types.Run.{OneOf}
 use denote.Enum.Declared.{tagOf}
-use Rattle.macroblock.specs.declared.ending.Finish.{Finish}
 use Rattle.macroblock.specs.declared.ending.Finish.the-variants as F
+use Rattle.macroblock.specs.declared.ending.Finish.{Finish}
 use Rattle.macroblock.specs.Macroblock.{finishNumberOf}
 use Rattle.macroblock.proofs.ending.Finish as finish
 

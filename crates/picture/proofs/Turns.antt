@@ -2,22 +2,22 @@
 use Prim.Native.Nat.{ℕ, zero, suc, _+_, _*_, _/_, _%_, _≤_, _<_}
 use mathlib.Core.Path.{_≡_, refl, sym, _∙_, ap}
 use mathlib.Core.List.{List}
-use lib.ListN.{length, getD, set}
+use lib.ListN.{length, set}
 use native.Mathlib.Omega.{arith}
-use native.Mathlib.Nat.{mul-add-div-right, add-mul-mod-self-right, add-comm, div-eq-of-lt, mod-eq-of-lt, mul-le-mul, mul-le-mul-right, mul-comm, add-mul, one-mul, zero-add, add-zero, add-assoc}
+use native.Mathlib.Nat.{mul-add-div-right, add-mul-mod-self-right, add-comm, div-eq-of-lt, mod-eq-of-lt, mul-le-mul-right, mul-comm, add-mul, one-mul, zero-add, add-zero, add-assoc}
 use Rattle.reader.specs.declared.boolean.Reader.{Reader}
 use Rattle.reader.specs.Boolean.{noReader}
 use Rattle.reader.specs.BooleanLaws.{Bytes}
 use Rattle.modes.specs.declared.contexts.Context.{Context}
+use Rattle.macroblock.specs.declared.ending.Finish.the-variants as F
 use Rattle.macroblock.specs.declared.arguments.Readers.{Readers}
 use Rattle.macroblock.specs.declared.ending.Finish.{Finish}
-use Rattle.macroblock.specs.declared.ending.Finish.the-variants as F
 use Rattle.macroblock.specs.Macroblock.{Finished, Step, finished, no-modes, no-tokens, finishNumberOf}
-use Rattle.choices.specs.declared.answer.Decoded.{Decoded}
 use Rattle.choices.specs.declared.answer.Decoded.the-variants as D
 use Rattle.lent.specs.Memory.{Memory}
+use Rattle.choices.specs.declared.answer.Decoded.{Decoded}
 use Rattle.choices.specs.Answer.{stoppedOf}
-use Rattle.picture.specs.Picture.{Picture, State, columnOf, rowOf, partitionOf, planesIn, stepAt, nextOf}
+use Rattle.picture.specs.Picture.{Picture, State, columnOf, partitionOf, planesIn, stepAt, nextOf}
 use Rattle.picture.specs.Halt.{Halted, stateOf, haltOf}
 use Rattle.picture.specs.HaltLaws.{halt-none, halt-finished, halt-no-modes, halt-no-tokens}
 use Rattle.picture.specs.Turn.{Turned, turned}

@@ -1,22 +1,21 @@
 -- What the lent memory holds after 0, 6 or 7: contexts in range, limits of at most 189 (the source's clauses on every end).
-use Prim.Native.Nat.{ℕ, zero, suc, _+_, _*_, _/_, _≤_, _<_}
+use Prim.Native.Nat.{ℕ, zero, suc, _+_, _*_, _≤_, _<_}
 use mathlib.Core.Path.{_≡_, refl, sym, _∙_, ap, subst}
 use mathlib.Core.Bool.{Bool, true, _&&_}
 use mathlib.Core.List.{List}
 use mathlib.Core.Logic.{⊎-elim}
 use native.Mathlib.Omega.{arith}
 use lib.Dec.{leb, lit≤}
-use lib.ListN.{length, getD, replicate}
-use borrow.Author.Tests.{leb-true}
-use Rattle.numbers.specs.Tests.{eq-or, both-left}
+use lib.ListN.{length, replicate}
+use Rattle.numbers.specs.Tests.{eq-or, both-left, leb-true}
 use Rattle.reader.specs.BooleanLaws.{Bytes}
 use Rattle.lent.specs.Records.{Form, Columns, recordsIn, strengthWidth, strengthIn, strengthAt, strengthSet}
 use Rattle.lent.specs.RecordsLaws.{record-zeros}
 use Rattle.lent.specs.MacroblocksLaws.{strength-back, strength-other}
 use Rattle.modes.specs.declared.answers.Kinds.{Kinds}
 use Rattle.modes.specs.Answers.{kindsOf}
-use Rattle.filter.specs.Strengths.{strengthFine}
 use Rattle.filter.specs.declared.strengths.Strength.{Strength}
+use Rattle.filter.specs.Strengths.{strengthFine}
 use Rattle.macroblock.specs.Macroblock.{Finished, Step, finished, no-modes, no-tokens}
 use Rattle.lent.specs.Memory.{Memory, sizesOf, blankOf}
 use Rattle.tile.specs.Partitions.{spanAt}

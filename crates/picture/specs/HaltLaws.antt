@@ -1,11 +1,10 @@
 -- The laws of the picture call with its state: one turn of its recursion; its answer and memory are the picture call's; the call.
 use Prim.Native.Nat.{ℕ, zero, suc, _+_, _*_, _≤_, _<_}
-use mathlib.Core.Path.{_≡_, refl, sym, _∙_, ap, subst}
+use mathlib.Core.Path.{_≡_, refl, sym, _∙_, ap}
 use mathlib.Core.List.{List}
 use native.Mathlib.Omega.{arith}
 use Rattle.reader.specs.declared.boolean.Reader.{Reader}
 use Rattle.reader.specs.BooleanLaws.{Bytes}
-use Rattle.modes.specs.declared.contexts.Context.{Context}
 use Rattle.coefficients.specs.declared.block.Table.{Table}
 use Rattle.coefficients.specs.Block.{tableOf}
 use Rattle.header.specs.declared.frame.Framed.{Framed}
@@ -15,6 +14,7 @@ use Rattle.lent.specs.Memory.{Memory, sizesOf, blankOf}
 use Rattle.tile.specs.Partitions.{spanAt, readersOf}
 use Rattle.tile.specs.PartitionsLaws.{part-bytes}
 use Rattle.tile.specs.Checks.{blocksOf}
+use Rattle.modes.specs.declared.contexts.Context.{Context}
 use Rattle.modes.specs.Contexts.{emptyContext}
 use Rattle.choices.specs.declared.answer.Decoded.the-variants as D
 use Rattle.choices.specs.Checks.{Call, refusalOf}

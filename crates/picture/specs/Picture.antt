@@ -5,8 +5,8 @@ use lib.ListN.{getD, set}
 use Rattle.reader.specs.declared.boolean.Reader.{Reader}
 use Rattle.reader.specs.Boolean.{noReader}
 use Rattle.coefficients.specs.Block.{headerTable}
-use Rattle.modes.specs.declared.contexts.Context.{Context}
 use Rattle.modes.specs.Answers.{kindsOf}
+use Rattle.modes.specs.declared.contexts.Context.{Context}
 use Rattle.modes.specs.Contexts.{emptyContext}
 use Rattle.header.specs.declared.frame.Frame.{Frame}
 use Rattle.header.specs.Frame.{frameOf}

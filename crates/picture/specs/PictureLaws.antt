@@ -11,8 +11,8 @@ use lib.Seq.{getD-set-same, getD-set-other}
 use Rattle.numbers.specs.Tests.{eq-or}
 use Rattle.reader.specs.Boolean.{noReader}
 use Rattle.reader.specs.BooleanLaws.{Bytes, Valid}
-use Rattle.modes.specs.declared.contexts.Context.{Context}
 use Rattle.modes.specs.Answers.{kindsOf}
+use Rattle.modes.specs.declared.contexts.Context.{Context}
 use Rattle.modes.specs.Contexts.{contextFine, Shaped}
 use Rattle.modes.specs.ContextsLaws.{contexts-fine}
 use Rattle.lent.specs.Records.{recordsIn, formWidth, columnAt}
@@ -28,7 +28,7 @@ use Rattle.choices.specs.BesideLaws.{beside-none, beside-left}
 use Rattle.picture.specs.TurnLaws.{Ends, ends-of}
 use Rattle.choices.specs.Beside.{besideOf}
 use Rattle.picture.specs.Live.{Shared, Live}
-use Rattle.picture.specs.Picture.{Picture, State, columnOf, rowOf, partitionOf, planesIn, placeOf, readersAt, aroundAt, stepAt, written, nextOf, runOf}
+use Rattle.picture.specs.Picture.{Picture, State, columnOf, rowOf, partitionOf, planesIn, placeOf, readersAt, aroundAt, stepAt, nextOf, runOf}
 
 -- ---- one turn
 pub run-none : (P : Picture) (k : ℕ) (S : State) → runOf 0 P k S ≡ record { answer = D.Whole k; mem = S .mem }

@@ -2,8 +2,8 @@
 use Prim.Native.Nat.{ℕ, _<_}
 use mathlib.Core.List.{List}
 use Rattle.modes.specs.declared.contexts.Context.{Context}
-use Rattle.macroblock.specs.declared.ending.Finish.{Finish}
 use Rattle.macroblock.specs.declared.ending.Finish.the-variants as F
+use Rattle.macroblock.specs.declared.ending.Finish.{Finish}
 use Rattle.macroblock.specs.Macroblock.{Step, finished, no-modes, no-tokens}
 use Rattle.lent.specs.Memory.{Memory}
 use Rattle.lent.specs.Records.{recordsIn, Form, formWidth, modeWidth, strengthWidth}

@@ -8,33 +8,33 @@ use lib.Dec.{ltb}
 use lib.ListN.{length}
 use Rattle.numbers.specs.Tests.{both-true}
 use Rattle.reader.specs.BooleanLaws.{Bytes, Valid}
-use Rattle.modes.specs.declared.contexts.Context.{Context}
 use Rattle.modes.specs.Answers.{kindsOf, eachBelow}
+use Rattle.modes.specs.declared.contexts.Context.{Context}
 use Rattle.modes.specs.Contexts.{contextFine, Shaped}
 use Rattle.modes.specs.ModesLaws.{modes-test}
 use Rattle.filter.specs.Strengths.{strengthFine}
-use Rattle.lent.specs.declared.columns.ColumnRecord.{ColumnRecord}
 use Rattle.numbers.specs.declared.Checked.{Checked}
+use Rattle.lent.specs.declared.columns.ColumnRecord.{ColumnRecord}
 use Rattle.lent.specs.Records.{Written, recordsIn, columnWidth, modeWidth, strengthWidth, packed, columnBytes, columnAt, columnFound, columnSet, columnWritten, kindsFine, modeRecord, modeSet, modeWritten, strengthRecord, strengthSet, strengthWritten}
 use Rattle.lent.specs.RecordsLaws.{write-good}
 use Rattle.lent.specs.ColumnsLaws.{column-read}
 use Rattle.lent.specs.MacroblocksLaws.{kinds-fine, strength-fine}
 use Rattle.macroblock.specs.declared.ending.Finish.the-variants as F
-use Rattle.macroblock.specs.declared.ending.Outcome.{Outcome}
-use Rattle.macroblock.specs.declared.arguments.Place.{Place}
-use Rattle.macroblock.specs.declared.arguments.Readers.{Readers}
-use Rattle.macroblock.specs.declared.arguments.SymbolCounts.{SymbolCounts}
-use Rattle.macroblock.specs.declared.arguments.Around.{Around}
 use Rattle.header.specs.declared.frame.Frame.{Frame}
+use Rattle.macroblock.specs.declared.arguments.SymbolCounts.{SymbolCounts}
 use Rattle.macroblock.specs.Counts.{readsOf, decodeReads}
 use Rattle.macroblock.specs.CountsLaws.{reads-good}
 use Rattle.macroblock.specs.DecodeLaws.{decode-good}
 use Rattle.macroblock.specs.StepLaws.{step-ends, step-outside}
 use Rattle.macroblock.specs.StepRecords.{step-strength}
+use Rattle.macroblock.specs.declared.ending.Outcome.{Outcome}
+use Rattle.macroblock.specs.declared.arguments.Place.{Place}
+use Rattle.macroblock.specs.declared.arguments.Readers.{Readers}
+use Rattle.macroblock.specs.declared.arguments.Around.{Around}
 use Rattle.macroblock.specs.Macroblock.{stepOf, macroblockCallOf, Planes, Finished, Step, finished, no-modes, no-tokens, MacroblockCalled, toMacroblockCalled, shown, finishNumberOf}
 use Rattle.macroblock.specs.Asked.{Ready, Laid}
 use Rattle.lent.specs.Memory.{Memory, memoryOf}
-use Rattle.picture.specs.Picture.{planesIn, written}
+use Rattle.picture.specs.Picture.{planesIn}
 use Rattle.picture.specs.Turn.{Turned, turnedOf, turned, Room}
 
 -- ---- the call of a macroblock, its arguments being good

@@ -13,10 +13,9 @@ use Rattle.numbers.specs.Runs.{placed, copied}
 use Rattle.numbers.specs.Tables.{allBelow}
 use Rattle.transform.specs.Transform.{samplesOf, fits16}
 use Rattle.transform.specs.Lanes.{byBlocks, knownLength}
-use Rattle.planes.specs.declared.edges.Border.{Border}
 use Rattle.numbers.specs.declared.Checked.{Checked}
 use Rattle.numbers.specs.declared.Checked.the-variants.{Done, Refused}
-use Rattle.planes.specs.Predict.{smallBlock, dcOf, largeOf}
+use Rattle.planes.specs.Predict.{Border, smallBlock, dcOf, largeOf}
 
 -- column x, row y
 abbrev pub sampleAt : List ℕ → (w x y : ℕ) → ℕ

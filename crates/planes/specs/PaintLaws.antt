@@ -9,7 +9,6 @@ use native.Mathlib.Decide.{ℕ-discrete}
 use native.Mathlib.Nat.{zero-add, mul-one, add-assoc, mul-le-mul, mul-le-mul-right, div-mul-le-self, mul-mod-left, mul-div-cancel}
 use native.Mathlib.Numerals.{add-one}
 use native.Mathlib.Omega.{arith}
-use borrow.Author.Tests.{eqb-true, ltb-true, leb-true, lt-ltb, le-leb, eq-eqb, ne-eqb}
 use lib.Dec.{eqb, ltb, leb}
 use lib.IntN.{ℤ, pos, negsuc, _+ℤ_}
 use lib.ListN.{length, getD, set, replicate, take, drop, length-take, length-drop}
@@ -22,11 +21,10 @@ use Rattle.numbers.specs.Lists.{getD-build, getD-build-past, _∷≡_}
 use Rattle.numbers.specs.Parts.{le-true}
 use Rattle.numbers.specs.Runs.{placed, placed-none, placed-next, length-placed, placed-in, placed-off, placed-keeps, placed-same, copied-placed, Off, off-less}
 use Rattle.numbers.specs.Tables.{allBelow, all-below}
-use Rattle.numbers.specs.Tests.{lt-or, eq-or, both-left, both-right, both-true, cond-at}
+use Rattle.numbers.specs.Tests.{lt-or, eq-or, both-left, both-right, both-true, cond-at, eqb-true, ltb-true, leb-true, lt-ltb, le-leb, eq-eqb, ne-eqb}
 use Rattle.transform.specs.Lanes.{byBlocks}
 use Rattle.numbers.specs.declared.Checked.the-variants.{Done, Refused}
-use Rattle.planes.specs.declared.edges.Border.{Border}
-use Rattle.planes.specs.Predict.{Size, smallBlock, dcOf}
+use Rattle.planes.specs.Predict.{Border, Size, smallBlock, dcOf}
 use Rattle.planes.specs.Paint.{sampleAt, nearOf, fourAbove, firstPlaces, firstAbove, firstLeft, edgeOf, aboveRight, blockAboveRight, aroundOf, rowsPainted, painted, blockCoefficients, blockResidual, summedOf, blockPainted, cellColumn, cellRow, blocksPainted, largeRule, smallAt, smallRule, predictionRule, squarePainted, squareBlocks, paintModesFine, sideFine, squareFine, coefficientsFine, paintFine, PaintedPlane, paintOf}
 use Rattle.planes.specs.Pieces.{rowsPlaced}
 use Rattle.planes.specs.Places.{Square, Outside, run-inside, sub-square, apart, outside-sub, BlockSides, cell, not-last, Stands, higher, before, stands-first, stands-last, Within, stood, other, by-size, size-some, quarter, size-sides, tiles}

@@ -8,7 +8,6 @@ use mathlib.Core.Path.{_≡_, refl, sym, _∙_, ap, ap₂, subst}
 use native.Mathlib.Nat.{zero-add, add-zero, add-assoc, one-mul, mul-zero, add-mul, mod-lt, div-add-mod'}
 use native.Mathlib.Omega.{arith}
 use lib.IntN.{ℤ, pos, negsuc, _+ℤ_}
-use borrow.Author.Tests.{leb-true, leb-false, eq-eqb, ne-eqb}
 use lib.Bits.{bitOr, or-add-and, and-le-l, and-le-r, or-lt}
 use lib.Dec.{leb, lit<}
 use lib.ListN.{length, getD, set, length-set, take, drop, length-take, length-drop, replicate, length-replicate, getD-replicate}
@@ -25,14 +24,13 @@ use Rattle.numbers.specs.In.{In, Each}
 use Rattle.numbers.specs.Lists.{build, built, build-listed, build-same, getD-build, getD-constant, _∷≡_}
 use Rattle.numbers.specs.Parts.{up, nlt-le, of-le, add-parts, lt-parts}
 use Rattle.numbers.specs.Runs.{placed, placed-none, placed-next, placed-self, placed-same, length-placed}
-use Rattle.numbers.specs.Tests.{lt-or, eq-or, never, not-so, both-left, both-right, both-true, cond-at}
+use Rattle.numbers.specs.Tests.{lt-or, eq-or, never, not-so, both-left, both-right, both-true, cond-at, leb-true, leb-false, eq-eqb, ne-eqb}
 use Rattle.transform.specs.Transform.{gridRow, samplesOf}
 use Rattle.transform.specs.Lanes.{byBlocks, knownLength, shortResidual, laneResidual, rowPlace, residualsOf}
 use Rattle.transform.specs.LanesLaws.{length-by-blocks, blocks-at, block-is, known-blocks, whole-blocks, residuals-at, residuals-in}
 use Rattle.transform.specs.TransformBounds.{numeral-in}
 use Rattle.transform.specs.TransformLaws.{below-four, below-all, below-next, in-range, shortcut}
-use Rattle.planes.specs.declared.edges.Border.{Border}
-use Rattle.planes.specs.Predict.{Size, dcOf, largeAt, largeOf}
+use Rattle.planes.specs.Predict.{Border, Size, dcOf, largeAt, largeOf}
 use Rattle.planes.specs.PredictLaws.{small-long}
 use Rattle.planes.specs.Pieces.{rowsPlaced, tmOne, noLess, noMore, blockCopied, sumAt, rowSums, rowAdded, blockAdded, laneAdded, meanOf, meanAdded, Residual, Fits16, laneAt, Joined, Looked, Marked, Coded, NoneBelow, FirstFit, blocksFine, PlainBlock, Ready, standing, standRule}
 use Rattle.planes.specs.Paint.{sampleAt, edgeOf, painted, blockResidual, summedOf, blockPainted, cellColumn, cellRow, blocksPainted, largeRule, smallAt, squarePainted, squareBlocks, coefficientsFine}

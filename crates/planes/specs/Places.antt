@@ -6,11 +6,10 @@ use mathlib.Core.Path.{_≡_, refl, sym, _∙_, ap, subst}
 use native.Mathlib.Decide.{decLt, ℕ-discrete}
 use native.Mathlib.Nat.{add-mul, one-mul, mul-le-mul-right}
 use native.Mathlib.Omega.{arith}
-use borrow.Author.Tests.{eqb-false}
 use lib.Bits.{bitAnd, and-mask}
 use lib.Dec.{eqb}
 use Rattle.numbers.specs.Runs.{Off}
-use Rattle.numbers.specs.Tests.{lt-or}
+use Rattle.numbers.specs.Tests.{lt-or, eqb-false}
 use Rattle.planes.specs.declared.edges.Spot.{Spot}
 use Rattle.planes.specs.Predict.{Size}
 use Rattle.planes.specs.Paint.{cellColumn, cellRow}

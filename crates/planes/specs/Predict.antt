@@ -8,7 +8,7 @@ use lib.ListN.{getD, replicate}
 use lib.IntN.{pos, _+ℤ_, _-ℤ_}
 use Rattle.numbers.specs.Clamp.{clipZ}
 use Rattle.numbers.specs.Lists.{build}
-use Rattle.planes.specs.declared.edges.Border.{Border}
+pub use Rattle.planes.specs.declared.edges.Border.{Border}
 
 -- a macroblock's square: 16 in luma, 8 in chroma
 abbrev pub Size : ℕ → Type 0

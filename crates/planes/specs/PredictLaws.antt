@@ -13,8 +13,7 @@ use lib.ListN.{length, getD}
 use Rattle.numbers.specs.Clamp.{clipZ}
 use Rattle.numbers.specs.Lists.{build-listed, length-build}
 use Rattle.numbers.specs.Tables.{all-of, all-of-any}
-use Rattle.planes.specs.declared.edges.Border.{Border}
-use Rattle.planes.specs.Predict.{Size, at, mean2, mean3, two, three, dcBlock, tmBlock, veBlock, heBlock, rdBlock, vrBlock, ldBlock, vlBlock, hdBlock, huBlock, smallBlocks, smallBlock, sumOfFirst, dcOf}
+use Rattle.planes.specs.Predict.{Border, Size, at, mean2, mean3, two, three, dcBlock, tmBlock, veBlock, heBlock, rdBlock, vrBlock, ldBlock, vlBlock, hdBlock, huBlock, smallBlocks, smallBlock, sumOfFirst, dcOf}
 use Rattle.planes.specs.Pieces.{Count, meanOver, tmAt, tmOf, tmRow, joinedOf, Eleven, stretchedOf, twosOf, threesOf, bothOf, rowPicked, rowsPicked, pickedOf}
 
 -- ---- the width

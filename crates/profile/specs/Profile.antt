@@ -11,11 +11,11 @@ use Rattle.header.specs.Header.{presentAt}
 use Rattle.tile.specs.declared.Tile.{Tile}
 use Rattle.lent.specs.Memory.{Memory, sizesOf}
 use Rattle.lent.specs.Records.{modeFound}
-use Rattle.choices.specs.declared.answer.Decoded.{Decoded}
 use Rattle.choices.specs.Checks.{Call, failed, refusalOf}
+use Rattle.choices.specs.declared.answer.Decoded.{Decoded}
 use Rattle.choices.specs.Answer.{numberOf, valuesOf}
 use Rattle.picture.specs.Picture.{pictureOf}
-use Rattle.profile.specs.declared.Profiled.{Profiled}
+pub use Rattle.profile.specs.declared.Profiled.{Profiled}
 use Rattle.profile.specs.declared.Profiled.the-variants as P
 
 -- ---- the rules

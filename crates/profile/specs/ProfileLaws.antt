@@ -10,13 +10,12 @@ use lib.IntN.{ℤ}
 use borrow.Author.Tests.{lt-ltb, le-ltb}
 use Rattle.tile.specs.declared.Tile.{Tile}
 use Rattle.lent.specs.Memory.{Memory, sizesOf}
-use Rattle.choices.specs.declared.answer.Decoded.{Decoded}
 use Rattle.choices.specs.Checks.{Call, failed, refusalOf}
+use Rattle.choices.specs.declared.answer.Decoded.{Decoded}
 use Rattle.choices.specs.Answer.{numberOf, valuesOf}
 use Rattle.picture.specs.Picture.{Ended, pictureOf}
-use Rattle.profile.specs.declared.Profiled.{Profiled}
 use Rattle.profile.specs.declared.Profiled.the-variants as P
-use Rattle.profile.specs.Profile.{sizeFits, countFits, segmentsFit, sharpnessFits, tileRulesOf, headerRulesOf, bothAt, firstBoth, judgedOf, decodedOf, profiled, profileOf}
+use Rattle.profile.specs.Profile.{Profiled, sizeFits, countFits, segmentsFit, sharpnessFits, tileRulesOf, headerRulesOf, bothAt, firstBoth, judgedOf, decodedOf, profiled, profileOf}
 
 -- ---- 1 and 2, 3 and 4, as the code tries them
 module _ (t : Tile) where

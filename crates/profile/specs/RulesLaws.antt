@@ -7,8 +7,7 @@ use mathlib.Core.Logic.{_⊎_, inl, inr, ⊎-elim}
 use native.Mathlib.Omega.{arith}
 use lib.Dec.{eqb}
 use lib.IntN.{ℤ, pos, negsuc}
-use borrow.Author.Tests.{eqb-true, eq-eqb, ne-eqb}
-use Rattle.numbers.specs.Tests.{eq-or, lt-or, never, both-left, both-right, both-true}
+use Rattle.numbers.specs.Tests.{eq-or, lt-or, never, both-left, both-right, both-true, eqb-true, eq-eqb, ne-eqb}
 use Rattle.header.specs.Entries.{segmentsOn, mapOn, sharpness}
 use Rattle.header.specs.Header.{entry, presentOf, presentAt}
 use Rattle.profile.specs.Profile.{sizeFits, countFits, segmentsFit, sharpnessFits, bothAt, firstBoth}

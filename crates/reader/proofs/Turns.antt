@@ -1,5 +1,5 @@
 -- The turns of the loops, as laws on plain values: what is left to read gives what all of it gives, and its symbols with those read are as many.
-use Prim.Native.Nat.{ℕ, zero, suc, _+_, _*_, _≤_, _<_, _^_}
+use Prim.Native.Nat.{ℕ, zero, suc, _+_, _≤_, _<_, _^_}
 use mathlib.Core.Path.{_≡_, refl, sym, _∙_, ap}
 use mathlib.Core.Bool.{Bool}
 use mathlib.Core.List.{List}
@@ -9,19 +9,16 @@ use native.Mathlib.Omega.{arith}
 use native.Mathlib.Nat.{pow-succ'}
 use native.Mathlib.Numerals.{add-one}
 use Rattle.numbers.specs.Flags.{bitOf, bit-small}
-use Rattle.reader.specs.declared.boolean.Reader.{Reader}
-use Rattle.reader.specs.declared.extra.Number.{Number}
 use Rattle.reader.specs.declared.extra.Number.the-variants as N
 use Rattle.reader.specs.declared.trees.Step.the-variants as S
-use Rattle.reader.specs.declared.trees.Walked.{Walked}
 use Rattle.reader.specs.declared.trees.Walked.the-variants as W
-use Rattle.reader.specs.Boolean.{Given, given, missing}
+use Rattle.reader.specs.Boolean.{Reader, given, missing}
 use Rattle.reader.specs.BooleanLaws.{Bytes, Valid}
 use Rattle.reader.specs.Reading.{symbol, run}
 use Rattle.reader.specs.ReadingLaws.{run-done, run-valid, within-symbol}
 use Rattle.reader.specs.Trace.{count}
 use Rattle.reader.specs.TraceLaws.{count-done}
-use Rattle.reader.specs.Trees.{nodesOf, walk, treeStepOf, walkOf, Tree}
+use Rattle.reader.specs.Trees.{Walked, nodesOf, walk, treeStepOf, walkOf, Tree}
 use Rattle.reader.specs.TreesLaws.{stepped, step-within, walk-is, walk-stops, walk-then}
 use Rattle.reader.specs.Extra.{extraFrom, extra, toNumber, extraOf}
 use Rattle.reader.specs.ExtraLaws.{extra-end, extra-missing, extra-got}

@@ -7,8 +7,8 @@ use mathlib.Core.Bool.{Bool, true, false, _&&_}
 use lib.ListN.{length, getD}
 use lib.Dec.{ltb, leb, eqb}
 pub use Rattle.numbers.specs.Lists.{Bytes}
-use Rattle.reader.specs.declared.boolean.Reader.{Reader}
-use Rattle.reader.specs.declared.boolean.Symbol.{Symbol}
+pub use Rattle.reader.specs.declared.boolean.Reader.{Reader}
+pub use Rattle.reader.specs.declared.boolean.Symbol.{Symbol}
 use Rattle.reader.specs.declared.boolean.Symbol.the-variants as S
 
 -- What asking a partition gives: a value and the reader after it, or a byte is missing.

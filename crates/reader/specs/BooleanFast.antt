@@ -6,8 +6,7 @@ use lib.ListN.{getD}
 use native.Mathlib.Omega.{arith}
 use native.Mathlib.Nat.{mul-one, add-suc, add-zero, mod-eq-of-lt}
 use Rattle.numbers.specs.Powers.{twice, doubled, doubled-less, halved, mod-scale, cases8}
-use Rattle.reader.specs.declared.boolean.Reader.{Reader}
-use Rattle.reader.specs.Boolean.{shifted, grow}
+use Rattle.reader.specs.Boolean.{Reader, shifted, grow}
 use Rattle.reader.specs.BooleanLaws.{From, grow-stop, grow-shift, grow-load}
 
 abbrev pub shiftedBy : ℕ → Reader → Reader

@@ -6,16 +6,14 @@ use mathlib.Core.Bool.{Bool, true, false}
 use mathlib.Core.Logic.{_⊎_, ⊎-elim}
 use lib.ListN.{length, getD}
 use lib.Dec.{ltb, leb, eqb, lit<}
-use borrow.Author.Tests.{le-ltb, lt-ltb, le-leb, lt-leb, eq-eqb, ne-eqb, ltb-true, leb-true, eqb-true}
 use native.Mathlib.Nat.{div-lt-iff-lt-mul, mul-lt-mul-of-pos-left, mul-one}
 use native.Mathlib.Omega.{arith}
 use Rattle.numbers.specs.Powers.{twice, cases8}
-use Rattle.numbers.specs.Tests.{lt-or, eq-or, not-so, both-left, both-right}
-use Rattle.reader.specs.declared.boolean.Reader.{Reader}
+use Rattle.numbers.specs.Tests.{lt-or, eq-or, not-so, both-left, both-right, le-ltb, lt-ltb, le-leb, lt-leb, eq-eqb, ne-eqb, ltb-true, leb-true, eqb-true}
 use Rattle.reader.specs.declared.boolean.Symbol.the-variants as S
 pub use Rattle.numbers.specs.Lists.{Bytes}
 pub use Rattle.reader.specs.Boolean.{From, Valid}
-use Rattle.reader.specs.Boolean.{Given, given, missing, splitOf, chosenOf, shifted, loaded, grow, decidedOf, symbolOf, firstReader, validOf, toSymbol, symbolAnswer}
+use Rattle.reader.specs.Boolean.{Reader, Given, given, missing, splitOf, chosenOf, shifted, loaded, grow, decidedOf, symbolOf, firstReader, validOf, toSymbol, symbolAnswer}
 
 -- what a partition gives from a place on: a reader in range, no earlier
 abbrev pub Next : {A : Type 0} → List ℕ → ℕ → Given A → Type 0

@@ -7,8 +7,7 @@ use mathlib.Core.List.{List, [], _∷_}
 use lib.Dec.{leb}
 use lib.IntN.{ℤ}
 use lib.ListN.{length}
-use Rattle.reader.specs.declared.boolean.Reader.{Reader}
-use Rattle.reader.specs.Boolean.{Given, validOf}
+use Rattle.reader.specs.Boolean.{Reader, Given, validOf}
 use Rattle.reader.specs.Reading.{Reading, done, ask, run}
 use Rattle.reader.specs.Trace.{count}
 use Rattle.reader.specs.Trees.{walk, treeOf}

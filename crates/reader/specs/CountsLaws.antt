@@ -9,29 +9,23 @@ use native.Mathlib.Nat.{zero-add, add-zero, add-suc, suc-add}
 use lib.Dec.{leb, eqb}
 use lib.IntN.{ℤ}
 use lib.ListN.{length, getD, take, drop, drop-of-length-le}
-use borrow.Author.Tests.{le-leb, eqb-true}
 use Rattle.numbers.specs.Flags.{bitOf}
-use Rattle.numbers.specs.Tests.{never, both-left, both-right, both-true}
-use Rattle.reader.specs.declared.boolean.Reader.{Reader}
-use Rattle.reader.specs.declared.trees.Branch.{Branch}
+use Rattle.numbers.specs.Tests.{never, both-left, both-right, both-true, le-leb, eqb-true}
 use Rattle.reader.specs.declared.trees.Branch.the-variants as B
-use Rattle.reader.specs.Boolean.{Given, given, missing, symbolOf, validOf}
+use Rattle.reader.specs.Boolean.{Reader, Given, given, missing, symbolOf, validOf}
 use Rattle.reader.specs.BooleanLaws.{Valid, valid-test}
 use Rattle.reader.specs.Reading.{Reading, done, ask, _>>=_, symbol, run}
 use Rattle.reader.specs.ReadingLaws.{never-both, run-done, run-missing, run-got, run-then, run-stops}
 use Rattle.reader.specs.Trace.{count}
 use Rattle.reader.specs.TraceLaws.{count-done, count-missing, count-got, count-then, count-stops}
-use Rattle.reader.specs.declared.trees.Walked.{Walked}
 use Rattle.reader.specs.declared.trees.Walked.the-variants as W
-use Rattle.reader.specs.declared.token.Token.{Token}
 use Rattle.reader.specs.declared.token.Token.the-variants as T
-use Rattle.reader.specs.declared.extra.Number.{Number}
 use Rattle.reader.specs.declared.extra.Number.the-variants as N
-use Rattle.reader.specs.Trees.{branchAt, step, follow, walk, treeOf, walkOf, walkAnswer}
+use Rattle.reader.specs.Trees.{Branch, Walked, branchAt, step, follow, walk, treeOf, walkOf, walkAnswer}
 use Rattle.reader.specs.TreesLaws.{passes, fromWalked, walk-gives}
-use Rattle.reader.specs.Token.{tokenTree, tokenStart, token, elevenAt, toToken, tokenOf, tokenAnswer}
+use Rattle.reader.specs.Token.{Token, tokenTree, tokenStart, token, elevenAt, toToken, tokenOf, tokenAnswer}
 use Rattle.reader.specs.TokenLaws.{eleven-part, fromToken, tokened}
-use Rattle.reader.specs.Extra.{extraFrom, extra, extraOf, extraAnswer}
+use Rattle.reader.specs.Extra.{Number, extraFrom, extra, extraOf, extraAnswer}
 use Rattle.reader.specs.ExtraLaws.{extra-asks, fromNumber, numbered}
 use Rattle.reader.specs.Counts.{Took, Costs, ends, asks, treeCount, tokenCount, extraCount}
 

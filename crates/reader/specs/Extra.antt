@@ -5,10 +5,9 @@ use mathlib.Core.Bool.{true, false, _&&_}
 use lib.ListN.{length}
 use lib.Dec.{leb}
 use Rattle.numbers.specs.Flags.{bitOf}
-use Rattle.reader.specs.declared.boolean.Reader.{Reader}
-use Rattle.reader.specs.declared.extra.Number.{Number}
+pub use Rattle.reader.specs.declared.extra.Number.{Number}
 use Rattle.reader.specs.declared.extra.Number.the-variants as N
-use Rattle.reader.specs.Boolean.{Given, given, missing, validOf, noReader}
+use Rattle.reader.specs.Boolean.{Reader, Given, given, missing, validOf, noReader}
 use Rattle.reader.specs.Reading.{Reading, done, symbol, run, _>>=_}
 
 -- v += v + read_bool(d, p), for each probability in turn; v is what the bits so far make

@@ -9,18 +9,15 @@ use mathlib.Core.Bool.{Bool, false}
 use lib.ListN.{length, getD, drop, drop-of-length-le}
 use lib.Seq.{drop-cons}
 use lib.Pow.{pow-mono}
-use borrow.Author.Tests.{le-leb}
-use Rattle.numbers.specs.Tests.{both-true}
+use Rattle.numbers.specs.Tests.{both-true, le-leb}
 use Rattle.numbers.specs.Powers.{twice}
-use Rattle.reader.specs.declared.boolean.Reader.{Reader}
-use Rattle.reader.specs.declared.extra.Number.{Number}
 use Rattle.reader.specs.declared.extra.Number.the-variants as N
-use Rattle.reader.specs.Boolean.{Given, given, missing, validOf}
+use Rattle.reader.specs.Boolean.{Reader, Given, given, missing, validOf}
 use Rattle.reader.specs.BooleanLaws.{Bytes, Valid, valid-test}
 use Rattle.reader.specs.Reading.{done, _>>=_, symbol, run, Within, ends, asks}
 use Rattle.reader.specs.ReadingLaws.{run-done, run-then, run-stops, within-weaken}
 use Rattle.numbers.specs.Flags.{bitOf, bit-small}
-use Rattle.reader.specs.Extra.{extraFrom, extra, toNumber, extraOf, extraAnswer}
+use Rattle.reader.specs.Extra.{Number, extraFrom, extra, toNumber, extraOf, extraAnswer}
 
 -- ---- one bit at a time, at index i
 module _ (ps : List ℕ) (v i : ℕ) where

@@ -3,8 +3,7 @@
 use Prim.Native.Nat.{ℕ, suc, _<_, max}
 use mathlib.Core.Bool.{Bool, true, false}
 use mathlib.Core.List.{List}
-use Rattle.reader.specs.declared.boolean.Reader.{Reader}
-use Rattle.reader.specs.Boolean.{Given, given, missing, symbolOf}
+use Rattle.reader.specs.Boolean.{Reader, Given, given, missing, symbolOf}
 
 -- a value is given at once, or a symbol with a probability is asked and what follows depends on it
 pub data Reading (A : Type 0) : Type 0 where

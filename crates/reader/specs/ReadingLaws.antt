@@ -5,10 +5,8 @@ use native.Mathlib.Nat.{suc-add}
 use mathlib.Core.Path.{_≡_, refl, sym, _∙_, ap}
 use mathlib.Core.Bool.{Bool, true, false}
 use mathlib.Core.List.{List}
-use Rattle.reader.specs.declared.boolean.Reader.{Reader}
-use Rattle.reader.specs.declared.boolean.Symbol.{Symbol}
 use Rattle.reader.specs.declared.boolean.Symbol.the-variants as S
-use Rattle.reader.specs.Boolean.{Given, given, missing, symbolOf, toSymbol, symbolAnswer}
+use Rattle.reader.specs.Boolean.{Reader, Symbol, Given, given, missing, symbolOf, toSymbol, symbolAnswer}
 use Rattle.reader.specs.BooleanLaws.{Bytes, Valid, symbol-valid, symbol-good}
 use Rattle.reader.specs.Reading.{Reading, done, ask, _>>=_, symbol, run, Within, ends, asks, depth}
 

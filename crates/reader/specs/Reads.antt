@@ -4,8 +4,7 @@ use Prim.Native.Nat.{ℕ}
 use mathlib.Core.Path.{_≡_}
 use mathlib.Core.Bool.{true, false}
 use mathlib.Core.List.{List}
-use Rattle.reader.specs.declared.boolean.Reader.{Reader}
-use Rattle.reader.specs.Boolean.{given, missing, validOf}
+use Rattle.reader.specs.Boolean.{Reader, given, missing, validOf}
 use Rattle.reader.specs.Reading.{Reading, run}
 
 -- over the partition s, the part m leads from the reader r to the reader q and gives a; or a byte is missing, and q is out of range

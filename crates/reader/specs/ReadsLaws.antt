@@ -4,8 +4,7 @@ use mathlib.Core.Path.{_≡_, refl, _∙_}
 use mathlib.Core.Bool.{Bool, true, false}
 use mathlib.Core.List.{List}
 use Rattle.numbers.specs.Tests.{never}
-use Rattle.reader.specs.declared.boolean.Reader.{Reader}
-use Rattle.reader.specs.Boolean.{given, missing, validOf, noReader}
+use Rattle.reader.specs.Boolean.{Reader, given, missing, validOf, noReader}
 use Rattle.reader.specs.BooleanLaws.{Bytes, valid-test, valid-fact}
 use Rattle.reader.specs.Reading.{Reading, done, _>>=_, run, Within}
 use Rattle.reader.specs.ReadingLaws.{run-done, run-then, run-stops, run-valid}

@@ -5,11 +5,10 @@ use mathlib.Core.List.{List, [], _∷_}
 use lib.Dec.{leb}
 use lib.IntN.{ℤ}
 use lib.ListN.{length, take, drop}
-use Rattle.reader.specs.Boolean.{Given, given, missing, validOf, noReader}
+use Rattle.reader.specs.Boolean.{Reader, Given, given, missing, validOf, noReader}
 use Rattle.reader.specs.Reading.{Reading, run}
 use Rattle.reader.specs.Trees.{node, leaf, walk}
-use Rattle.reader.specs.declared.boolean.Reader.{Reader}
-use Rattle.reader.specs.declared.token.Token.{Token}
+pub use Rattle.reader.specs.declared.token.Token.{Token}
 use Rattle.reader.specs.declared.token.Token.the-variants as T
 
 -- 0 ends the block, 1 is a zero, 2..5 are one to four, 6..11 the six categories: the RFC's numbers (3397-3410: DCT_0 is 0, dct_eob 11) are

@@ -8,16 +8,13 @@ use mathlib.Core.Path.{_≡_, refl, sym, _∙_, ap}
 use lib.Dec.{ltb, lit<, lit≤}
 use lib.ListN.{length, getD, take, drop, length-take, length-drop, List·getD-eq-default}
 use lib.Seq.{getD-take, getD-drop, length-take-le}
-use borrow.Author.Tests.{le-leb}
-use Rattle.numbers.specs.Tests.{lt-or, both-true}
-use Rattle.reader.specs.Boolean.{Given, given, missing}
+use Rattle.numbers.specs.Tests.{lt-or, both-true, le-leb}
+use Rattle.reader.specs.Boolean.{Reader, Given, given, missing}
 use Rattle.reader.specs.BooleanLaws.{Bytes, Valid, valid-test}
 use Rattle.reader.specs.Reading.{run, Within}
-use Rattle.reader.specs.Token.{tokenTree, tokenStart, token, elevenAt, toToken, tokenOf, tokenAnswer}
+use Rattle.reader.specs.Token.{Token, tokenTree, tokenStart, token, elevenAt, toToken, tokenOf, tokenAnswer}
 use Rattle.reader.specs.Trees.{treeOf}
 use Rattle.reader.specs.TreesLaws.{leavesReached, tree-fixed, walk-below}
-use Rattle.reader.specs.declared.boolean.Reader.{Reader}
-use Rattle.reader.specs.declared.token.Token.{Token}
 use Rattle.reader.specs.declared.token.Token.the-variants as T
 
 pub eleven-at : (table : List ℕ) (at i : ℕ) → i < 11 → getD (elevenAt table at) i 0 ≡ getD table (at + i) 0

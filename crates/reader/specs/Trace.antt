@@ -4,8 +4,7 @@ use lib.ListN.{length}
 use mathlib.Core.Bool.{Bool}
 use mathlib.Core.List.{List, [], _∷_}
 use mathlib.Core.Path.{_≡_}
-use Rattle.reader.specs.declared.boolean.Reader.{Reader}
-use Rattle.reader.specs.Boolean.{given, missing, symbolOf}
+use Rattle.reader.specs.Boolean.{Reader, given, missing, symbolOf}
 use Rattle.reader.specs.Reading.{Reading, done, ask}
 
 -- a symbol with the probability that it was asked with

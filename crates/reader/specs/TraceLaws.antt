@@ -5,8 +5,7 @@ use native.Mathlib.Omega.{arith}
 use mathlib.Core.Path.{_≡_, refl, sym, _∙_, ap}
 use mathlib.Core.Bool.{Bool}
 use mathlib.Core.List.{List, [], _∷_, _++_}
-use Rattle.reader.specs.declared.boolean.Reader.{Reader}
-use Rattle.reader.specs.Boolean.{Given, given, missing, symbolOf}
+use Rattle.reader.specs.Boolean.{Reader, Given, given, missing, symbolOf}
 use Rattle.reader.specs.Reading.{Reading, done, ask, _>>=_, run, Within, ends, asks}
 use Rattle.reader.specs.ReadingLaws.{never-both, run-missing, run-got}
 use Rattle.reader.specs.Trace.{CodedSymbol, trace, count, Follows, stop, take, Answers, none, more}

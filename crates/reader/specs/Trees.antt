@@ -6,14 +6,13 @@ use mathlib.Core.Bool.{Bool, true, false, _&&_}
 use lib.ListN.{length, getD}
 use lib.IntN.{ℤ, pos, negsuc}
 use lib.Dec.{ltb, leb, eqb}
-use Rattle.reader.specs.declared.boolean.Reader.{Reader}
-use Rattle.reader.specs.declared.trees.Walked.{Walked}
+pub use Rattle.reader.specs.declared.trees.Walked.{Walked}
 use Rattle.reader.specs.declared.trees.Walked.the-variants as W
-use Rattle.reader.specs.declared.trees.Branch.{Branch}
+pub use Rattle.reader.specs.declared.trees.Branch.{Branch}
 use Rattle.reader.specs.declared.trees.Branch.the-variants as B
 use Rattle.reader.specs.declared.trees.Step.{Step}
 use Rattle.reader.specs.declared.trees.Step.the-variants as S
-use Rattle.reader.specs.Boolean.{Given, given, missing, validOf, noReader}
+use Rattle.reader.specs.Boolean.{Reader, Given, given, missing, validOf, noReader}
 use Rattle.reader.specs.Reading.{Reading, done, symbol, run, _>>=_}
 
 -- an entry: positive names a node, zero or less a leaf

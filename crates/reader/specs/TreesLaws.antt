@@ -10,21 +10,17 @@ use mathlib.Core.Bool.{Bool, true, false, _&&_}
 use lib.ListN.{length, getD}
 use lib.IntN.{ℤ, pos}
 use lib.Dec.{ltb, leb, eqb}
-use borrow.Author.Tests.{ltb-true, leb-true, eqb-true, lt-ltb, le-leb, eq-eqb}
 use Rattle.numbers.specs.Tables.{allAt, all-at}
-use Rattle.numbers.specs.Tests.{lt-or, never, not-so, both-left, both-right, both-true}
-use Rattle.reader.specs.declared.boolean.Reader.{Reader}
-use Rattle.reader.specs.declared.trees.Walked.{Walked}
+use Rattle.numbers.specs.Tests.{lt-or, never, not-so, both-left, both-right, both-true, ltb-true, leb-true, eqb-true, lt-ltb, le-leb, eq-eqb}
 use Rattle.reader.specs.declared.trees.Walked.the-variants as W
-use Rattle.reader.specs.declared.trees.Branch.{Branch}
 use Rattle.reader.specs.declared.trees.Branch.the-variants as B
 use Rattle.reader.specs.declared.trees.Step.{Step}
 use Rattle.reader.specs.declared.trees.Step.the-variants as S
-use Rattle.reader.specs.Boolean.{Given, given, missing}
+use Rattle.reader.specs.Boolean.{Reader, Given, given, missing}
 use Rattle.reader.specs.BooleanLaws.{Bytes, Valid, valid-test}
 use Rattle.reader.specs.Reading.{done, ask, symbol, run, Within, ends, asks}
 use Rattle.reader.specs.ReadingLaws.{run-done, run-then, run-stops, within-weaken}
-use Rattle.reader.specs.Trees.{branchOf, atOf, branchAt, nodesOf, step, follow, walk, leadsOf, treeEntries, treeOf, toStep, toWalked, treeStepOf, walkOf, walkAnswer, Leads, Tree}
+use Rattle.reader.specs.Trees.{Walked, Branch, branchOf, atOf, branchAt, nodesOf, step, follow, walk, leadsOf, treeEntries, treeOf, toStep, toWalked, treeStepOf, walkOf, walkAnswer, Leads, Tree}
 
 -- ---- a walk of a known tree, one node at a time: an `if` chain over `symbol` equals the walk by these three. In a constant
 -- tree the equation of a branch is `refl`.

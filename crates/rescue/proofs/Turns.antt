@@ -1,26 +1,24 @@
 -- The turns of the loop after the stop, on plain values.
-use Prim.Native.Nat.{ℕ, zero, suc, _+_, _-_, _*_, _/_, _%_, _≤_, _<_}
+use Prim.Native.Nat.{ℕ, zero, suc, _+_, _-_, _*_, _≤_, _<_}
 use mathlib.Core.Path.{_≡_, refl, sym, _∙_, ap, subst}
-use mathlib.Core.List.{List, [], _∷_}
+use mathlib.Core.List.{[], _∷_}
 use mathlib.Core.Logic.{_⊎_, ⊎-elim}
 use native.Mathlib.Omega.{arith}
-use lib.ListN.{length, getD, set}
+use lib.ListN.{set}
 use types.Run.{OneOf}
 use denote.Enum.Declared.{tagOf}
-use Rattle.reader.specs.declared.boolean.Reader.{Reader}
 use Rattle.reader.specs.Boolean.{noReader}
 use Rattle.reader.specs.BooleanLaws.{Bytes}
+use Rattle.macroblock.specs.declared.ending.Finish.the-variants as F
 use Rattle.macroblock.specs.declared.arguments.Readers.{Readers}
 use Rattle.macroblock.specs.declared.ending.Finish.{Finish}
-use Rattle.macroblock.specs.declared.ending.Finish.the-variants as F
-use Rattle.macroblock.specs.Macroblock.{Finished, Step, finished, no-modes, no-tokens, finishNumberOf}
+use Rattle.macroblock.specs.Macroblock.{Step, finished, no-modes, no-tokens, finishNumberOf}
 use Rattle.macroblock.proofs.ending.Finish as finish
-use Rattle.lent.specs.Memory.{Memory}
-use Rattle.choices.specs.declared.answer.Decoded.{Decoded}
 use Rattle.choices.specs.declared.answer.Decoded.the-variants as D
 use Rattle.choices.proofs.answer.Decoded as decoded
+use Rattle.choices.specs.declared.answer.Decoded.{Decoded}
 use Rattle.choices.specs.Answer.{valuesOf}
-use Rattle.picture.specs.Picture.{Picture, State, columnOf, partitionOf, planesIn, nextOf}
+use Rattle.picture.specs.Picture.{Picture, State, columnOf, partitionOf, nextOf}
 use Rattle.picture.specs.Turn.{Turned, turned}
 use Rattle.picture.specs.Live.{Shared, Live}
 use Rattle.picture.specs.PictureLaws.{live-next}

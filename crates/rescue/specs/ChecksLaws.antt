@@ -1,8 +1,8 @@
 -- The laws of the rescue call's checks: they are the picture call's, the fourth of which covers the marks too.
-use Prim.Native.Nat.{ℕ, zero, suc, _+_, _*_, _/_, _≤_, _<_}
+use Prim.Native.Nat.{ℕ, _*_, _/_, _≤_, _<_}
 use mathlib.Core.Path.{_≡_, refl, sym, _∙_, ap}
 use mathlib.Core.Bool.{Bool, true, false, _&&_}
-use mathlib.Core.List.{List, [], _∷_}
+use mathlib.Core.List.{[], _∷_}
 use mathlib.Core.Logic.{_⊎_, inl, inr, ⊎-elim}
 use native.Mathlib.Omega.{arith}
 use lib.Dec.{eqb}
@@ -11,7 +11,7 @@ use Rattle.header.specs.Header.{entriesOf}
 use Rattle.tile.specs.Checks.{sidesOf, countOf, partitionsOf, blocksOf}
 use Rattle.lent.specs.declared.sizes.Sizes.{Sizes}
 use Rattle.lent.specs.Records.{modeWidth}
-use Rattle.choices.specs.Checks.{Call, Lengths, lengthsOf, failed, checksOf, refusalOf}
+use Rattle.choices.specs.Checks.{Call, Lengths, lengthsOf, failed, refusalOf}
 use Rattle.choices.specs.ChecksLaws.{refusal-most, fine-lengths, refused-partitions}
 use Rattle.rescue.specs.Rescue.{rescueRefusalOf}
 

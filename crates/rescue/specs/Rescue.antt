@@ -15,13 +15,13 @@ use Rattle.lent.specs.declared.sizes.Sizes.{Sizes}
 use Rattle.lent.specs.Memory.{Memory, sizesOf}
 use Rattle.macroblock.specs.Macroblock.{Step, finished, no-modes, no-tokens}
 use Rattle.macroblock.specs.Rebuilt.{rebuiltOf}
-use Rattle.choices.specs.declared.answer.Decoded.{Decoded}
 use Rattle.choices.specs.declared.answer.Decoded.the-variants as D
 use Rattle.choices.specs.Checks.{Call, lengthsOf, failed}
+use Rattle.choices.specs.declared.answer.Decoded.{Decoded}
 use Rattle.choices.specs.Answer.{valuesOf}
 use Rattle.picture.specs.Picture.{Picture, State, picturedOf, columnOf, partitionOf, planesIn, placeOf, readersAt, aroundAt, nextOf}
 use Rattle.picture.specs.Halt.{Halted, haltedOf}
-use Rattle.rescue.specs.declared.Rescued.{Rescued}
+pub use Rattle.rescue.specs.declared.Rescued.{Rescued}
 use Rattle.rescue.specs.declared.Rescued.the-variants as R
 
 -- ---- 1 to 5 as the picture call checks them, 4 also covering the marks: a byte a macroblock

@@ -1,10 +1,8 @@
 -- The laws of the rescue call: one macroblock after the stop, one turn of the recursion, the marks, the call.
 use Prim.Native.Nat.{ℕ, zero, suc, _+_, _-_, _*_, _/_, _%_, _≤_, _<_}
 use mathlib.Core.Path.{_≡_, refl, sym, _∙_, ap, ap₂, subst}
-use mathlib.Core.Bool.{Bool, true, false}
 use mathlib.Core.List.{List}
 use native.Mathlib.Omega.{arith}
-use lib.Dec.{ltb}
 use lib.ListN.{length, getD}
 use borrow.Author.Tests.{lt-ltb, le-ltb}
 use Rattle.numbers.specs.Lists.{build, length-build, getD-build}
@@ -27,12 +25,11 @@ use Rattle.macroblock.specs.Rebuilt.{rebuiltOf, rebuildCallOf}
 use Rattle.macroblock.specs.Asked.{Legible}
 use Rattle.macroblock.specs.RebuiltLaws.{ready-legible, rebuild-good, rebuilt-never, rebuilt-ends, rebuilt-outside, rebuilt-strength, withToken, rebuilt-token, rebuilt-token-none}
 use Rattle.macroblock.specs.StepLaws.{Elsewhere}
-use Rattle.choices.specs.declared.answer.Decoded.{Decoded}
 use Rattle.choices.specs.declared.answer.Decoded.the-variants as D
 use Rattle.choices.specs.Checks.{Call}
 use Rattle.choices.specs.Answer.{valuesOf}
 use Rattle.choices.specs.Beside.{besideOf}
-use Rattle.picture.specs.Picture.{Picture, State, picturedOf, columnOf, rowOf, partitionOf, planesIn, placeOf, readersAt, aroundAt, written, nextOf}
+use Rattle.picture.specs.Picture.{Picture, State, picturedOf, columnOf, partitionOf, planesIn, placeOf, readersAt, aroundAt, written, nextOf}
 use Rattle.picture.specs.Turn.{Turned, turned}
 use Rattle.picture.specs.TurnLaws.{Ends}
 use Rattle.picture.specs.Live.{Shared, Live}
@@ -41,7 +38,7 @@ use Rattle.picture.specs.Halt.{Halted, haltedOf}
 use Rattle.picture.specs.HaltLaws.{Alive, halted-alive}
 use Rattle.rescue.specs.ChecksLaws.{rescue-fine}
 use Rattle.rescue.specs.declared.Rescued.the-variants as R
-use Rattle.rescue.specs.Rescue.{Held, rescueRefusalOf, rebuiltAt, Saved, savedAt, restOf, goneOn, markOf, marksOf, RescueEnded, rescueEnded, rescued, savedOf, rescueOf}
+use Rattle.rescue.specs.Rescue.{Held, rescueRefusalOf, rebuiltAt, Saved, savedAt, restOf, goneOn, markOf, marksOf, rescueEnded, rescued, savedOf, rescueOf}
 
 -- ---- one macroblock
 -- the call, its arguments being good

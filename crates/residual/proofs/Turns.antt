@@ -9,6 +9,7 @@ use lib.Dec.{ltb, leb}
 use lib.IntN.{ℤ, pos, negsuc}
 use lib.ListN.{length, getD, set, replicate}
 use Rattle.numbers.specs.Flags.{bitOf}
+use Rattle.reader.specs.declared.boolean.Reader.{Reader}
 use Rattle.reader.specs.Boolean.{Given, given, missing}
 use Rattle.reader.specs.BooleanLaws.{Bytes, Valid}
 use Rattle.numbers.specs.In.{Each}
@@ -18,25 +19,22 @@ use Rattle.reader.specs.Reading.{Reading, run, Within, ends}
 use Rattle.reader.specs.ReadingLaws.{ReadTo, run-valid}
 use Rattle.reader.specs.Trace.{count}
 use Rattle.reader.specs.TraceLaws.{count-within}
-use Rattle.reader.specs.declared.boolean.Reader.{Reader}
 use Rattle.header.specs.declared.quantizers.Factors.{Factors}
 use Rattle.coefficients.specs.BlockLaws.{Sixteen, fromBlock, block-within}
+use Rattle.transform.specs.declared.Transformed.{Transformed}
 use Rattle.transform.specs.Transform.{samplesOf, transformOf}
 use Rattle.transform.specs.TransformLaws.{transform-good}
 use Rattle.coefficients.specs.declared.block.Block.the-variants as B
 use Rattle.coefficients.specs.declared.block.BlockRead.{BlockRead}
-use Rattle.transform.specs.declared.Transformed.{Transformed}
 use Rattle.transform.specs.Lanes.{macroblockLanes}
-use Rattle.residual.specs.Residual.{Model, Flags, ModelInRange, initial, coordinates, secondKind, kindOf, zeroOf, coded, spread, secondPlace, second, sixteenAt, stored, advance, blocksFrom, dcStage, cleared, residualOf, noResidual, toResidualCalled, residualAnswer}
+use Rattle.residual.specs.Residual.{Kind, FlagsAt, Model, Flags, ModelInRange, initial, coordinates, secondKind, kindOf, zeroOf, coded, spread, secondPlace, second, sixteenAt, stored, advance, blocksFrom, dcStage, cleared, residualOf, noResidual, toResidualCalled, residualAnswer}
 use Rattle.residual.specs.ResidualLaws.{kind-in, initial-whole, zeros-sixteen, sixteen-in, sixteen-fit, second-within, advance-within, blocks-few, residual-within}
 use Rattle.residual.specs.Parts.{modelOf, turnOf, Part, BlockPart, Held}
 use Rattle.residual.specs.ResidualSteps.{coded-at, second-missing, second-ended, advance-missing, advance-ended, blocks-none, blocks-missing, blocks-next, residual-skip, residual-missing, residual-next, call-missing, call-handed}
 use Rattle.residual.specs.declared.answers.Ended.the-variants as E
 use Rattle.residual.specs.declared.answers.ResidualRead.{ResidualRead}
-use Rattle.residual.specs.declared.blocks.Kind.{Kind}
 use Rattle.residual.specs.declared.blocks.State.{State}
 use Rattle.residual.specs.declared.blocks.Turn.{Turn}
-use Rattle.residual.specs.declared.contexts.FlagsAt.{FlagsAt}
 
 -- the state that the code makes after a block
 abbrev pub after : State → Reader → Kind → FlagsAt → ℕ → Bool → State

@@ -10,7 +10,7 @@ use Rattle.wide.specs.Counted.{counted}
 use Rattle.wide.specs.WideRuns.{WideReads}
 use Rattle.wide.specs.declared.wide.Wide.{Wide}
 use Rattle.coefficients.specs.Block.{Coefficients}
-use Rattle.residual.specs.declared.fast.WideBlock.{WideBlock}
+pub use Rattle.residual.specs.declared.fast.WideBlock.{WideBlock}
 
 -- ---- sixteen numbers a step apart: those at the places at, at + step, at + 2 * step, ..
 unfoldable pub spotsOf : List ℤ → (at step : ℕ) → List ℤ

@@ -12,14 +12,13 @@ use lib.IntN.{ℤ, pos, _+ℤ_, _-ℤ_, _*ℤ_}
 use lib.ListN.{length, getD, set, length-set, replicate}
 use lib.Seq.{getD-set-same, getD-set-other}
 use mir.Syntax.{w16}
-use borrow.Author.Tests.{eqb-true, leb-true}
 use Rattle.header.specs.Entries.{probabilityCount}
 use Rattle.numbers.specs.Hand.{there}
 use Rattle.numbers.specs.Know.{round}
 use Rattle.numbers.specs.Lists.{build, length-build, getD-build, build-same, build-constant, getD-constant, built}
 use Rattle.numbers.specs.Parts.{up, dn, of-le, of-eq, add-parts, sub-parts-ℤ, up-times, dn-times}
 use Rattle.numbers.specs.Tables.{allBelow, all-below}
-use Rattle.numbers.specs.Tests.{lt-or}
+use Rattle.numbers.specs.Tests.{lt-or, eqb-true, leb-true}
 use Rattle.numbers.specs.Wrap.{wrapZ}
 use Rattle.numbers.specs.WrapLaws.{wrap-is}
 use Rattle.reader.specs.BooleanLaws.{Bytes}
@@ -30,8 +29,8 @@ use Rattle.reader.specs.Reading.{Reading, done, ask, symbol, _>>=_}
 use Rattle.reader.specs.Token.{tokenTree, elevenAt}
 use Rattle.reader.specs.TokenLaws.{eleven-at, eleven-bytes}
 use Rattle.reader.specs.TreesLaws.{walk-below}
-use Rattle.reader.specs.Trees.{branchAt, follow, walk}
 use Rattle.reader.specs.declared.trees.Branch.{Branch}
+use Rattle.reader.specs.Trees.{branchAt, follow, walk}
 use Rattle.reader.specs.declared.trees.Branch.the-variants as B
 use Rattle.reader.specs.declared.boolean.Reader.{Reader}
 use Rattle.wide.specs.Counted.{counted}
@@ -41,13 +40,12 @@ use Rattle.wide.specs.WideLaws.{Sim}
 use Rattle.wide.specs.WideRuns.{WideReads, Going, going-start, going-fill, going-bit, going-as, going-weaken, going-cost, going-told, going-fresh, call-fresh, fill-fresh, going-half, reads-then, walk-asks}
 use Rattle.wide.specs.declared.wide.Bit.{Bit}
 use Rattle.wide.specs.declared.wide.Wide.{Wide}
-use Rattle.residual.specs.Fast.{spotsOf, spaced, strewn, BlockCoded}
+use Rattle.residual.specs.Fast.{WideBlock, spotsOf, spaced, strewn, BlockCoded}
 use Rattle.residual.specs.Residual.{sixteenAt}
 use Rattle.coefficients.specs.BlockLaws.{SixteenBits, magnitude-within, bitsOf, magnitude-costs, restOf, signOn, block-asks, rest-ends, rest-zero, rest-number, block-none}
 use Rattle.coefficients.specs.BlockSteps.{place-below, zigzag-below, context-more}
 use Rattle.coefficients.specs.Block.{categories, category, magnitude, signOf, bands, zigzag, probabilityPlace, quantizerAt, contextAfter, Coefficients, blockFrom, block}
 use Rattle.residual.specs.declared.fast.Number.{Number}
-use Rattle.residual.specs.declared.fast.WideBlock.{WideBlock}
 use Rattle.residual.specs.declared.fast.Zeros.{Zeros}
 
 -- ---- two lists that agree in every place

@@ -21,13 +21,11 @@ use Rattle.reader.specs.Reading.{Reading, done}
 use Rattle.reader.specs.declared.boolean.Reader.{Reader}
 use Rattle.coefficients.specs.Block.{Coefficients, block}
 use Rattle.coefficients.specs.BlockLaws.{block-within}
-use Rattle.residual.specs.Fast.{spotsOf, strewn, BlockCoded}
+use Rattle.residual.specs.Fast.{WideBlock, spotsOf, strewn, BlockCoded}
 use Rattle.residual.specs.FastLaws.{coded-long, spots-same, spots-zeros, length-strewn}
-use Rattle.residual.specs.declared.fast.Spots.{Spots}
-use Rattle.residual.specs.declared.fast.WideBlock.{WideBlock}
+use Rattle.transform.specs.declared.Transformed.{Transformed}
 use Rattle.transform.specs.Transform.{samplesOf, transformOf}
 use Rattle.transform.specs.TransformLaws.{transform-good}
-use Rattle.transform.specs.declared.Transformed.{Transformed}
 use Rattle.wide.specs.Counted.{counted}
 use Rattle.wide.specs.CountedLaws.{within-counted}
 use Rattle.wide.specs.Padded.{runPadded}
@@ -35,14 +33,12 @@ use Rattle.wide.specs.PaddedLaws.{padded-within}
 use Rattle.wide.specs.WideLaws.{Sim}
 use Rattle.wide.specs.WideRuns.{WideReads, Gave, Going, going-start, going-as, going-weaken, going-counted, going-next, going-told}
 use Rattle.wide.specs.declared.wide.Wide.{Wide}
-use Rattle.residual.specs.Residual.{Model, Flags, initial, secondKind, kindOf, coordinates, coded, secondPlace, spread, stored, sixteenAt, zeroOf, residualOf}
+use Rattle.residual.specs.Residual.{Kind, FlagsAt, Model, Flags, initial, secondKind, kindOf, coordinates, coded, secondPlace, spread, stored, sixteenAt, zeroOf, residualOf}
 use Rattle.residual.specs.ResidualLaws.{kind-in, kind-luma, kind-chroma, flags-flagged, zeros-sixteen, sixteen-fit}
-use Rattle.residual.specs.Quick.{Wider, blockSpots, spotsAt, numberPlace, inBlocks, modelAt, kindAt, placeAt, quickPart, partsFrom}
+use Rattle.residual.specs.Quick.{Spots, Wider, blockSpots, spotsAt, numberPlace, inBlocks, modelAt, kindAt, placeAt, quickPart, partsFrom}
 use Rattle.residual.specs.QuickLaws.{residual-parts, oldAt, afterAt, part-coded, block-luma, block-chroma, number-block, length-in-blocks, in-blocks-at, in-blocks-spaced, in-blocks-second, in-blocks-firsts, in-blocks-zeros, second-numbers}
 use Rattle.residual.specs.Symbols.{Ranged}
 use Rattle.residual.specs.Groups.{startOf, groupOf, GroupFits, settledOf, noneAfter, firstsOf, zerosAt, modelIn, Ready, Parting, Passed}
-use Rattle.residual.specs.declared.blocks.Kind.{Kind}
-use Rattle.residual.specs.declared.contexts.FlagsAt.{FlagsAt}
 use Rattle.residual.specs.declared.quick.Group.{Group}
 
 -- ---- the groups, as the code tells them

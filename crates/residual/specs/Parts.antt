@@ -6,16 +6,15 @@ use mathlib.Core.Path.{_≡_}
 use lib.IntN.{ℤ}
 use lib.ListN.{length}
 use Rattle.header.specs.Entries.{probabilityCount}
+use Rattle.reader.specs.declared.boolean.Reader.{Reader}
 use Rattle.reader.specs.Boolean.{Given, given, missing}
 use Rattle.reader.specs.BooleanLaws.{Valid}
 use Rattle.reader.specs.Counts.{Took}
 use Rattle.reader.specs.Reading.{Reading}
-use Rattle.reader.specs.declared.boolean.Reader.{Reader}
 use Rattle.coefficients.specs.Block.{block}
 use Rattle.coefficients.specs.BlockLaws.{fromBlock}
 use Rattle.coefficients.specs.declared.block.BlockRead.{BlockRead}
-use Rattle.residual.specs.Residual.{Model, ModelInRange}
-use Rattle.residual.specs.declared.blocks.Kind.{Kind}
+use Rattle.residual.specs.Residual.{Kind, Model, ModelInRange}
 use Rattle.residual.specs.declared.blocks.State.{State}
 use Rattle.residual.specs.declared.blocks.Turn.{Turn}
 

@@ -12,12 +12,10 @@ use Rattle.reader.specs.Reading.{Reading, done, _>>=_}
 use Rattle.reader.specs.Trace.{count}
 use Rattle.reader.specs.declared.boolean.Reader.{Reader}
 use Rattle.header.specs.declared.quantizers.Factors.{Factors}
-use Rattle.residual.specs.Residual.{Model, secondKind, kindOf, secondPlace, coordinates, second, advance, residualOf, residualAnswer}
-use Rattle.residual.specs.declared.blocks.Kind.{Kind}
-use Rattle.residual.specs.declared.contexts.FlagsAt.{FlagsAt}
+use Rattle.residual.specs.Residual.{Kind, FlagsAt, Model, secondKind, kindOf, secondPlace, coordinates, second, advance, residualOf, residualAnswer}
 use Rattle.residual.specs.declared.quick.Quick.{Quick}
 use Rattle.residual.specs.declared.quick.Passing.{Passing}
-use Rattle.residual.specs.declared.fast.Spots.{Spots}
+pub use Rattle.residual.specs.declared.fast.Spots.{Spots}
 use Rattle.wide.specs.declared.wide.Wide.{Wide}
 
 -- what goes from part to part, and the flags

@@ -6,7 +6,6 @@ use mathlib.Core.Bool.{Bool, true, false, _&&_}
 use mathlib.Core.List.{List}
 use mathlib.Core.Logic.{inl, inr, ⊎-elim}
 use mathlib.Core.Path.{_≡_, refl, sym, _∙_, ap, ap₂}
-use borrow.Author.Tests.{lt-ltb, le-ltb}
 use lib.IntN.{ℤ, pos, negsuc}
 use lib.ListN.{length, getD, set, replicate, take, length-set}
 use lib.Seq.{getD-take, getD-set-same, getD-set-other, length-take-le}
@@ -14,26 +13,25 @@ use Rattle.numbers.specs.Flags.{bitOf}
 use Rattle.numbers.specs.In.{Each}
 use Rattle.numbers.specs.Lists.{length-build, getD-build, built, build-same, build-constant, getD-constant}
 use Rattle.numbers.specs.Runs.{placed, length-placed, placed-none, placed-next}
-use Rattle.numbers.specs.Tests.{lt-or, eq-or}
+use Rattle.numbers.specs.Tests.{lt-or, eq-or, lt-ltb, le-ltb}
 use Rattle.reader.specs.BooleanLaws.{Bytes, Valid}
 use Rattle.reader.specs.Reading.{done, _>>=_}
 use Rattle.reader.specs.declared.boolean.Reader.{Reader}
 use Rattle.header.specs.declared.quantizers.Factors.{Factors}
 use Rattle.residual.specs.Fast.{spotsOf, spaced}
 use Rattle.residual.specs.FastLaws.{spaced-none, spaced-next, length-spaced, spots-same}
-use Rattle.residual.specs.declared.fast.Spots.{Spots}
 use Rattle.coefficients.specs.Block.{Coefficients}
+use Rattle.transform.specs.declared.Transformed.{Transformed}
 use Rattle.transform.specs.Transform.{samplesOf, transformOf}
 use Rattle.transform.specs.TransformLaws.{transform-walsh-in}
-use Rattle.transform.specs.declared.Transformed.{Transformed}
 use Rattle.wide.specs.Counted.{counted}
+use Rattle.wide.specs.declared.wide.Wide.{Wide}
 use Rattle.wide.specs.Wide.{widenOf, eightInside, narrowOf}
 use Rattle.wide.specs.WideRuns.{WideReads, wide-counted}
-use Rattle.wide.specs.declared.wide.Wide.{Wide}
 use Rattle.reader.specs.Trace.{count}
 use Rattle.transform.specs.Lanes.{macroblockLanes}
 use Rattle.transform.specs.LanesLaws.{squares-are}
-use Rattle.residual.specs.Quick.{Wider, blockSpots, numberPlace, inBlocks, modelAt, kindAt, placeAt, quickPart, partsFrom, QuickWhere}
+use Rattle.residual.specs.Quick.{Spots, Wider, blockSpots, numberPlace, inBlocks, modelAt, kindAt, placeAt, quickPart, partsFrom, QuickWhere}
 use Rattle.residual.specs.Residual.{Model, initial, secondKind, kindOf, coordinates, coded, flagged, spread, secondPlace, second, sixteenAt, stored, emptyOf, advance, blocksFrom, residualOf, residualAnswer}
 use Rattle.residual.specs.ResidualSteps.{call-handed}
 use Rattle.residual.specs.declared.answers.Ended.the-variants as E

@@ -13,21 +13,21 @@ use Rattle.numbers.specs.In.{Each}
 use Rattle.numbers.specs.Lists.{build}
 use Rattle.numbers.specs.Runs.{placed}
 use Rattle.numbers.specs.Tables.{allBelow}
+use Rattle.reader.specs.declared.boolean.Reader.{Reader}
 use Rattle.reader.specs.Boolean.{Given, given, missing, validOf, noReader}
 use Rattle.header.specs.Header.{headerOf}
 use Rattle.reader.specs.Reading.{Reading, done, run, _>>=_}
 use Rattle.reader.specs.Trace.{count}
-use Rattle.reader.specs.declared.boolean.Reader.{Reader}
-use Rattle.header.specs.Quantizers.{factorsOf}
 use Rattle.header.specs.declared.quantizers.Factors.{Factors}
+use Rattle.header.specs.Quantizers.{factorsOf}
 use Rattle.coefficients.specs.Block.{Coefficients, block, headerTable}
 use Rattle.transform.specs.Transform.{samplesOf}
 use Rattle.transform.specs.Lanes.{macroblockLanes}
 use Rattle.residual.specs.declared.answers.Ended.{Ended}
 use Rattle.residual.specs.declared.answers.Ended.the-variants as E
-use Rattle.residual.specs.declared.answers.Residual.{Residual}
-use Rattle.residual.specs.declared.blocks.Kind.{Kind}
-use Rattle.residual.specs.declared.contexts.FlagsAt.{FlagsAt}
+pub use Rattle.residual.specs.declared.answers.Residual.{Residual}
+pub use Rattle.residual.specs.declared.blocks.Kind.{Kind}
+pub use Rattle.residual.specs.declared.contexts.FlagsAt.{FlagsAt}
 
 -- What goes from block to block. Nine flags above and nine to the left say which neighbouring blocks had coefficients: 0..3 luma, 4..5 U,
 -- 6..7 V, 8 the second-order block. The 384 coefficients stand block after block: 16 of luma, 4 of U, 4 of V, sixteen numbers each.

@@ -8,7 +8,6 @@ use mathlib.Core.Path.{_≡_, refl, sym, _∙_, ap}
 use lib.Dec.{ltb}
 use lib.IntN.{ℤ, pos, negsuc}
 use lib.ListN.{length, getD, set, replicate, length-set, length-replicate}
-use borrow.Author.Tests.{lt-ltb, le-ltb}
 use Rattle.header.specs.Entries.{probabilityCount}
 use Rattle.numbers.specs.Flags.{bitOf}
 use Rattle.numbers.specs.Bounds.{each-set}
@@ -17,7 +16,8 @@ use Rattle.numbers.specs.Know.{num, inside}
 use Rattle.numbers.specs.Lists.{set-keeps, length-build, getD-build, getD-build-past, getD-constant}
 use Rattle.numbers.specs.Order.{In-wider}
 use Rattle.numbers.specs.Runs.{placed, length-placed, placed-keeps}
-use Rattle.numbers.specs.Tests.{lt-or, both-true, not-first}
+use Rattle.numbers.specs.Tests.{lt-or, both-true, not-first, lt-ltb, le-ltb}
+use Rattle.reader.specs.declared.boolean.Reader.{Reader}
 use Rattle.reader.specs.Boolean.{Given, given, missing, validOf}
 use Rattle.reader.specs.BooleanLaws.{Bytes, Valid, valid-test}
 use Rattle.header.specs.Header.{headerOf}
@@ -26,22 +26,18 @@ use Rattle.reader.specs.ReadingLaws as ReadingLaws
 use Rattle.reader.specs.ReadingLaws.{never-both, run-valid, within-bind, within-more}
 use Rattle.reader.specs.Trace.{count}
 use Rattle.reader.specs.TraceLaws.{count-within}
-use Rattle.reader.specs.declared.boolean.Reader.{Reader}
-use Rattle.header.specs.Quantizers.{factorsOf}
 use Rattle.header.specs.declared.quantizers.Factors.{Factors}
+use Rattle.header.specs.Quantizers.{factorsOf}
 use Rattle.coefficients.specs.BlockLaws.{SixteenBits, Sixteen, block-within}
 use Rattle.coefficients.specs.Block.{headerTable}
 use Rattle.transform.specs.Lanes.{macroblockBlocks}
 use Rattle.transform.specs.LanesLaws.{length-squares, blocks-of-squares}
 use Rattle.transform.specs.Transform.{samplesOf}
 use Rattle.transform.specs.TransformLaws.{CoefficientsIn, transform-good, transform-walsh-in}
-use Rattle.residual.specs.Residual.{Model, Flags, ModelInRange, initial, coordinates, secondKind, lumaKind, kindOf, flagged, spread, secondPlace, second, sixteenAt, emptyOf, advance, blocksFrom, cleared, residualOf, ResidualCalled, toResidualCalled, residualArguments, residualAnswer, residualCallOf, residualByHeaderOf, residualReads}
+use Rattle.residual.specs.Residual.{Residual, Kind, FlagsAt, Model, Flags, ModelInRange, initial, coordinates, secondKind, lumaKind, kindOf, flagged, spread, secondPlace, second, sixteenAt, emptyOf, advance, blocksFrom, cleared, residualOf, ResidualCalled, toResidualCalled, residualArguments, residualAnswer, residualCallOf, residualByHeaderOf, residualReads}
 use Rattle.residual.specs.ResidualSteps.{arguments-good, decode-passed, reads-passed, decode-refused, header-passed}
 use Rattle.residual.specs.declared.answers.Ended.{Ended}
 use Rattle.residual.specs.declared.answers.Ended.the-variants as E
-use Rattle.residual.specs.declared.answers.Residual.{Residual}
-use Rattle.residual.specs.declared.blocks.Kind.{Kind}
-use Rattle.residual.specs.declared.contexts.FlagsAt.{FlagsAt}
 
 -- ---- what a block goes by: coordinates below 8, a kind below 4, a first position of 0 or 1
 pub coordinates-in : (i : ℕ) → i < 24 → (coordinates i .x < 8) × (coordinates i .y < 8)

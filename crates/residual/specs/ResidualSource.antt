@@ -10,25 +10,22 @@ use lib.Dec.{ltb, eqb}
 use lib.IntN.{ℤ, pos}
 use lib.ListN.{length, getD, set, replicate, length-set, length-replicate}
 use lib.Seq.{getD-set-same, getD-set-other}
-use borrow.Author.Tests.{lt-ltb, le-ltb, ne-eqb}
 use Rattle.numbers.specs.Flags.{bitOf}
 use Rattle.numbers.specs.Lists.{build, build-listed, length-build, getD-build, build-same, built, getD-constant}
 use Rattle.numbers.specs.Runs.{Off, length-placed, placed-in, placed-off}
-use Rattle.numbers.specs.Tests.{lt-or, eq-or}
+use Rattle.numbers.specs.Tests.{lt-or, eq-or, lt-ltb, le-ltb, ne-eqb}
+use Rattle.reader.specs.declared.boolean.Reader.{Reader}
 use Rattle.reader.specs.Boolean.{Given, given, missing}
 use Rattle.reader.specs.Reading.{Reading, done, run, _>>=_}
 use Rattle.reader.specs.ReadingLaws.{run-done, run-then, run-stops}
-use Rattle.reader.specs.declared.boolean.Reader.{Reader}
 use Rattle.header.specs.declared.quantizers.Factors.{Factors}
 use Rattle.coefficients.specs.Block.{Coefficients}
 use Rattle.transform.specs.Transform.{samplesOf}
-use Rattle.residual.specs.Residual.{Model, initial, coordinates, secondKind, kindOf, coded, flagged, spread, secondPlace, second, sixteenAt, stored, emptyOf, blocksFrom, cleared, residualOf}
+use Rattle.residual.specs.Residual.{Kind, FlagsAt, Model, initial, coordinates, secondKind, kindOf, coded, flagged, spread, secondPlace, second, sixteenAt, stored, emptyOf, blocksFrom, cleared, residualOf}
 use Rattle.residual.specs.ResidualLaws.{length-spread}
 use Rattle.reader.specs.Counts.{Took}
 use Rattle.reader.specs.Trace.{count}
 use Rattle.residual.specs.ResidualSteps.{second-missing, second-ended, advance-missing, advance-ended, blocks-none, blocks-missing, blocks-next}
-use Rattle.residual.specs.declared.blocks.Kind.{Kind}
-use Rattle.residual.specs.declared.contexts.FlagsAt.{FlagsAt}
 
 -- ---- the source's definitions
 -- its model: flags, the results of the second-order block, the blocks, whether all are empty

@@ -6,14 +6,14 @@ use native.Mathlib.Numerals.{add-one}
 use native.Mathlib.Omega.{arith}
 use mathlib.Core.Logic.{inl, inr}
 use lib.Dec.{ltb, leb, eqb}
-use borrow.Author.Tests.{leb-true, eqb-true, le-leb, eq-eqb}
 use mathlib.Core.List.{List}
 use lib.IntN.{ℤ, pos}
 use lib.ListN.{length, getD, set, replicate, List·getD-eq-default}
 use Rattle.header.specs.Entries.{probabilityCount}
 use Rattle.numbers.specs.Runs.{placed, placed-next}
 use Rattle.numbers.specs.Tables.{allBelow, all-below}
-use Rattle.numbers.specs.Tests.{lt-or, both-left, both-right, both-true}
+use Rattle.numbers.specs.Tests.{lt-or, both-left, both-right, both-true, leb-true, eqb-true, le-leb, eq-eqb}
+use Rattle.reader.specs.declared.boolean.Reader.{Reader}
 use Rattle.reader.specs.Boolean.{Given, given, missing, validOf}
 use Rattle.reader.specs.BooleanLaws.{Valid}
 use Rattle.header.specs.Header.{headerOf}
@@ -22,28 +22,24 @@ use Rattle.reader.specs.Reading.{run}
 use Rattle.reader.specs.Trace.{count}
 use Rattle.reader.specs.Counts.{Took}
 use Rattle.reader.specs.CountsLaws.{took-done, took-stops, took-then, took-ends}
-use Rattle.reader.specs.declared.boolean.Reader.{Reader}
+use Rattle.header.specs.declared.quantizers.Factors.{Factors}
 use Rattle.header.specs.Quantizers.{factorsOf, quantizersOf}
 use Rattle.header.specs.QuantizersLaws.{segment-ready, segment-refused}
-use Rattle.header.specs.declared.quantizers.Factors.{Factors}
 use Rattle.header.specs.declared.quantizers.Quantizers.{Quantizers}
 use Rattle.header.specs.declared.quantizers.Quantizers.the-variants as Q
 use Rattle.coefficients.specs.BlockLaws.{Sixteen, Good, decoded, decode-reads}
 use Rattle.coefficients.specs.BlockSteps.{table-done}
+use Rattle.coefficients.specs.declared.block.Table.{Table}
 use Rattle.coefficients.specs.Block.{Coefficients, block, headerTable, tableOf}
 use Rattle.coefficients.specs.Block as tokens
 use Rattle.coefficients.specs.declared.block.BlockRead.{BlockRead}
-use Rattle.coefficients.specs.declared.block.Table.{Table}
 use Rattle.transform.specs.Transform.{samplesOf}
 use Rattle.transform.specs.Lanes.{macroblockLanes}
 use Rattle.residual.specs.Parts.{modelOf, BlockPart}
-use Rattle.residual.specs.Residual.{Model, Flags, initial, coordinates, secondKind, kindOf, coded, flagged, spread, secondPlace, second, sixteenAt, stored, emptyOf, advance, blocksFrom, dcStage, cleared, residualOf, noResidual, toResidualCalled, flagsOf, residualArguments, residualAnswer, residualCallOf, residualByHeaderOf, residualReads, residualByHeaderReads}
+use Rattle.residual.specs.Residual.{Residual, Kind, FlagsAt, Model, Flags, initial, coordinates, secondKind, kindOf, coded, flagged, spread, secondPlace, second, sixteenAt, stored, emptyOf, advance, blocksFrom, dcStage, cleared, residualOf, noResidual, toResidualCalled, flagsOf, residualArguments, residualAnswer, residualCallOf, residualByHeaderOf, residualReads, residualByHeaderReads}
 use Rattle.residual.specs.declared.answers.Ended.the-variants as E
-use Rattle.residual.specs.declared.answers.Residual.{Residual}
 use Rattle.residual.specs.declared.answers.ResidualRead.{ResidualRead}
-use Rattle.residual.specs.declared.blocks.Kind.{Kind}
 use Rattle.residual.specs.declared.blocks.State.{State}
-use Rattle.residual.specs.declared.contexts.FlagsAt.{FlagsAt}
 
 -- ---- the flat list, one store at a time
 pub stored-next : (p : List ℤ) (at : ℕ) (f : ℕ → ℤ) (n : ℕ) {l : List ℤ} {v : ℤ} → l ≡ placed p at f n → v ≡ f n → set l (at + n) v ≡ placed p at f (n + 1)

@@ -4,8 +4,8 @@ use mathlib.Core.List.{List}
 use mathlib.Core.Bool.{true, false}
 use lib.Dec.{ltb}
 use Rattle.numbers.specs.Lists.{build}
-use Rattle.wide.specs.Wide.{doublingsOf}
 use Rattle.wide.specs.declared.wide.Wide.{Wide}
+use Rattle.wide.specs.Wide.{doublingsOf}
 
 -- the doublings of each range of 1..255, then the range after them, less one
 unfoldable pub normsOf : List ℕ

@@ -10,10 +10,10 @@ use borrow.Author.Tests.{lt-ltb, le-ltb}
 use Rattle.numbers.specs.Lists.{getD-build}
 use Rattle.reader.specs.BooleanLaws.{Valid}
 use Rattle.reader.specs.declared.boolean.Reader.{Reader}
+use Rattle.wide.specs.declared.wide.Wide.{Wide}
 use Rattle.wide.specs.Wide.{less32, lowOf, doublingsOf, liftedOf, fillOf, oddOf, halfOf, widenOf, upperOf}
 use Rattle.wide.specs.WideLaws.{lifts}
 use Rattle.wide.specs.WideRuns.{fill-fresh}
-use Rattle.wide.specs.declared.wide.Wide.{Wide}
 use Rattle.residual.specs.Symbols.{normsOf, Ranged}
 
 -- ---- the table

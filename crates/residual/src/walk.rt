@@ -5,7 +5,7 @@ use wide::wide::Wide;
 ghost use mathlib.Core.Path.{_≡_};
 ghost use mathlib.Core.Bool.{true, false};
 ghost use Prim.Native.Nat.{ℕ, suc, _+_, _<_, _≤_};
-ghost use lib.ListN.{length, getD};
+ghost use lib.ListN.{length};
 ghost use Rattle.numbers.specs.Flags.{bitOf};
 ghost use Rattle.reader.specs.declared.trees.Branch.the-variants as B;
 ghost use Rattle.reader.specs.Trees.{walk, branchAt};

@@ -8,7 +8,7 @@ use borrow.Author.Tests.{eq-eqb, ne-eqb}
 use Rattle.filter.specs.declared.explain.Explanation.{Explanation}
 use Rattle.filter.specs.Explain.{explainOf}
 use Rattle.samples.specs.FilterCalls.{flagOf}
-use Rattle.samples.specs.ExplainCalls.{ExplainCalled, toExplainCalled, ruleNumberOf, pairNumberOf, explainCalledOf}
+use Rattle.samples.specs.ExplainCalls.{toExplainCalled, ruleNumberOf, pairNumberOf, explainCalledOf}
 
 module _ (e : List ℕ) (simple edge limit inner threshold : ℕ) (after : List ℕ) (steps : List ℤ) where
   abbrev Refused : Type 0

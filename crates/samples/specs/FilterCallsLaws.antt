@@ -9,7 +9,7 @@ use Rattle.macroblock.specs.Macroblock.{Planes}
 use Rattle.deblock.specs.declared.Deblocked.{Deblocked}
 use Rattle.deblock.specs.Deblock as Deblock
 use Rattle.deblock.specs.Deblock.{DeblockAnswer, deblockOf}
-use Rattle.samples.specs.FilterCalls.{DeblockCalled, toDeblockCalled, deblockCalledOf, Filtered, flagOf, filteredOf}
+use Rattle.samples.specs.FilterCalls.{toDeblockCalled, deblockCalledOf, flagOf, filteredOf}
 
 pub deblock-called : (d : Planes) (s : List ℕ) (w h simple : ℕ) {n : ℕ} {a : Deblocked} {p : Planes} → n ≡ Deblock.deblockNumberOf a
     → _≡_ {A = DeblockAnswer} (record { answer = a; planes = p }) (deblockOf d s w h (flagOf simple)) → record { number = n; planes = p } ≡ deblockCalledOf d s w h simple

@@ -5,13 +5,12 @@ use mathlib.Core.Bool.{Bool, true, false, cond, not, _&&_, _||_}
 use mathlib.Core.List.{List, [], _∷_}
 use mathlib.Core.Logic.{inl, inr}
 use native.Mathlib.Omega.{arith}
-use borrow.Author.Tests.{lt-ltb, le-ltb, le-leb, lt-leb}
 use lib.Dec.{T, ltb, leb, lit<}
 use lib.ListN.{getD}
 use lib.IntN.{ℤ, pos, negsuc, negℤ, natAbs, _+ℤ_, _-ℤ_, _*ℤ_, +ℤ-idl, +ℤ-idr}
-use lib.Signed.{_≤ℤ_, ltZ, shrZ, ≤ℤ-refl}
+use lib.Signed.{_≤ℤ_, ltZ, shrZ}
 use mir.Syntax.{w8, w16}
-use Rattle.numbers.specs.Tests.{lt-or}
+use Rattle.numbers.specs.Tests.{lt-or, lt-ltb, le-ltb, le-leb, lt-leb}
 use Rattle.numbers.specs.In.{In}
 use Rattle.numbers.specs.Parts.{to-le, of-le, of-eq, lt-parts, nlt-le, add-parts, sub-parts-ℤ, up-times, dn-times, shr-parts}
 use Rattle.numbers.specs.Know.{Know, plainly, within, round, inside}
@@ -20,7 +19,7 @@ use Rattle.numbers.specs.Hand.{known, answered}
 use Rattle.numbers.specs.Lists.{build, _∷≡_}
 use Rattle.numbers.specs.Clamp.{clampZ, clipZ, signedTo, signedByteZ}
 use Rattle.numbers.specs.ClampLaws.{clamp-cases, clamp-same, clamp-low, clamp-high, signed-in, upTo-abs}
-use Rattle.filter.specs.Kernel.{Samples, apart, withinLimit, smooth, firstFalse, roughAt, highVariance, eighth, part, half, sides, noSteps, commonSteps, macroblockSteps, innerSteps, movedOf}
+use Rattle.filter.specs.Kernel.{Samples, apart, withinLimit, smooth, roughAt, highVariance, eighth, part, half, sides, noSteps, commonSteps, macroblockSteps, innerSteps, movedOf}
 use Rattle.filter.specs.KernelLaws.{first-past, part-in}
 use Rattle.straight.specs.Straight.{actsOf, halfStep, roughest}
 

@@ -11,9 +11,8 @@ use native.Mathlib.Decide.{ℕ-discrete}
 use lib.Dec.{eqb}
 use lib.ListN.{length, getD, set, length-set}
 use lib.Seq.{getD-set-same, getD-set-other}
-use borrow.Author.Tests.{eq-eqb, ne-eqb, le-leb, lt-leb}
 use Rattle.numbers.specs.Lists.{built, length-build, getD-build}
-use Rattle.numbers.specs.Tests.{lt-or, eq-or, both-true, both-false, never}
+use Rattle.numbers.specs.Tests.{lt-or, eq-or, both-true, both-false, never, eq-eqb, ne-eqb, le-leb, lt-leb}
 use Rattle.lent.specs.Memory.{Memory, sizesOf}
 use Rattle.macroblock.specs.declared.arguments.SymbolCounts.{SymbolCounts}
 use Rattle.macroblock.specs.Counts.{noReads}

@@ -10,9 +10,8 @@ use native.Mathlib.Nat.{zero-add}
 use native.Mathlib.Decide.{ℕ-discrete}
 use lib.ListN.{length, getD, set, replicate, length-set, length-append, List·getD-append}
 use lib.Seq.{ext-getD, getD-set-same, getD-set-other, set-out, getD-append-add}
-use borrow.Author.Tests.{lt-ltb, le-ltb, eq-eqb, ne-eqb}
 use Rattle.numbers.specs.Lists.{build, length-build, getD-build, getD-constant}
-use Rattle.numbers.specs.Tests.{lt-or, eq-or}
+use Rattle.numbers.specs.Tests.{lt-or, eq-or, lt-ltb, le-ltb, eq-eqb, ne-eqb}
 use Rattle.numbers.specs.Flags.{bitOf}
 use Rattle.lent.specs.declared.macroblocks.ModeRecord.{ModeRecord}
 use Rattle.lent.specs.declared.macroblocks.StrengthRecord.{StrengthRecord}

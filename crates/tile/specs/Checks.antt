@@ -7,9 +7,7 @@ use lib.Dec.{leb, eqb}
 use lib.ListN.{length}
 use Rattle.numbers.specs.Tables.{allBelow}
 use Rattle.reader.specs.Boolean.{validOf, Valid}
-use Rattle.tile.specs.declared.Span.{Span}
-use Rattle.tile.specs.declared.Tile.{Tile}
-use Rattle.tile.specs.Partitions.{contentsOf, spanAt}
+use Rattle.tile.specs.Partitions.{Span, Tile, contentsOf, spanAt}
 
 -- ---- 1: width and height, each a multiple of 16 in 16..16384
 unfoldable pub sideOf : ℕ → Bool

@@ -7,14 +7,11 @@ use mathlib.Core.Logic.{_⊎_, ⊎-elim}
 use native.Mathlib.Omega.{arith}
 use lib.Dec.{leb}
 use lib.ListN.{length}
-use borrow.Author.Tests.{leb-true, eqb-true, le-leb, lt-leb, eq-eqb}
-use Rattle.numbers.specs.Tests.{lt-or, never, not-so, both-left, both-right, both-true, both-false}
+use Rattle.numbers.specs.Tests.{lt-or, never, not-so, both-left, both-right, both-true, both-false, leb-true, eqb-true, le-leb, lt-leb, eq-eqb}
 use Rattle.numbers.specs.Tables.{allBelow, all-below}
 use Rattle.reader.specs.Boolean.{validOf}
 use Rattle.reader.specs.BooleanLaws.{valid-test, valid-fact}
-use Rattle.tile.specs.declared.Span.{Span}
-use Rattle.tile.specs.declared.Tile.{Tile}
-use Rattle.tile.specs.Partitions.{contentsOf, noSpan, spanAt}
+use Rattle.tile.specs.Partitions.{Span, Tile, contentsOf, noSpan, spanAt}
 use Rattle.tile.specs.PartitionsLaws.{span-past}
 use Rattle.tile.specs.Checks.{sideOf, sidesOf, Side, Sides, countOf, Counted, insideOf, tokensFine, partitionsOf, Inside, Cut}
 

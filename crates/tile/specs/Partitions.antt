@@ -8,8 +8,8 @@ use lib.ListN.{getD, take, drop}
 use Rattle.numbers.specs.Lists.{build}
 use Rattle.reader.specs.declared.boolean.Reader.{Reader}
 use Rattle.reader.specs.Boolean.{firstReader, noReader}
-use Rattle.tile.specs.declared.Span.{Span}
-use Rattle.tile.specs.declared.Tile.{Tile}
+pub use Rattle.tile.specs.declared.Span.{Span}
+pub use Rattle.tile.specs.declared.Tile.{Tile}
 
 -- the contents of a span; what lies past the end of the bytes is not there
 unfoldable pub contentsOf : List ℕ → Span → List ℕ

@@ -5,18 +5,15 @@ use mathlib.Core.List.{List}
 use mathlib.Core.Logic.{_⊎_, ⊎-elim}
 use native.Mathlib.Omega.{arith}
 use native.Mathlib.Nat.{mod-lt}
-use borrow.Author.Tests.{lt-ltb, le-ltb, eq-eqb, ne-eqb}
 use lib.ListN.{length, getD, take, drop, length-take, length-drop, drop-of-length-le, List·getD-eq-default}
 use lib.Seq.{ext-getD, getD-take, getD-drop, length-take-le, take-all}
 use lib.Dec.{lit<}
-use Rattle.numbers.specs.Tests.{lt-or}
+use Rattle.numbers.specs.Tests.{lt-or, lt-ltb, le-ltb, eq-eqb, ne-eqb}
 use Rattle.numbers.specs.Lists.{length-build, getD-build}
 use Rattle.reader.specs.declared.boolean.Reader.{Reader}
 use Rattle.reader.specs.Boolean.{firstReader, noReader}
 use Rattle.reader.specs.BooleanLaws.{Bytes, Valid, first-valid}
-use Rattle.tile.specs.declared.Span.{Span}
-use Rattle.tile.specs.declared.Tile.{Tile}
-use Rattle.tile.specs.Partitions.{contentsOf, noSpan, spanAt, tokenContents, pickOf, readerOf, readersOf}
+use Rattle.tile.specs.Partitions.{Span, Tile, contentsOf, noSpan, spanAt, tokenContents, pickOf, readerOf, readersOf}
 use Rattle.tile.specs.Checks.{Inside}
 
 -- ---- the contents of a span

@@ -7,7 +7,6 @@ use Prim.Native.Nat.{ℕ, _+_, _-_, _*_, _/_, _%_, _<_, _≤_}
 use native.Mathlib.Nat.{mul-comm}
 use native.Mathlib.Numerals.{add-one}
 use native.Mathlib.Omega.{arith}
-use borrow.Author.Tests.{eqb-true, ne-eqb}
 use lib.Arith.{digits-div, digits-mod, digits-lt}
 use lib.IntN.{ℤ, pos, negsuc}
 use lib.ListN.{length, length-append, getD, take, drop, replicate, length-drop, take-append-drop, List·getD-append, List·getD-eq-default}
@@ -19,7 +18,7 @@ use Rattle.numbers.specs.Lists.{built, build-listed, build-same, length-build, 
 use Rattle.numbers.specs.Stores.{storedAt}
 use Rattle.numbers.specs.StoresLaws.{stored-none, stored-in, stored-keeps, stored-more, stored-same}
 use Rattle.numbers.specs.Tables.{allBelow, all-below}
-use Rattle.numbers.specs.Tests.{lt-or, eq-or}
+use Rattle.numbers.specs.Tests.{lt-or, eq-or, eqb-true, ne-eqb}
 use Rattle.transform.specs.Transform.{Grid, at, cell, gridOf, verticalPass, horizontalPass, resultOf, resultsOf, samplesOf}
 use Rattle.transform.specs.TransformBounds.{numeral-in}
 use Rattle.transform.specs.TransformLaws.{CoefficientsIn, range-in, SmallIn, small-samples-in}

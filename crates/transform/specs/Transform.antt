@@ -10,7 +10,7 @@ use lib.Signed.{leZ, shrZ}
 use Rattle.numbers.specs.Lists.{build}
 use Rattle.numbers.specs.Tables.{allBelow}
 use Rattle.numbers.specs.Wrap.{wrapZ}
-use Rattle.transform.specs.declared.Transformed.{Transformed}
+pub use Rattle.transform.specs.declared.Transformed.{Transformed}
 
 -- ---- a block as four rows of four numbers
 abbrev pub Grid : Type 0

@@ -18,8 +18,7 @@ use Rattle.numbers.specs.Lists.{build, build-listed, length-build, getD-build, 
 use Rattle.numbers.specs.Tables.{allBelow, all-below}
 use Rattle.numbers.specs.Tests.{lt-or, both-true, both-left, both-right, cond-at, not-so}
 use Rattle.numbers.specs.WrapLaws.{wrap-in}
-use Rattle.transform.specs.declared.Transformed.{Transformed}
-use Rattle.transform.specs.Transform.{Grid, at, cell, four, gridRow, gridOf, transposeOf, scaledOf, passOf, rowsOf, verticalPass, biasOf, horizontalPass, resultOf, resultsOf, samplesOf, fits16, blockFits, transformOf}
+use Rattle.transform.specs.Transform.{Transformed, Grid, at, cell, four, gridRow, gridOf, transposeOf, scaledOf, passOf, rowsOf, verticalPass, biasOf, horizontalPass, resultOf, resultsOf, samplesOf, fits16, blockFits, transformOf}
 pub use Rattle.transform.specs.Pieces.{CoefficientsIn}
 use Rattle.transform.specs.Pieces.{PlainTo}
 use Rattle.transform.specs.TransformBounds.{numeral-in, vertical-in, horizontal-in, result-in, small-vertical-in, small-horizontal-in, small-result-in}

@@ -6,12 +6,12 @@ use mathlib.Core.Bool.{Bool, true, false}
 use lib.Dec.{lit≤}
 use lib.ListN.{getD}
 use lib.IntN.{ℤ}
-use Rattle.reader.specs.declared.boolean.Reader.{Reader}
-use Rattle.reader.specs.declared.trees.Walked.{Walked}
 use Rattle.reader.specs.declared.trees.Walked.the-variants as W
 use Rattle.reader.specs.declared.trees.Branch.the-variants as B
+use Rattle.reader.specs.declared.boolean.Reader.{Reader}
 use Rattle.reader.specs.Boolean.{Given, given, missing}
 use Rattle.reader.specs.Reading.{symbol, run}
+use Rattle.reader.specs.declared.trees.Walked.{Walked}
 use Rattle.reader.specs.Trees.{node, leaf, branchAt, walkOf}
 use Rattle.reader.specs.BooleanLaws.{Bytes, Valid}
 use Rattle.reader.specs.ReadingLaws.{run-valid}

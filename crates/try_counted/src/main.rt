@@ -7,7 +7,6 @@ use reader::boolean::open;
 use reader::trees::Walked;
 use reader::trees::walk_tree;
 ghost use mathlib.Core.Path.{_≡_};
-ghost use Prim.Native.Nat.{_≤_};
 ghost use lib.ListN.{length};
 ghost use Rattle.reader.specs.BooleanLaws.{Valid};
 ghost use Rattle.reader.specs.Reading.{symbol, run};

@@ -7,9 +7,8 @@ use mathlib.Core.Logic.{_⊎_, inl, inr, ⊎-elim}
 use native.Mathlib.Omega.{arith}
 use lib.Dec.{leb, eqb}
 use lib.ListN.{length, getD}
-use borrow.Author.Tests.{leb-true, eqb-true, le-leb, lt-leb, eq-eqb, ne-eqb}
 use Rattle.numbers.specs.Lists.{byteAt}
-use Rattle.numbers.specs.Tests.{both-left, both-right}
+use Rattle.numbers.specs.Tests.{both-left, both-right, leb-true, eqb-true, le-leb, lt-leb, eq-eqb, ne-eqb}
 use Rattle.webp.specs.declared.read.Found.the-variants as F
 use Rattle.webp.specs.Webp.{uint32At, riff, webp, vp8, fourCCAt, markedOf, sizedOf, lossyOf, chunkSize, filledOf, findRefusal, foundRefusal, findOf}
 

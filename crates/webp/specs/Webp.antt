@@ -6,8 +6,8 @@ use mathlib.Core.List.{List, [], _∷_, _++_}
 use lib.Dec.{leb, eqb}
 use lib.ListN.{length, getD, drop, replicate}
 use Rattle.numbers.specs.Lists.{byteAt}
-use Rattle.webp.specs.declared.read.Found.{Found}
-use Rattle.webp.specs.declared.write.WrapAnswer.{WrapAnswer}
+pub use Rattle.webp.specs.declared.read.Found.{Found}
+pub use Rattle.webp.specs.declared.write.WrapAnswer.{WrapAnswer}
 use Rattle.webp.specs.declared.read.Found.the-variants as F
 use Rattle.webp.specs.declared.write.WrapAnswer.the-variants as W
 

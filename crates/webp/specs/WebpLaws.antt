@@ -9,9 +9,8 @@ use native.Mathlib.Nat.{div-div-eq-div-mul, div-add-mod, mod-eq-of-lt}
 use lib.Dec.{leb, eqb}
 use lib.ListN.{length, getD, take, drop, length-append, length-drop, take-append-drop}
 use lib.Seq.{take-append-seam, drop-drop, getD-take, getD-drop, getD-append-add, length-take-le}
-use borrow.Author.Tests.{eqb-true, eq-eqb}
 pub use Rattle.numbers.specs.Lists.{Bytes}
-use Rattle.numbers.specs.Tests.{eq-or, both-left, both-right, both-true}
+use Rattle.numbers.specs.Tests.{eq-or, both-left, both-right, both-true, eqb-true, eq-eqb}
 use Rattle.numbers.specs.Lists.{byteAt, build-listed, built, constant, getD-constant, _∷≡_}
 use Rattle.webp.specs.declared.read.Found.the-variants as F
 use Rattle.webp.specs.Webp.{uint32At, uint32Of, riff, webp, vp8, fourCCAt, padOf, riffSize, fileOf, markedOf, sizedOf, lossyOf, chunkSize, filledOf, foundRefusal, findOf}

@@ -6,11 +6,9 @@ use mathlib.Core.Logic.{_⊎_, inl, inr, ⊎-elim}
 use native.Mathlib.Omega.{arith}
 use lib.ListN.{length, take, drop, replicate, length-append, length-drop, length-replicate, drop-of-length-le}
 use lib.Seq.{take-length, take-all, take-append-seam, drop-append-add, drop-drop}
-use borrow.Author.Tests.{le-leb, lt-leb}
-use Rattle.numbers.specs.Tests.{lt-or}
-use Rattle.webp.specs.declared.write.WrapAnswer.{WrapAnswer}
+use Rattle.numbers.specs.Tests.{lt-or, le-leb, lt-leb}
 use Rattle.webp.specs.declared.write.WrapAnswer.the-variants as W
-use Rattle.webp.specs.Webp.{uint32Of, riff, webp, vp8, padOf, riffSize, mostSize, fileOf, WriteEnded, writtenInto, wrapOf}
+use Rattle.webp.specs.Webp.{WrapAnswer, uint32Of, riff, webp, vp8, padOf, riffSize, mostSize, fileOf, WriteEnded, writtenInto, wrapOf}
 
 -- ---- twenty bytes before a frame of n
 unfoldable pub headOf : ℕ → List ℕ

@@ -5,6 +5,7 @@ use native.Mathlib.Omega.{arith}
 use mathlib.Core.Bool.{Bool}
 use mathlib.Core.List.{List}
 use mathlib.Core.Path.{_≡_, refl, sym, _∙_, ap}
+use Rattle.reader.specs.declared.boolean.Reader.{Reader}
 use Rattle.reader.specs.Boolean.{Given, given, missing, symbolOf}
 use Rattle.reader.specs.Counts.{Costs}
 use Rattle.reader.specs.Counts as counts
@@ -12,7 +13,6 @@ use Rattle.reader.specs.Reading.{Reading, done, ask, _>>=_, run, Within, ends, 
 use Rattle.reader.specs.ReadingLaws.{never-both, run-done, run-missing, run-got}
 use Rattle.reader.specs.Trace.{count}
 use Rattle.reader.specs.TraceLaws.{count-done, count-got}
-use Rattle.reader.specs.declared.boolean.Reader.{Reader}
 use Rattle.wide.specs.Counted.{counted}
 
 -- ---- THE LAW: a run that counts gives what the run gives, and how many symbols it reads

@@ -6,8 +6,7 @@ use mathlib.Core.Bool.{Bool, true, false}
 use mathlib.Core.Logic.{⊎-elim}
 use mathlib.Core.List.{List}
 use lib.ListN.{length, getD}
-use borrow.Author.Tests.{le-leb}
-use Rattle.numbers.specs.Tests.{lt-or, eq-or}
+use Rattle.numbers.specs.Tests.{lt-or, eq-or, le-leb}
 use Rattle.reader.specs.declared.boolean.Reader.{Reader}
 use Rattle.reader.specs.Boolean.{given, splitOf, chosenOf, shifted, loaded, grow, decidedOf, symbolOf}
 use Rattle.reader.specs.BooleanLaws.{grow-stop, grow-shift, grow-load, split-is, decided-fact, symbol-is}

@@ -9,8 +9,8 @@ use lib.Bits.{bitXor}
 use lib.Count.{leadingZeros}
 use Rattle.numbers.specs.Flags.{bitOf}
 use Rattle.reader.specs.declared.boolean.Reader.{Reader}
-use Rattle.wide.specs.declared.wide.Wide.{Wide}
-use Rattle.wide.specs.declared.wide.Bit.{Bit}
+pub use Rattle.wide.specs.declared.wide.Wide.{Wide}
+pub use Rattle.wide.specs.declared.wide.Bit.{Bit}
 
 -- a difference that wraps
 abbrev pub less32 : ℕ → ℕ → ℕ

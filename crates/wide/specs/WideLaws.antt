@@ -11,18 +11,15 @@ use lib.Dec.{ltb, lit<}
 use lib.Pow.{pow-add, pow-pos, shr-shr, shl-shr, high, field, split}
 use lib.Bits.{bitXor, xor-block, xor-lt, xor-self, xor-zero-r}
 use lib.Count.{leadingZeros, leading-le, leading-top, leading-unique}
-use borrow.Author.Tests.{le-leb, lt-leb, le-ltb, lt-ltb, leb-true, ltb-true}
 use Rattle.numbers.specs.Powers.{twice, halved, doubled, mod-scale, cases8}
-use Rattle.numbers.specs.Tests.{lt-or, eq-or}
+use Rattle.numbers.specs.Tests.{lt-or, eq-or, le-leb, lt-leb, le-ltb, lt-ltb, leb-true, ltb-true}
 use Rattle.reader.specs.declared.boolean.Reader.{Reader}
-use Rattle.wide.specs.declared.wide.Wide.{Wide}
-use Rattle.wide.specs.declared.wide.Bit.{Bit}
 use Rattle.reader.specs.Boolean.{splitOf, chosenOf, shifted, loaded, grow, decidedOf}
 use Rattle.reader.specs.BooleanLaws.{Bytes, Valid, grow-stop, grow-shift, grow-load, split-is}
 use Rattle.wide.specs.Padded.{paddedBit, paddedNext}
 use mir.Val.{boolByte}
 use Rattle.numbers.specs.Flags.{bitOf}
-use Rattle.wide.specs.Wide.{fourOf, moreOf, fillOf, lowOf, onOf, rangeOf, takenOff, liftedOf, wideBitOf, doublingsOf, oddOf, doubledOf, upperOf, halfOf, widenOf, eightInside, backOf, shiftsOf, narrowOf, less32, less64}
+use Rattle.wide.specs.Wide.{Wide, Bit, fourOf, moreOf, fillOf, lowOf, onOf, rangeOf, takenOff, liftedOf, wideBitOf, doublingsOf, oddOf, doubledOf, upperOf, halfOf, widenOf, eightInside, backOf, shiftsOf, narrowOf, less32, less64}
 
 -- ---- a number and the n bytes from `at` on behind it
 unfoldable pub ahead : List ℕ → ℕ → ℕ → ℕ → ℕ

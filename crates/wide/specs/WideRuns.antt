@@ -8,15 +8,12 @@ use mathlib.Core.Logic.{⊎-elim}
 use lib.IntN.{ℤ}
 use lib.ListN.{length, getD, drop}
 use lib.Pow.{pow-add, pow-mono}
-use Rattle.reader.specs.declared.boolean.Reader.{Reader}
 use Rattle.reader.specs.declared.trees.Branch.the-variants as B
-use Rattle.wide.specs.declared.wide.Wide.{Wide}
-use Rattle.wide.specs.declared.wide.Bit.{Bit}
+use Rattle.reader.specs.declared.boolean.Reader.{Reader}
 use Rattle.reader.specs.Boolean.{given}
 use Rattle.reader.specs.BooleanLaws.{Bytes, Valid}
 use Rattle.reader.specs.Reading.{Reading, done, ask, _>>=_, run, Within}
-use borrow.Author.Tests.{le-leb, lt-leb}
-use Rattle.numbers.specs.Tests.{lt-or}
+use Rattle.numbers.specs.Tests.{lt-or, le-leb, lt-leb}
 use Rattle.numbers.specs.Flags.{bit-small}
 use Rattle.numbers.specs.Flags as flags
 use Rattle.reader.specs.Counts.{Costs}
@@ -27,7 +24,7 @@ use Rattle.wide.specs.Counted.{counted}
 use Rattle.wide.specs.CountedLaws.{Ran, counted-run, counted-then, counted-next, counted-costs}
 use Rattle.wide.specs.Padded.{paddedBit, paddedNext, runPadded}
 use Rattle.wide.specs.PaddedLaws.{padded-then, padded-inside, fresh-next, fresh-run}
-use Rattle.wide.specs.Wide.{fillOf, wideBitOf, halfOf, widenOf, eightInside, narrowOf}
+use Rattle.wide.specs.Wide.{Wide, Bit, fillOf, wideBitOf, halfOf, widenOf, eightInside, narrowOf}
 use Rattle.wide.specs.WideLaws.{Sim, half-is, sim-widen, sim-fill, sim-bit, sim-inside, sim-narrow}
 
 -- what a reader that w stands for ends with: the grammar's value, and q stands for the reader after it, at most at `lim`

@@ -7,9 +7,9 @@ use std::num::wrapping_add_usize;
 use std::num::wrapping_sub_u32;
 use std::num::wrapping_sub_usize;
 ghost use mathlib.Core.Path.{_≡_};
-ghost use mathlib.Core.Bool.{Bool, true, false};
+ghost use mathlib.Core.Bool.{true, false};
 ghost use Prim.Native.Nat.{_<_, _≤_, _+_, _-_, _*_, _/_, _%_, _^_};
-ghost use lib.ListN.{length, getD};
+ghost use lib.ListN.{getD};
 ghost use Rattle.wide.specs.Wide.{fourOf, fillOf, rangeOf, takenOff, doublingsOf, liftedOf, wideBitOf, oddOf, doubledOf, halfOf};
 ghost use Rattle.wide.specs.Wide.{widenOf, eightInside, backOf, narrowOf};
 

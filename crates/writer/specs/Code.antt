@@ -1,6 +1,6 @@
 -- The number that a list of symbols is coded as, exactly: each symbol narrows an interval, and the code is the last interval's bottom.
-use Prim.Native.Nat.{ℕ, zero, suc, _+_, _-_, _*_, _^_}
-use mathlib.Core.Bool.{Bool, true, false}
+use Prim.Native.Nat.{ℕ, zero, suc, _+_, _*_, _^_}
+use mathlib.Core.Bool.{true, false}
 use mathlib.Core.List.{List, [], _∷_}
 use lib.Dec.{ltb}
 use Rattle.reader.specs.Boolean.{splitOf}

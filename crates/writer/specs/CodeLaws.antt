@@ -8,15 +8,14 @@ use native.Mathlib.Numerals.{add-one}
 use native.Mathlib.Omega.{arith}
 use native.Mathlib.Nat.{mul-one, mul-comm, suc-add, zero-add, pow-succ', mod-eq-of-lt, mul-lt-mul-of-pos-right, mul-le-mul-right, lt-of-mul-lt-mul-right}
 use lib.Pow.{pow-add, pow-pos}
-use lib.Dec.{leb, ltb}
+use lib.Dec.{leb}
 use lib.ListN.{length, getD, drop, drop-of-length-le, List·getD-eq-default}
 use lib.Seq.{drop-cons}
-use borrow.Author.Tests.{le-ltb, lt-ltb, le-leb, lt-leb, eq-eqb}
 use Rattle.numbers.specs.Powers.{twice, doubled, cases8}
-use Rattle.numbers.specs.Tests.{lt-or, eq-or}
+use Rattle.numbers.specs.Tests.{lt-or, eq-or, le-ltb, lt-ltb, le-leb, lt-leb, eq-eqb}
 use Rattle.reader.specs.declared.boolean.Reader.{Reader}
 use Rattle.reader.specs.Boolean.{given, splitOf, chosenOf, shifted, loaded, grow, decidedOf, symbolOf}
-use Rattle.reader.specs.BooleanLaws.{Bytes, Valid, Next, grow-shift, grow-load, grow-stop, split-is, decided-inside, decided-edge, symbol-is, symbol-valid}
+use Rattle.reader.specs.BooleanLaws.{Bytes, Valid, grow-shift, grow-load, grow-stop, split-is, decided-inside, decided-edge, symbol-is, symbol-valid}
 use Rattle.reader.specs.Trace.{CodedSymbol, Answers, none, more}
 use Rattle.reader.specs.TraceLaws.{Each, nil, cons, Byte}
 use Rattle.writer.specs.Encoder.{offsetOf, widthOf}

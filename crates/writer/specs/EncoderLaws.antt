@@ -6,23 +6,21 @@ use mathlib.Core.List.{List, [], _∷_, _++_}
 use mathlib.Core.Bool.{Bool, true, false}
 use mathlib.Core.Logic.{⊎-elim}
 use native.Mathlib.Omega.{arith}
-use native.Mathlib.Nat.{mul-one, mul-assoc, mul-comm, add-mul, pow-succ', suc-add, zero-add, lt-of-mul-lt-mul-right, mul-le-mul-right, mul-lt-mul-of-pos-right}
-use lib.Dec.{ltb, leb, eqb}
+use native.Mathlib.Nat.{mul-one, pow-succ', lt-of-mul-lt-mul-right, mul-lt-mul-of-pos-right}
+use lib.Dec.{leb}
 use lib.Pow.{pow-add, pow-pos, pow-mono}
-use lib.ListN.{length, getD, drop, length-append}
-use borrow.Author.Tests.{le-ltb, lt-ltb, le-leb, lt-leb, eq-eqb, ne-eqb}
+use lib.ListN.{length, length-append}
 use Rattle.numbers.specs.Powers.{twice, doubled}
-use Rattle.numbers.specs.Tests.{lt-or, eq-or}
-use Rattle.numbers.specs.Lists.{∷-keeps}
+use Rattle.numbers.specs.Tests.{lt-or, eq-or, le-ltb, lt-ltb, le-leb, lt-leb, eq-eqb, ne-eqb}
 use Rattle.reader.specs.declared.boolean.Reader.{Reader}
 use Rattle.reader.specs.Boolean.{splitOf, firstReader, given}
 use Rattle.reader.specs.BooleanLaws.{Bytes, Valid, first-valid, split-is}
 use Rattle.reader.specs.Reading.{Reading, run, Within}
-use Rattle.reader.specs.Trace.{CodedSymbol, Answers, trace}
+use Rattle.reader.specs.Trace.{CodedSymbol, trace}
 use Rattle.reader.specs.TraceLaws.{Each, nil, cons, Byte, trace-bytes, recoded}
 use Rattle.writer.specs.Code.{size, number, partWidth, liftsOf, liftedOf, bitsOf, codeOf}
-use Rattle.writer.specs.CodeLaws.{size-pos, number-small, Lifted, lifted, lifted-is, Holds, Decoded, decoded, lifts-more, lifts-none, lifted-more, lifted-none}
-use Rattle.writer.specs.Encoder.{Encoder, offsetOf, widthOf, fresh, addOne, carried, shiftOut, emit, chosen, writeOf, writeAll, fourOf, flushOf, encodeOf}
+use Rattle.writer.specs.CodeLaws.{lifted, lifted-is, Holds, Decoded, decoded, lifts-more, lifts-none}
+use Rattle.writer.specs.Encoder.{Encoder, offsetOf, fresh, addOne, carried, shiftOut, emit, chosen, writeOf, writeAll, fourOf, flushOf, encodeOf}
 use Rattle.writer.specs.NumberLaws.{size-append, number-append, size-pow, size-same, bytes-append, length-add-one, bytes-add-one, number-carry}
 
 -- the exact bottom

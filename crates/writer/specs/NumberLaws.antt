@@ -2,19 +2,15 @@
 use Prim.Native.Nat.{ℕ, zero, suc, _+_, _-_, _*_, _≤_, _<_, _^_}
 use mathlib.Core.Path.{_≡_, refl, sym, _∙_, ap}
 use mathlib.Core.List.{List, [], _∷_, _++_}
-use mathlib.Core.Bool.{Bool, true, false}
 use mathlib.Core.Logic.{⊎-elim}
 use native.Mathlib.Omega.{arith}
 use native.Mathlib.Nat.{pow-succ', mul-assoc}
-use lib.Dec.{eqb}
-use lib.ListN.{length, getD, set, take, drop, length-set, length-drop, length-append}
+use lib.ListN.{length, getD, set, take, drop, length-set, length-drop}
 use lib.Seq.{take-suc, drop-cons, take-set-le, take-length, drop-length}
-use borrow.Author.Tests.{eq-eqb, ne-eqb}
 use Rattle.numbers.specs.Lists.{set-keeps}
-use Rattle.numbers.specs.Tests.{eq-or}
+use Rattle.numbers.specs.Tests.{eq-or, eq-eqb, ne-eqb}
 use Rattle.reader.specs.BooleanLaws.{Bytes}
 use Rattle.writer.specs.Code.{size, number}
-use Rattle.writer.specs.CodeLaws.{size-pos}
 use Rattle.writer.specs.Encoder.{addOne}
 
 -- ---- joined

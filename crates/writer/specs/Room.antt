@@ -6,7 +6,7 @@ use mathlib.Core.List.{List}
 use lib.Dec.{ltb, leb}
 use lib.ListN.{set}
 use Rattle.wide.specs.Wide.{less32, doublingsOf}
-use Rattle.writer.specs.declared.Writer.{Writer}
+pub use Rattle.writer.specs.declared.Writer.{Writer}
 use Rattle.writer.specs.Encoder.{addOne}
 
 -- the writer and its room

@@ -2,22 +2,18 @@
 use Prim.Native.Nat.{ℕ, zero, suc, _+_, _-_, _*_, _/_, _%_, _≤_, _<_, _^_}
 use mathlib.Core.Path.{_≡_, refl, sym, _∙_, ap, subst}
 use mathlib.Core.Bool.{Bool, true, false, _&&_}
-use mathlib.Core.List.{List, [], _∷_, _++_}
+use mathlib.Core.List.{List, _++_}
 use mathlib.Core.Logic.{⊎-elim}
 use native.Mathlib.Nat.{div-add-mod'}
 use native.Mathlib.Omega.{arith}
-use lib.Dec.{leb, eqb, ltb}
-use lib.ListN.{length, getD, set, take, drop, length-set, length-append, List·getD-eq-default, List·getD-append}
-use lib.Pow.{pow-mono}
-use lib.Seq.{set-out, set-at, set-append-left, append-snoc, drop-cons, drop-drop, sets, sets-eq}
-use borrow.Author.Tests.{eq-eqb, ne-eqb, lt-ltb, le-ltb, le-leb, lt-leb, leb-true, ltb-true}
-use Rattle.numbers.specs.Powers.{twice}
-use Rattle.numbers.specs.Tests.{eq-or, lt-or, both-left, both-right, both-true}
+use lib.Dec.{leb, ltb}
+use lib.ListN.{length, getD, set, length-set, List·getD-eq-default, List·getD-append}
+use lib.Seq.{set-out, set-append-left}
+use Rattle.numbers.specs.Tests.{eq-or, both-left, both-right, both-true, eq-eqb, ne-eqb, lt-ltb, le-leb, lt-leb, leb-true, ltb-true}
 use Rattle.wide.specs.Wide.{less32, doublingsOf}
-use Rattle.writer.specs.declared.Writer.{Writer}
 use Rattle.writer.specs.Encoder.{addOne, carried}
 use Rattle.writer.specs.NumberLaws.{length-add-one}
-use Rattle.writer.specs.Room.{Written, writtenOf, carriedIn, byteIn, splitIn, widthIn, raisedIn, loudIn, shiftedIn, writeIn, fourIn, flushIn, writerFine, FlushEnd, endedOf, flushAnswer}
+use Rattle.writer.specs.Room.{Writer, Written, writtenOf, carriedIn, byteIn, splitIn, widthIn, raisedIn, loudIn, shiftedIn, writeIn, fourIn, flushIn, writerFine, endedOf, flushAnswer}
 
 -- ---- one turn of the carry
 pub add-one-none : (l : List ℕ) → addOne 0 l ≡ l

@@ -1,12 +1,11 @@
 -- The definition computed: bytes of a small list, as the RFC's C program writes them; and a carry through two bytes of 255.
 use mathlib.Core.Path.{_≡_, refl}
-use mathlib.Core.List.{List, [], _∷_}
+use mathlib.Core.List.{[], _∷_}
 use mathlib.Core.Bool.{Bool, true, false}
 use Prim.Native.Nat.{ℕ}
 use Rattle.reader.specs.Boolean.{splitOf}
 use Rattle.reader.specs.Trace.{CodedSymbol}
-use Rattle.writer.specs.Code.{size}
-use Rattle.writer.specs.Encoder.{Encoder, addOne, carried, shiftOut, emit, writeOf, writeAll, flushOf, encodeOf}
+use Rattle.writer.specs.Encoder.{addOne, carried, shiftOut, emit, writeOf, writeAll, flushOf, encodeOf}
 
 abbrev c : ℕ → Bool → CodedSymbol
 c p b = record { prob = p; bit = b }

@@ -2,15 +2,14 @@
 use Prim.Native.Nat.{ℕ, zero, suc, _+_, _-_, _*_, _/_, _%_, _≤_, _<_, _^_}
 use mathlib.Core.Path.{_≡_, refl, sym, _∙_, ap}
 use mathlib.Core.Bool.{Bool, true, false}
-use mathlib.Core.List.{List, [], _∷_, _++_}
+use mathlib.Core.List.{[], _∷_, _++_}
 use mathlib.Core.Logic.{⊎-elim}
 use native.Mathlib.Nat.{mul-one, mul-le-mul, mul-div-mul-right, div-add-mod'}
 use native.Mathlib.Omega.{arith}
-use lib.Dec.{leb, eqb, ltb}
+use lib.Dec.{leb}
 use lib.Pow.{pow-mono}
-use borrow.Author.Tests.{eq-eqb, ne-eqb, lt-ltb, le-ltb, lt-leb}
 use Rattle.numbers.specs.Powers.{twice, doubled, doubled-less, halved}
-use Rattle.numbers.specs.Tests.{eq-or, lt-or}
+use Rattle.numbers.specs.Tests.{eq-or, lt-or, eq-eqb, ne-eqb, lt-ltb, le-ltb, lt-leb}
 use Rattle.reader.specs.Boolean.{splitOf}
 use Rattle.wide.specs.Wide.{less32, doublingsOf}
 use Rattle.wide.specs.WideLaws.{lifts}

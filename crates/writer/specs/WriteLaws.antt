@@ -1,21 +1,19 @@
 -- Lists of symbols written: one list after another, and that what is written only grows, by a byte a symbol at most.
 use Prim.Native.Nat.{ℕ, zero, suc, _+_, _-_, _*_, _≤_, _<_}
-use mathlib.Core.Path.{_≡_, refl, sym, _∙_, ap}
-use mathlib.Core.Bool.{Bool, true, false}
+use mathlib.Core.Path.{_≡_, refl, _∙_, ap}
 use mathlib.Core.List.{List, [], _∷_, _++_}
 use mathlib.Core.Logic.{⊎-elim}
 use native.Mathlib.Omega.{arith}
-use lib.Dec.{leb, eqb, ltb}
+use lib.Dec.{leb}
 use lib.ListN.{length, length-append}
-use borrow.Author.Tests.{eq-eqb, ne-eqb, lt-ltb, le-ltb}
-use Rattle.numbers.specs.Tests.{eq-or, lt-or}
+use Rattle.numbers.specs.Tests.{eq-or, lt-or, eq-eqb, ne-eqb, lt-ltb, le-ltb}
 use Rattle.reader.specs.Boolean.{splitOf}
 use Rattle.reader.specs.Trace.{CodedSymbol}
 use Rattle.reader.specs.TraceLaws.{Each, Byte}
-use Rattle.writer.specs.Encoder.{Encoder, fresh, carried, shiftOut, emit, chosen, writeOf, writeAll, flushOf, encodeOf}
+use Rattle.writer.specs.Encoder.{Encoder, fresh, carried, shiftOut, emit, chosen, writeOf, writeAll, encodeOf}
 use Rattle.writer.specs.Code.{partWidth, liftsOf, liftedOf, bitsOf}
 use Rattle.writer.specs.CodeLaws.{lifts-more, lifts-none}
-use Rattle.writer.specs.EncoderLaws.{Ready, fresh-ready, wrote, flushed}
+use Rattle.writer.specs.EncoderLaws.{fresh-ready, wrote, flushed}
 use Rattle.writer.specs.RoomLaws.{length-carries}
 
 pub write-append : (e : Encoder) (xs ys : List CodedSymbol) → writeAll e (xs ++ ys) ≡ writeAll (writeAll e xs) ys

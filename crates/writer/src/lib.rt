@@ -4,7 +4,7 @@ use std::num::wrapping_add_u32;
 use std::num::wrapping_add_usize;
 use std::num::wrapping_sub_u32;
 ghost use mathlib.Core.Path.{_≡_};
-ghost use Prim.Native.Nat.{ℕ, _<_, _≤_, _+_, _*_, _%_, _-_, _^_};
+ghost use Prim.Native.Nat.{_<_, _≤_, _+_, _*_, _%_, _-_, _^_};
 ghost use lib.ListN.{length, set};
 ghost use Rattle.wide.specs.Wide.{doublingsOf};
 ghost use Rattle.writer.specs.Encoder.{addOne};

@@ -2,8 +2,7 @@
 use mathlib.Core.Path.{ap, _∙_}
 use borrow.Author.Needs.{needs}
 use denote.Ref.{now}
-use Rattle.filter.specs.declared.answers.Rule.{Rule}
-use Rattle.filter.specs.Kernel.{samplesAcross, stepsOf, movedOf, filterOf}
+use Rattle.filter.specs.Kernel.{Rule, samplesAcross, stepsOf, movedOf, filterOf}
 use Rattle.filter.proofs.filter.Statement.{statement}
 use Rattle.filter.proofs.filter.Tie as tie
 

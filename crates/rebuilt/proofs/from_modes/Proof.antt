@@ -1,4 +1,4 @@
-use mathlib.Core.Path.{_≡_, refl, sym, _∙_, ap}
+use mathlib.Core.Path.{_≡_, refl, _∙_, ap}
 use Rattle.reader.specs.Boolean.{given}
 use Rattle.reader.specs.Reading.{run}
 use Rattle.modes.specs.declared.answers.Stage.{Stage}

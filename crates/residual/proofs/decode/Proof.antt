@@ -3,10 +3,9 @@ use lib.ListN.{length}
 use mathlib.Core.Bool.{Bool, _&&_}
 use mathlib.Core.Path.{_≡_}
 use borrow.Author.Needs.{needs}
-use borrow.Author.Tests.{not-true, not-false}
 use borrow.Kind.Array.{eInt, good-length}
 use mir.Syntax.{w8}
-use Rattle.numbers.specs.Tests.{both-left, both-right}
+use Rattle.numbers.specs.Tests.{both-left, both-right, not-true, not-false}
 use Rattle.reader.specs.Boolean.{validOf}
 use Rattle.reader.specs.BooleanLaws.{valid-fact}
 use Rattle.coefficients.specs.BlockSteps.{tests-two}

@@ -7,7 +7,6 @@ use Prim.Native.Nat.{ℕ, _+_, _-_, _^_, _<_, _≤_}
 use native.Mathlib.Decide.{ℕ-discrete}
 use native.Mathlib.Numerals.{add-one}
 use native.Mathlib.Omega.{arith}
-use borrow.Author.Tests.{eqb-true}
 use lib.Dec.{eqb, lit<}
 use lib.IntN.{ℤ, pos, negsuc}
 use lib.Signed.{leZ, mag}
@@ -15,7 +14,7 @@ use mir.Syntax.{w32}
 use mir.Val.{ofZ}
 use Rattle.numbers.specs.Hand.{back, same-bits}
 use Rattle.numbers.specs.Tables.{allBelow}
-use Rattle.numbers.specs.Tests.{both-left, both-right}
+use Rattle.numbers.specs.Tests.{both-left, both-right, eqb-true}
 use Rattle.transform.specs.Transform.{at, fits16, blockFits}
 use Rattle.transform.specs.Pieces.{PlainTo}
 use Rattle.transform.proofs.look.Statement.{statement}

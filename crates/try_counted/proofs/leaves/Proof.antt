@@ -1,6 +1,6 @@
 use borrow.Author.Needs.{needs}
-use Prim.Native.Nat.{_-_, _≤_, _+_}
-use mathlib.Core.Path.{_≡_, refl, sym, _∙_}
+use Prim.Native.Nat.{_-_, _≤_}
+use mathlib.Core.Path.{refl, sym, _∙_}
 use mathlib.Core.List.{[], _∷_}
 use lib.Dec.{ltb}
 use native.Mathlib.Omega.{arith}
@@ -8,7 +8,6 @@ use borrow.Author.Tests.{ltb-true}
 use Rattle.numbers.specs.Tables.{all-of-any}
 use Rattle.reader.specs.BooleanLaws.{Bytes, Valid}
 use Rattle.try_counted.specs.Segment.{leaf-valid}
-use lib.ListN.{length}
 use Rattle.try_counted.proofs.leaves.Statement.{statement}
 use Rattle.try_counted.proofs.leaves.Tie as tie
 use Rattle.try_counted.proofs.leaves.Reads as reads

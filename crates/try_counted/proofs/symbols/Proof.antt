@@ -1,7 +1,5 @@
 use borrow.Author.Needs.{needs}
-use Prim.Native.Nat.{_-_, _≤_, _+_}
-use mathlib.Core.Path.{_≡_}
-use lib.ListN.{length}
+use Prim.Native.Nat.{_-_, _≤_}
 use Rattle.try_counted.proofs.symbols.Statement.{statement}
 use Rattle.try_counted.proofs.symbols.Tie as tie
 use Rattle.try_counted.proofs.symbols.Reads as reads

@@ -1,6 +1,5 @@
 use lib.IntN.{pos}
 use lib.ListN.{replicate}
-use Prim.Native.Nat.{ℕ}
 use mathlib.Core.Path.{_≡_, refl, sym, _∙_, ap}
 use Rattle.reader.specs.Boolean.{given}
 use Rattle.reader.specs.BooleanLaws.{Bytes}
@@ -9,7 +8,7 @@ use Rattle.header.specs.declared.quantizers.Factors.{Factors}
 use Rattle.modes.specs.Answers.{macroblockOf}
 use Rattle.transform.specs.Lanes.{macroblockBlocks}
 use Rattle.residual.specs.Residual.{residualOf}
-use Rattle.residual.specs.ResidualLaws.{fromResidual, fromEnded, decoded, decode-ends, decode-long}
+use Rattle.residual.specs.ResidualLaws.{fromResidual, fromEnded, decoded, decode-ends}
 use Rattle.header.specs.Frame.{factorsAt}
 use Rattle.reader.specs.Trace.{count}
 use Rattle.residual.specs.ResidualLaws as ResidualLaws

@@ -1,4 +1,3 @@
-use mathlib.Core.Path.{_∙_}
 use borrow.Author.Needs.{needs}
 use Rattle.writer.proofs.raised.Statement.{statement}
 use Rattle.writer.proofs.raised.Tie as tie

@@ -1,6 +1,5 @@
 use borrow.Author.Needs.{needs}
 use mathlib.Core.List.{[], _∷_}
-use lib.Dec.{lit<}
 use Rattle.boundary.proofs.tile_numbers.eight_spans.Statement.{statement}
 use Rattle.boundary.proofs.tile_numbers.eight_spans.Tie as tie
 

@@ -2,8 +2,7 @@
 use mathlib.Core.Bool.{Bool, _&&_}
 use mathlib.Core.Path.{_≡_}
 use borrow.Author.Needs.{needs}
-use borrow.Author.Tests.{not-true, not-false}
-use Rattle.numbers.specs.Tests.{both-left, both-right}
+use Rattle.numbers.specs.Tests.{both-left, both-right, not-true, not-false}
 use Rattle.reader.specs.Boolean.{validOf}
 use Rattle.reader.specs.BooleanLaws.{valid-fact}
 use Rattle.coefficients.specs.Block.{blockArguments, sixteenBits}

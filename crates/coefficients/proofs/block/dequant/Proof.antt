@@ -1,8 +1,7 @@
 -- `dequant` meets its contract: what passes the test is what the inner call asks.
 use mathlib.Core.Path.{_∙_}
 use borrow.Author.Needs.{needs}
-use borrow.Author.Tests.{not-true, not-false}
-use Rattle.numbers.specs.Tests.{both-left, both-right}
+use Rattle.numbers.specs.Tests.{both-left, both-right, not-true, not-false}
 use Rattle.reader.specs.Boolean.{validOf}
 use Rattle.reader.specs.BooleanLaws.{valid-fact}
 use Rattle.coefficients.specs.BlockSteps.{tests-two, signed-refused, signed-good, numeric-fact}

@@ -1,7 +1,6 @@
 -- `vertical` meets its contract: one plane of sixteen positions, or two of eight.
 use Prim.Native.Nat.{ℕ, _+_, _-_, _*_}
 use mathlib.Core.Path.{sym, _∙_, ap}
-use native.Mathlib.Omega.{arith}
 use borrow.Author.Needs.{needs}
 use Rattle.deblock.specs.Located.{upright-room, same-room, beside-eight}
 use Rattle.deblock.specs.Deblock.{sweepOf, verticalEdges}

@@ -1,5 +1,4 @@
 -- `level` meets its contract: eight rows of sixteen in and, where anything moved, out.
-use mathlib.Core.Path.{_∙_}
 use native.Mathlib.Omega.{arith}
 use borrow.Author.Needs.{needs}
 use Rattle.deblock.specs.BlockLaws.{Part, row-room, swept-long, level-one, level-end, part-still}

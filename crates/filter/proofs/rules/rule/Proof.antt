@@ -4,9 +4,7 @@ use mathlib.Core.Bool.{true, cond}
 use borrow.Author.Needs.{needs}
 use borrow.Author.Tests.{not-true, not-false}
 use denote.Ref.{now}
-use Rattle.filter.specs.declared.answers.Rule.{Rule}
-use Rattle.filter.specs.declared.answers.Rule.the-variants.{Rough, HighVariance, MacroblockEdge, InnerEdge}
-use Rattle.filter.specs.Kernel.{samplesAcross, withinLimit, ruleOf}
+use Rattle.filter.specs.Kernel.{Rule, Rough, HighVariance, MacroblockEdge, InnerEdge, samplesAcross, withinLimit, ruleOf}
 use Rattle.filter.specs.KernelLaws.{rule-edge-failed, rule-simple, rule-rough, rule-smooth}
 use Rattle.filter.proofs.rules.rule.Statement.{statement}
 use Rattle.filter.proofs.rules.rule.Tie as tie

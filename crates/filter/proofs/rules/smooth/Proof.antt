@@ -1,7 +1,5 @@
 -- `smooth` meets its contract.
-use mathlib.Core.Path.{ap}
 use borrow.Author.Needs.{needs}
-use lib.Dec.{leb}
 use Rattle.filter.specs.Kernel as kernel
 use Rattle.filter.proofs.rules.smooth.Statement.{statement}
 use Rattle.filter.proofs.rules.smooth.Tie as tie

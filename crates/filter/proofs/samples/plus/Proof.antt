@@ -1,10 +1,10 @@
 -- `plus` meets its contract: the sum fits, and what is clamped lies in 0..255, so the cast keeps it.
-use mathlib.Core.Path.{_≡_, ap, _∙_}
+use mathlib.Core.Path.{ap, _∙_}
 use mathlib.Core.List.{List, [], _∷_}
 use borrow.Author.Needs.{needs}
 use native.Mathlib.Omega.{arith}
 use mir.Syntax.{w16}
-use lib.IntN.{ℤ, pos, natAbs, _+ℤ_}
+use lib.IntN.{pos, natAbs}
 use Rattle.numbers.specs.Parts.{of-le}
 use Rattle.numbers.specs.Eval.{Var, v, _⊕_, fits, is}
 use Rattle.numbers.specs.Hand.{known, there, unsigned, unsigned-asks, answered}

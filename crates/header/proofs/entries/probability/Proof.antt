@@ -1,5 +1,5 @@
 use borrow.Author.Tests.{le-ltb}
-use Prim.Native.Nat.{ℕ, suc, _+_, _-_, _%_, _≤_, _<_}
+use Prim.Native.Nat.{suc, _+_, _-_, _<_}
 use mathlib.Core.Path.{_≡_, ap, _∙_}
 use mathlib.Core.List.{List, [], _∷_}
 use native.Mathlib.Omega.{arith}
@@ -7,7 +7,7 @@ use lib.IntN.{ℤ, pos, negsuc, natAbs, _+ℤ_}
 use lib.Signed.{remZ}
 use mir.Syntax.{w32, w64}
 use mir.Val.{SFits}
-use Rattle.numbers.specs.Know.{Know, fit, rounded}
+use Rattle.numbers.specs.Know.{fit, rounded}
 use Rattle.numbers.specs.Eval.{E, Var, v, lit, _⊕_, rem, fits, know}
 use Rattle.numbers.specs.Hand.{known, any, unsigned-asks}
 use Rattle.header.specs.Header.{probabilityOf}

@@ -1,8 +1,5 @@
-use Prim.Native.Nat.{ℕ, _+_}
-use mathlib.Core.Path.{_≡_, _∙_, sym, ap}
+use mathlib.Core.Path.{_∙_, sym}
 use mathlib.Core.List.{List, [], _∷_}
-use lib.ListN.{getD}
-use lib.IntN.{ℤ, pos, negsuc}
 use mir.Syntax.{w32}
 use borrow.Author.Tests.{not-true, not-false}
 use Rattle.numbers.specs.Eval.{Var, v, _⊕_, fits, is}

@@ -1,6 +1,3 @@
-use mathlib.Core.Path.{_≡_}
-use Rattle.macroblock.specs.declared.ending.Outcome.{Outcome}
-use Rattle.macroblock.specs.Macroblock.{Planes}
 use borrow.Author.Needs.{needs}
 use Rattle.macroblock.proofs.ending.complete.Statement.{statement}
 use Rattle.macroblock.proofs.ending.complete.Tie as tie

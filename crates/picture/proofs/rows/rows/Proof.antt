@@ -1,12 +1,11 @@
 use borrow.Author.Needs.{needs}
 use native.Mathlib.Omega.{arith}
 use native.Mathlib.Nat.{mul-le-mul, mul-le-mul-right, mul-comm}
-use Prim.Native.Nat.{ℕ, _-_, _*_, _+_, _/_, _<_, _≤_}
+use Prim.Native.Nat.{ℕ, _-_, _*_, _/_, _<_, _≤_}
 use mathlib.Core.Path.{_≡_, refl, sym, _∙_, ap}
 use Rattle.reader.specs.BooleanLaws.{Bytes}
 use Rattle.tile.specs.Partitions.{spanAt, pickOf}
 use Rattle.tile.specs.PartitionsLaws.{part-bytes, pick-below}
-use Rattle.tile.specs.Checks.{blocksOf}
 use Rattle.macroblock.specs.Macroblock.{Finished, finished}
 use Rattle.lent.specs.Memory.{Memory, memoryOf}
 use Rattle.lent.specs.Records.{packed}

@@ -5,7 +5,6 @@ use mathlib.Core.Logic.{⊎-elim}
 use lib.Count.{leadingZeros, leading-top}
 use lib.Pow.{pow-mono, pow-add, pow-pos}
 use native.Mathlib.Nat.{mul-le-mul-right, mul-lt-mul-of-pos-right}
-use lib.Dec.{lit<}
 use Rattle.numbers.specs.Tests.{lt-or}
 use Rattle.reader.proofs.boolean.doublings.Statement.{statement}
 use Rattle.reader.proofs.boolean.doublings.Tie as tie

@@ -1,5 +1,5 @@
 use Prim.Native.Nat.{_+_, _-_, _*_, _%_, _^_}
-use mathlib.Core.Path.{_≡_, sym, _∙_, ap}
+use mathlib.Core.Path.{sym, _∙_, ap}
 use mathlib.Core.Logic.{⊎-elim}
 use native.Mathlib.Omega.{arith}
 use Rattle.reader.specs.declared.boolean.Symbol.the-variants as S

@@ -8,8 +8,7 @@ use lib.Arith.{mod-mul}
 use lib.Count.{trailingZeros}
 use lib.Dec.{leb, eqb, lit<}
 use lib.Pow.{pow-pos}
-use borrow.Author.Tests.{le-leb, lt-leb, eq-eqb, ne-eqb}
-use Rattle.numbers.specs.Tests.{lt-or, eq-or}
+use Rattle.numbers.specs.Tests.{lt-or, eq-or, le-leb, lt-leb, eq-eqb, ne-eqb}
 use Rattle.reader.proofs.boolean.whole.Statement.{statement}
 use Rattle.reader.proofs.boolean.whole.Tie as tie
 

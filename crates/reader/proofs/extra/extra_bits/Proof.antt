@@ -1,8 +1,7 @@
 -- `extra_bits` meets its contract: the tests are the definition's, and behind them the bits are read.
 use mathlib.Core.Path.{sym, _∙_}
-use borrow.Author.Tests.{not-true, not-false, leb-true}
 use borrow.Author.Needs.{needs}
-use Rattle.numbers.specs.Tests.{both-left, both-right}
+use Rattle.numbers.specs.Tests.{both-left, both-right, not-true, not-false, leb-true}
 use Rattle.reader.specs.BooleanLaws.{valid-fact}
 use Rattle.reader.specs.CountsLaws.{extra-refused, extra-made}
 use Rattle.reader.proofs.extra.extra_bits.Statement.{statement}

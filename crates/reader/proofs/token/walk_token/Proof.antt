@@ -4,9 +4,8 @@ use native.Mathlib.Omega.{arith}
 use lib.ListN.{length}
 use mathlib.Core.Bool.{false}
 use mathlib.Core.Path.{_≡_, refl, sym, _∙_, ap}
-use borrow.Author.Tests.{not-true, not-false, leb-true}
 use borrow.Author.Needs.{needs}
-use Rattle.numbers.specs.Tests.{both-left, both-right}
+use Rattle.numbers.specs.Tests.{both-left, both-right, not-true, not-false, leb-true}
 use Rattle.reader.specs.BooleanLaws.{Valid, valid-fact}
 use Rattle.reader.specs.Reading.{run}
 use Rattle.reader.specs.ReadingLaws.{run-valid}

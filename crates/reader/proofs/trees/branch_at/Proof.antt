@@ -1,18 +1,17 @@
 use mir.Facts.{toZ-ofZ}
-use mir.Val.{Fits, SFits, toZ, ofZ}
-use mir.Syntax.{w8, w16, w32, w64}
-use lib.IntN.{ℤ, pos, negsuc, natAbs, _-ℤ_, negℤ}
-use lib.Signed.{mag, ltZ, nonNeg}
+use mir.Val.{Fits, SFits}
+use mir.Syntax.{w16, w32, w64}
+use lib.IntN.{ℤ, pos, negsuc, natAbs, _-ℤ_}
+use lib.Signed.{ltZ, nonNeg}
 use lib.ListN.{getD}
-use lib.Dec.{T, ltb}
+use lib.Dec.{T}
 use borrow.Author.Needs.{sfits-of}
-use mathlib.Core.Bool.{Bool, true, false}
-use mathlib.Core.Path.{_≡_, refl, sym, _∙_, ap}
-use Prim.Native.Nat.{ℕ, zero, suc, _<_, _^_}
+use mathlib.Core.Bool.{true, false}
+use mathlib.Core.Path.{_≡_, refl, ap}
+use Prim.Native.Nat.{ℕ, zero, suc}
 use native.Mathlib.Omega.{arith}
 use borrow.Author.Tests.{ltb-false}
 use native.Mathlib.Nat.{zero-add}
-use Rattle.reader.specs.declared.trees.Branch.{Branch}
 use Rattle.reader.specs.declared.trees.Branch.the-variants as B
 use Rattle.reader.specs.Trees.{branchOf}
 use borrow.Author.Needs.{needs}

@@ -1,6 +1,4 @@
 use mathlib.Core.Path.{sym, _∙_, ap}
-use lib.ListN.{length}
-use native.Mathlib.Omega.{arith}
 use Rattle.reader.specs.ReadingLaws.{answered, fromSymbol}
 use Rattle.reader.specs.TreesLaws.{down-missing, down-got, at-inside}
 use Rattle.reader.proofs.Answers.{not-got}

@@ -1,9 +1,8 @@
 -- `walk_tree` meets its contract: the tests are the definition's, and behind them the walk asks nothing more.
 use mathlib.Core.Bool.{true}
 use mathlib.Core.Path.{_≡_, sym, _∙_}
-use borrow.Author.Tests.{not-true, not-false}
 use borrow.Author.Needs.{needs}
-use Rattle.numbers.specs.Tests.{both-left, both-right}
+use Rattle.numbers.specs.Tests.{both-left, both-right, not-true, not-false}
 use Rattle.reader.specs.BooleanLaws.{valid-fact}
 use Rattle.reader.specs.Trees.{treeOf}
 use Rattle.reader.specs.TreesLaws.{tree-fact, tree-start}

@@ -1,16 +1,14 @@
 use borrow.Author.Needs.{needs}
 use native.Mathlib.Omega.{arith}
 use native.Mathlib.Nat.{mul-le-mul}
-use Prim.Native.Nat.{ℕ, _-_, _*_, _/_, _<_, _≤_}
-use mathlib.Core.Path.{_≡_, refl, sym, _∙_, ap}
+use Prim.Native.Nat.{_-_, _*_, _/_, _<_, _≤_}
+use mathlib.Core.Path.{_≡_, sym, _∙_, ap}
 use Rattle.reader.specs.BooleanLaws.{Bytes}
-use Rattle.header.specs.declared.frame.Frame.{Frame}
 use Rattle.header.specs.declared.frame.Framed.{Framed}
 use Rattle.header.specs.FrameLaws.{frame-good}
-use Rattle.tile.specs.Partitions.{pickOf}
 use Rattle.tile.specs.PartitionsLaws.{part-bytes, pick-below}
 use Rattle.tile.specs.Checks.{blocksOf}
-use Rattle.lent.specs.Memory.{Memory, memoryOf}
+use Rattle.lent.specs.Memory.{memoryOf}
 use Rattle.lent.specs.Records.{packed}
 use Rattle.choices.specs.Checks.{callOf}
 use Rattle.picture.specs.Picture.{Picture, State, picturedOf, columnOf, partitionOf}

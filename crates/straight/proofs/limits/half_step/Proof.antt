@@ -1,5 +1,4 @@
 -- `half_step` meets its contract.
-use Prim.Native.Nat.{_+_, _/_, min}
 use native.Mathlib.Omega.{arith}
 use borrow.Author.Needs.{needs}
 use Rattle.straight.specs.Straight.{halfStep}

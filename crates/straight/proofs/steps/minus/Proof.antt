@@ -5,7 +5,7 @@ use borrow.Author.Needs.{needs}
 use mir.Syntax.{w8, w16}
 use lib.IntN.{ℤ}
 use Rattle.numbers.specs.Know.{fit, rounded}
-use Rattle.numbers.specs.Eval.{E, Var, v, _⊖_, fits, is}
+use Rattle.numbers.specs.Eval.{Var, v, _⊖_, fits, is}
 use Rattle.numbers.specs.Hand.{known, any, answered}
 use Rattle.numbers.specs.Clamp.{signedByteZ}
 use Rattle.numbers.specs.ClampLaws.{signed-in}

@@ -3,8 +3,8 @@ use mathlib.Core.Path.{ap, ap₂, _∙_}
 use borrow.Author.Needs.{needs}
 use mir.Syntax.{w8}
 use denote.Ref.{now}
-use lib.IntN.{ℤ, pos, _+ℤ_, _-ℤ_}
-use Rattle.numbers.specs.Know.{Know, round, inside}
+use lib.IntN.{ℤ, _+ℤ_, _-ℤ_}
+use Rattle.numbers.specs.Know.{inside}
 use Rattle.numbers.specs.Hand.{any, called, answered}
 use Rattle.numbers.specs.Clamp.{signedByteZ}
 use Rattle.numbers.specs.ClampLaws.{signed-in}

@@ -2,7 +2,7 @@
 use mathlib.Core.Path.{ap, ap₂, _∙_}
 use borrow.Author.Needs.{needs}
 use mir.Syntax.{w8}
-use lib.IntN.{ℤ, pos, negℤ, _+ℤ_, _-ℤ_}
+use lib.IntN.{ℤ, pos, _+ℤ_}
 use Rattle.numbers.specs.Hand.{any, called, answered}
 use Rattle.numbers.specs.Clamp.{signedByteZ}
 use Rattle.numbers.specs.ClampLaws.{signed-in}

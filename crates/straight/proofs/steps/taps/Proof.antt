@@ -3,7 +3,7 @@ use mathlib.Core.Path.{ap, ap₂, _∙_}
 use borrow.Author.Needs.{needs}
 use mir.Syntax.{w8}
 use denote.Ref.{now}
-use lib.IntN.{ℤ, pos, _-ℤ_}
+use lib.IntN.{ℤ, _-ℤ_}
 use Rattle.numbers.specs.Hand.{called, answered}
 use Rattle.numbers.specs.Clamp.{signedByteZ}
 use Rattle.numbers.specs.ClampLaws.{signed-in}

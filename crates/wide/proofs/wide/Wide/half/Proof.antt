@@ -1,7 +1,7 @@
 use lib.Dec.{ltb}
 use mathlib.Core.Path.{refl, ap}
 use native.Mathlib.Omega.{arith}
-use Prim.Native.Nat.{ℕ, _-_, _/_}
+use Prim.Native.Nat.{ℕ, _-_}
 use Rattle.wide.specs.WideLaws.{half-from, taken-fits, taken-small}
 use borrow.Author.Needs.{needs}
 use Rattle.wide.proofs.wide.Wide.half.Statement.{statement}
