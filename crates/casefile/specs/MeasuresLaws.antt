@@ -5,7 +5,6 @@ use mathlib.Core.List.{List}
 use native.Mathlib.Omega.{arith}
 use native.Mathlib.Numerals.{add-one}
 use native.Mathlib.Nat.{mod-lt, mod-eq-of-lt, div-add-mod', mul-add-mod-self-left}
-use lib.Bits.{bitXor, xor-lt}
 use lib.Dec.{lit<}
 use lib.ListN.{length, getD}
 use Rattle.casefile.specs.Measures.{sumTo, sumOf, fnvStep, fnvTo, fnvOf}
@@ -52,7 +51,3 @@ in-halves x =
     let b : low * 435 % 4294967296 < 4294967296 = mod-lt (low * 435) (lit< tt) in
     let e = halves x high low (low * 435 / 4294967296) (low * 435 % 4294967296) (t / 4294967296) (t % 4294967296) (sym (div-add-mod' x 4294967296)) (sym (div-add-mod' (low * 435) 4294967296)) (sym (div-add-mod' t 4294967296)) in
     sym (ap (λ (n : ℕ). n % 18446744073709551616) e ∙ mul-add-mod-self-left 18446744073709551616 (t / 4294967296 + 256 * high) (t % 4294967296 * 4294967296 + low * 435 % 4294967296) ∙ mod-eq-of-lt (omega (arith, a, b)))
-
--- a 64-bit number with a byte in its low bits is one again
-pub xor-small : (h byte : ℕ) → h < 18446744073709551616 → byte < 256 → bitXor h byte < 18446744073709551616
-xor-small h byte p q = xor-lt 64 h byte p (omega arith)

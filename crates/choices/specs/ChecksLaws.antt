@@ -1,6 +1,6 @@
 -- What an answer of the checks says: 0, every fact that the decoder rests on; k, that check k failed and none before it.
 use Prim.Native.Nat.{ℕ, zero, suc, _+_, _≤_, _<_}
-use mathlib.Core.Path.{_≡_, refl, sym, ap}
+use mathlib.Core.Path.{_≡_, refl, sym}
 use mathlib.Core.Bool.{Bool, true, false, _&&_}
 use mathlib.Core.List.{List, [], _∷_}
 use mathlib.Core.Logic.{_⊎_, inl, inr, ⊎-elim}
@@ -18,11 +18,10 @@ use Rattle.reader.specs.BooleanLaws.{Bytes, Valid}
 use Rattle.header.specs.Entries.{entryCount}
 use Rattle.header.specs.Header.{entry, outside, fineTo, entriesOf, headerOf}
 use Rattle.header.specs.HeaderLaws.{entries-each, fine-none, fine-next, entries-all, header-fine}
-use Rattle.lent.specs.Memory.{Memory, sizesOf, blankOf}
 use Rattle.lent.specs.Records.{packed, old}
 use Rattle.lent.specs.declared.sizes.Sizes.{Sizes}
 use Rattle.lent.specs.Sizes.{sizesFine}
-use Rattle.lent.specs.SizesLaws.{sizes-fact, sizes-test, blank-sizes}
+use Rattle.lent.specs.SizesLaws.{sizes-fact, sizes-test}
 use Rattle.tile.specs.Partitions.{tokenContents, readersOf}
 use Rattle.tile.specs.PartitionsLaws.{readers-valid}
 use Rattle.tile.specs.Checks.{sidesOf, countOf, partitionsOf, Sides, Counted, Cut}
@@ -201,10 +200,6 @@ module _ (t : Call) (z : Sizes) where
   refused-partitions e =
       let f = fails 4 e in
       (sides-fact _ _ (f .before 0 (lit< tt)), count-fact _ (f .before 1 (lit< tt)), entries-each _ (f .before 2 (lit< tt)), lengths-fact _ _ (f .before 3 (lit< tt)), λ s. never (partitions-test _ _ s) (f .there))
-
--- refusals are decided before anything is filled: filling would not change them
-pub refused-first : (t : Call) (m : Memory) → refusalOf t (sizesOf (blankOf m)) ≡ refusalOf t (sizesOf m)
-refused-first t m = ap (refusalOf t) (blank-sizes m)
 
 -- ---- the two forms of column memory: where check 4 says the same, all checks do
 pub refusal-forms : (c : Call) (z s : Sizes) → sizesFine packed (c .tile .width) (c .tile .height) z ≡ sizesFine old (c .tile .width) (c .tile .height) s → refusalOf (callIn packed c) z ≡ refusalOf (callIn old c) s

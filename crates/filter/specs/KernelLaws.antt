@@ -21,8 +21,8 @@ use Rattle.numbers.specs.Hand.{known}
 use Rattle.numbers.specs.Bounds.{each-[], each-∷}
 use Rattle.numbers.specs.Clamp.{signedByteZ, clipZ}
 use Rattle.numbers.specs.ClampLaws.{signed-in, upTo-same, upTo-le}
-use Rattle.numbers.specs.Lists.{build, built, length-build, getD-build, getD-build-past, getD-constant}
-use Rattle.filter.specs.declared.answers.Pixel.the-variants.{Value, Refused}
+use Rattle.numbers.specs.Lists.{build, built, getD-build, getD-build-past, getD-constant}
+use Rattle.filter.specs.declared.answers.Pixel.the-variants.{Value}
 pub use Rattle.filter.specs.Kernel.{Bytes}
 use Rattle.filter.specs.Kernel.{Rule, EdgeFailed, Rough, Simple, HighVariance, MacroblockEdge, InnerEdge, Samples, samplesAcross, apart, withinLimit, firstFalse, smooth, pairs, roughAt, highVariance, ruleOf, across, tapped, eighth, part, half, sides, noSteps, commonSteps, macroblockSteps, innerSteps, stepsOf, movedOf, filterOf, pixelOf}
 
@@ -209,10 +209,6 @@ module _ (e : List ℕ) (simple edge : Bool) (limit inner threshold : ℕ) where
   unfolding filterOf movedOf
   filter-at k h = getD-build 8 _ k 0 h
 
-  pub length-filter : length (filterOf e simple edge limit inner threshold) ≡ 8
-  unfolding filterOf movedOf
-  length-filter = length-build 8 _
-
   filter-past : (k : ℕ) → 8 ≤ k → getD (filterOf e simple edge limit inner threshold) k 0 ≡ 0
   unfolding filterOf movedOf
   filter-past k h = getD-build-past 8 _ k 0 h
@@ -249,10 +245,6 @@ module _ (e : List ℕ) (simple edge : Bool) (limit inner threshold : ℕ) where
   pub pixel-agrees : (k : ℕ) → k < 8 → pixelOf e simple edge limit inner threshold k ≡ Value (getD (filterOf e simple edge limit inner threshold) k 0)
   unfolding pixelOf
   pixel-agrees k h = rw (lt-ltb k 8 h)
-
-  pub pixel-refused : (k : ℕ) → 8 ≤ k → pixelOf e simple edge limit inner threshold k ≡ Refused
-  unfolding pixelOf
-  pixel-refused k h = rw (le-ltb k 8 h)
 
 -- ---- the tests by themselves
 -- the edge test of section 15.2, 5014, which halves the outer difference

@@ -94,9 +94,6 @@ module _ (level sharp : ℕ) (inside : Bool) where
   pub strength-is : level ≤ 63 → {t : Strength} → T.Of t ≡ strengthAnswer level sharp inside → t ≡ strengthOf level sharp inside
   strength-is h e = let k = strength-good h in cc
 
-  pub strength-never : level ≤ 63 → T.Refused ≡ strengthAnswer level sharp inside → ⊥
-  strength-never h e = let k = strength-good h in let z : _≡_ {A = ℕ} 0 1 = cc in omega arith
-
 -- ---- the strengths that are made are in range
 threshold-most : (level : ℕ) → thresholdOf level ≤ 2
 threshold-most level =

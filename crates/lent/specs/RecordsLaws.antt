@@ -10,17 +10,13 @@ use lib.ListN.{length, getD, take, drop, replicate, length-replicate, length-app
 use lib.Seq.{ext-getD, getD-take, getD-drop, getD-append-add, length-take-le}
 use lib.Dec.{ltb}
 use Rattle.numbers.specs.Tests.{lt-or, both-true, both-false, lt-ltb, le-ltb}
-use Rattle.numbers.specs.Lists.{length-build, getD-build, built, build-same, build-listed, getD-constant}
+use Rattle.numbers.specs.Lists.{getD-build, built, build-same, build-listed, getD-constant}
 use Rattle.numbers.specs.Runs.{copied, Off, length-copied, copied-in, copied-off}
 use Rattle.lent.specs.Records.{recordAt, recordSet, recordsIn, bytesOf, Written, recordWritten, recordFound}
 use Rattle.numbers.specs.declared.Checked.the-variants as K
 
 -- ---- a record, byte by byte
 module _ (w : ℕ) (mem : List ℕ) (i : ℕ) where
-  pub record-length : length (recordAt w mem i) ≡ w
-  unfolding recordAt
-  record-length = length-build w (λ j. getD mem (i * w + j) 0)
-
   pub record-byte : (j : ℕ) → j < w → getD (recordAt w mem i) j 0 ≡ getD mem (i * w + j) 0
   unfolding recordAt
   record-byte j h = getD-build w (λ j. getD mem (i * w + j) 0) j 0 h
@@ -97,10 +93,6 @@ module _ (w : ℕ) (mem : List ℕ) (i : ℕ) where
     write-stored {at} {y} h e f g =
         let z : y ≡ recordSet w mem i b = g ∙ ap (λ (a : ℕ). copied mem a b 0 w) f in
         rw z (sym (write-good h e))
-
-    -- as a caller finds it
-    pub written-is : {x : Written} → x ≡ recordWritten w mem i fine b → i < recordsIn w mem → fine ≡ true → x .mem ≡ recordSet w mem i b
-    written-is e h f = ap (λ (x : Written). x .mem) (e ∙ write-good h f)
 
   -- a record that is known by its bytes
   pub written-as : {f fine : Bool} {b bytes : List ℕ} {x : Written} → length b ≡ w → f ≡ fine → b ≡ bytes → x ≡ recordWritten (length b) mem i f b → x ≡ recordWritten w mem i fine bytes

@@ -6,12 +6,10 @@ use mathlib.Core.Bool.{Bool, true, false, _&&_}
 use native.Mathlib.Omega.{arith}
 use native.Mathlib.Nat.{mul-comm}
 use lib.Dec.{eqb}
-use lib.ListN.{length-replicate}
 use Rattle.numbers.specs.Tests.{eq-or, both-left, both-right, both-true, eqb-true, eq-eqb, ne-eqb}
 use Rattle.tile.specs.Checks.{sidesOf, Sides}
 use Rattle.tile.specs.ChecksLaws.{sides-fact, sides-test}
 use Rattle.lent.specs.Records.{Form, packed, old, formWidth}
-use Rattle.lent.specs.Memory.{Memory, sizesOf, blankOf}
 use Rattle.lent.specs.Sizes.{Sizes, longOf, lumaFine, chromaFine, columnsFine, modesFine, strengthsFine, sizesFine, Sized}
 
 -- ---- one memory
@@ -81,10 +79,6 @@ module _ (w h n : ℕ) (z s : Sizes) (packed-long : z .columns ≡ formWidth pac
   pub sizes-forms : sizesFine packed w h z ≡ sizesFine old w h s
   unfolding sizesFine
   sizes-forms = λ i. lumaFine w h (y i) && chromaFine w h (u i) && chromaFine w h (v i) && columns-forms w h n packed-long old-long i && modesFine w h (m i) && strengthsFine w h (t i)
-
--- filling changes no length
-pub blank-sizes : (m : Memory) → sizesOf (blankOf m) ≡ sizesOf m
-blank-sizes m = simp length-replicate
 
 -- ---- the planes in macroblocks
 module _ {w h : ℕ} (s : Sides w h) where

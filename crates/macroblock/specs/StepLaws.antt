@@ -276,9 +276,6 @@ module _ (s tokens : List ℕ) (readers : Readers) (f : Frame) (table : List ℕ
   pub decoded : stepOf s tokens readers f table around place p ≡ fromMacroblockCalled (record { answer = x; planes = q })
   decoded = from-called p (stepOf s tokens readers f table around place p) ∙ ap fromMacroblockCalled (sym called)
 
-  pub decode-never : x .answer ≡ F.Refused → ⊥
-  decode-never k = not-refused p (stepOf s tokens readers f table around place p) (sym (ap (λ (c : MacroblockCalled). c .answer .answer) called) ∙ k)
-
 -- ---- modes are read before tokens, and from the first partition alone: two calls with the same partition, reader, announcement and
 -- modes around, whatever else they have
 module _ (s : List ℕ)
@@ -288,11 +285,6 @@ module _ (s : List ℕ)
     (a : around .top .modes ≡ around′ .top .modes) (b : around .left .modes ≡ around′ .left .modes) where
   same-run : run (modesOf (f .announced) (around .top .modes) (around .left .modes)) s (readers .first) ≡ run (modesOf (f′ .announced) (around′ .top .modes) (around′ .left .modes)) s (readers′ .first)
   same-run = λ i. run (modesOf (n i) (a i) (b i)) s (r i)
-
-  -- where one runs out of modes, so does the other
-  pub step-no-modes-both : stepOf s tokens readers f table around place p ≡ no-modes → stepOf s tokens′ readers′ f′ table′ around′ place′ p′ ≡ no-modes
-  step-no-modes-both e =
-      step-no-modes s tokens′ readers′ f′ table′ around′ place′ p′ (sym same-run ∙ step-refused-modes s tokens readers f table around place p e)
 
   -- where both are finished, their modes, what these leave and the reader after them are the same
   pub step-modes-only-first : {x x′ : Finished} → stepOf s tokens readers f table around place p ≡ finished x → stepOf s tokens′ readers′ f′ table′ around′ place′ p′ ≡ finished x′ → SameModes x x′

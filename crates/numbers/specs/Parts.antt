@@ -10,7 +10,7 @@ use lib.IntN.{ℤ, pos, negsuc, negℤ, natAbs, subℕ, _+ℤ_, _-ℤ_, _*ℤ_}
 use lib.Signed.{_≤ℤ_, leZ, ltZ, leZ-yes, ltZ-no, shrZ}
 use mir.Syntax.{Width}
 use mir.Val.{SFits, hbits}
-use Rattle.numbers.specs.Tests.{never, true-of, of-true, cond-at, ltb-true, ltb-false, leb-false}
+use Rattle.numbers.specs.Tests.{never, true-of, of-true, cond-at, ltb-true, ltb-false}
 
 abbrev pub up : ℤ → ℕ
 up (pos k) = k
@@ -57,12 +57,6 @@ le-true {a} {b} h = true-of (leZ a b) (h .le)
 
 pub true-le : (a b : ℤ) → leZ a b ≡ true → a ≤ℤ b
 true-le a b e = leZ-yes (of-true (leZ a b) e)
-
-pub nle-parts : (a b : ℤ) → leZ a b ≡ false → up b + dn a < up a + dn b
-nle-parts (pos a) (pos b) e = omega (arith, leb-false a b e)
-nle-parts (pos a) (negsuc b) e = omega arith
-nle-parts (negsuc a) (pos b) e = absurd (never refl e)
-nle-parts (negsuc a) (negsuc b) e = omega (arith, leb-false b a e)
 
 pub ≤ℤ-trans : {a b c : ℤ} → a ≤ℤ b → b ≤ℤ c → a ≤ℤ c
 ≤ℤ-trans {a} {b} {c} h k = of-le (omega (arith, to-le h, to-le k))

@@ -4,7 +4,7 @@ use Prim.Native.Nat.{ℕ}
 use native.Mathlib.Omega.{arith}
 use native.Mathlib.Nat.{mod-add-div}
 use lib.Dec.{lit<}
-use lib.IntN.{ℤ, pos, negsuc, _+ℤ_, _-ℤ_, _*ℤ_, +ℤ-idr, +ℤ-negℤ-cancel}
+use lib.IntN.{ℤ, pos, negsuc, _+ℤ_, _-ℤ_, _*ℤ_, +ℤ-negℤ-cancel}
 use lib.Signed.{_≤ℤ_, ltZ, shrZ, quotZ, remZ}
 use Rattle.numbers.specs.declared.Wrapped.the-variants.{Value, Refused}
 use Rattle.numbers.specs.Tests.{cond-at}
@@ -37,9 +37,6 @@ wrap-is {v} {z} k i e =
     let high : (z +ℤ m +ℤ pos 32768) ≤ℤ (m +ℤ pos 65535) = of-le (omega (arith, to-le (i .high), add-parts m (pos 65535))) in
     let q : shrZ (z +ℤ m +ℤ pos 32768) 65536 ≡ k = floor-is 65536 (lit< tt) (record { low = low; high = high }) in
     rw (← e, q) (+ℤ-negℤ-cancel z m)
-
-pub wrap-same : {v : ℤ} → In (negsuc 32767) (pos 32767) v → wrapZ v ≡ v
-wrap-same {v} i = wrap-is (pos 0) i (+ℤ-idr v)
 
 -- ---- vp8_coeff's `wrapped`: signed16 of (v + 4294967296) % 65536
 -- the remainder of what is not negative differs from it by a multiple

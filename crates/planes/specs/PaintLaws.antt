@@ -17,17 +17,17 @@ pub use Rattle.numbers.specs.Lists.{Bytes}
 use Rattle.numbers.specs.ClampLaws.{upTo-le}
 use Rattle.numbers.specs.In.{Each}
 use Rattle.numbers.specs.Know.{inside}
-use Rattle.numbers.specs.Lists.{getD-build, getD-build-past, _∷≡_}
+use Rattle.numbers.specs.Lists.{getD-build, getD-build-past}
 use Rattle.numbers.specs.Parts.{le-true}
 use Rattle.numbers.specs.Runs.{placed, placed-none, placed-next, length-placed, placed-in, placed-off, placed-keeps, placed-same, copied-placed, Off, off-less}
 use Rattle.numbers.specs.Tables.{allBelow, all-below}
-use Rattle.numbers.specs.Tests.{lt-or, eq-or, both-left, both-right, both-true, cond-at, eqb-true, ltb-true, leb-true, lt-ltb, le-leb, eq-eqb, ne-eqb}
+use Rattle.numbers.specs.Tests.{lt-or, eq-or, both-left, both-right, both-true, cond-at, eqb-true, ltb-true, leb-true, lt-ltb, le-leb, eq-eqb}
 use Rattle.transform.specs.Lanes.{byBlocks}
 use Rattle.numbers.specs.declared.Checked.the-variants.{Done, Refused}
-use Rattle.planes.specs.Predict.{Border, Size, smallBlock, dcOf}
-use Rattle.planes.specs.Paint.{sampleAt, nearOf, fourAbove, firstPlaces, firstAbove, firstLeft, edgeOf, aboveRight, blockAboveRight, aroundOf, rowsPainted, painted, blockCoefficients, blockResidual, summedOf, blockPainted, cellColumn, cellRow, blocksPainted, largeRule, smallAt, smallRule, predictionRule, squarePainted, squareBlocks, paintModesFine, sideFine, squareFine, coefficientsFine, paintFine, PaintedPlane, paintOf}
+use Rattle.planes.specs.Predict.{Border, Size, dcOf}
+use Rattle.planes.specs.Paint.{sampleAt, nearOf, firstPlaces, edgeOf, aboveRight, rowsPainted, painted, blockCoefficients, blockResidual, summedOf, blockPainted, cellColumn, cellRow, blocksPainted, largeRule, smallRule, predictionRule, squarePainted, squareBlocks, paintModesFine, sideFine, squareFine, coefficientsFine, paintFine, PaintedPlane, paintOf}
 use Rattle.planes.specs.Pieces.{rowsPlaced}
-use Rattle.planes.specs.Places.{Square, Outside, run-inside, sub-square, apart, outside-sub, BlockSides, cell, not-last, Stands, higher, before, stands-first, stands-last, Within, stood, other, by-size, size-some, quarter, size-sides, tiles}
+use Rattle.planes.specs.Places.{Square, Outside, run-inside, sub-square, apart, outside-sub, BlockSides, cell, Within, other, by-size, size-some, quarter, size-sides, tiles}
 
 -- arguments with which the square at column x, row y can be painted
 pub record Good (len w x y n : ℕ) (small : Bool) (mode : ℕ) (modes : List ℕ) : Type 0 where
@@ -261,93 +261,6 @@ blocks-bytes rule p w x y m cs (suc i) g =
     subst Bytes (sym (painted-rows q w (x + cellColumn m i) (y + cellRow m i) (summedOf (rule q i) (blockResidual cs i))))
     (rows-bytes q w (x + cellColumn m i) (y + cellRow m i) 4 _ 4 (λ j k. summed-bytes (rule q i) (blockResidual cs i) (4 * j + k)) (blocks-bytes rule p w x y m cs i g))
 
--- ---- two planes with the same samples around the square get the same samples in it
--- they agree at column c of row r wherever P holds of c and r
-abbrev pub Same : (p q : List ℕ) (w : ℕ) (P : ℕ → ℕ → Type 0) → Type 0
-Same p q w P = (c r : ℕ) → c < w → P c r → sampleAt p w c r ≡ sampleAt q w c r
-
--- above the square's rows, or left of it in them
-abbrev pub Around : (x y n c r : ℕ) → Type 0
-Around x y n c r = (r < y) ⊎ ((r < y + n) × (c < x))
-
-module _ (p q : List ℕ) (w : ℕ) (P : ℕ → ℕ → Type 0) (s : Same p q w P) where
-  near-same : (x y : ℕ) → x ≤ w → ((c r : ℕ) → x ≡ suc c → y ≡ suc r → P c r) → nearOf p w x y ≡ nearOf q w x y
-  unfolding nearOf
-  near-same x zero l h = refl
-  near-same zero (suc y) l h = refl
-  near-same (suc x) (suc y) l h = s x y (omega arith) (h x y refl refl)
-
-  above-same : (x y : ℕ) → x + 4 ≤ w → ((c r : ℕ) → c < x + 4 → y ≡ suc r → P c r) → fourAbove p w x y ≡ fourAbove q w x y
-  unfolding fourAbove
-  above-same x y l h = go 1 (omega arith) ∷≡ go 2 (omega arith) ∷≡ go 3 (omega arith) ∷≡ go 4 (omega arith) ∷≡ refl
-    where
-      go : (k : ℕ) → k ≤ 4 → nearOf p w (x + k) y ≡ nearOf q w (x + k) y
-      go k i = near-same (x + k) y (omega arith) (λ c r e f. h c r (omega arith) f)
-
-  right-same : (x y : ℕ) → x + 16 ≤ w → (x + 16 < w → x + 20 ≤ w) → ((c r : ℕ) → r < y → P c r) → aboveRight p w x y ≡ aboveRight q w x y
-  unfolding aboveRight
-  right-same x y l k h = elim (eq-or (x + 16) w) [
-    | inl e ↦ rw (eq-eqb (x + 16) w e, near-same w y (omega arith) (λ c r u v. h c r (omega arith)))
-    | inr e ↦ rw (ne-eqb (x + 16) w e) (above-same (x + 16) y (omega (arith, k (omega arith))) (λ c r u v. h c r (omega arith)))
-  ]
-
-  edge-same : (x y n : ℕ) → x + n ≤ w → ((c r : ℕ) → Around x y n c r → P c r) → edgeOf p w x y n ≡ edgeOf q w x y n
-  unfolding edgeOf firstPlaces
-  edge-same x y n l h =
-      let a : firstAbove p w x y n ≡ firstAbove q w x y n = placed-same (replicate 16 0) 0 _ _ n (λ k i. near-same (x + 1 + k) y (omega arith) (λ c r e f. h c r (inl (omega arith)))) in
-      let b : firstLeft p w x y n ≡ firstLeft q w x y n = placed-same (replicate 16 0) 0 _ _ n (λ k i. near-same x (y + 1 + k) (omega arith) (λ c r e f. h c r (inr (omega arith, omega arith)))) in
-      let c : nearOf p w x y ≡ nearOf q w x y = near-same x y (omega arith) (λ c r e f. h c r (inl (omega arith))) in
-      rw (a, b, c)
-
-  -- a sub-block of a macroblock in a small mode
-  around-same : (x y i : ℕ) (right : List ℕ) → x + 16 ≤ w → i < 16 → ((c r : ℕ) → Stands x y 4 i c r → P c r) → (mode : ℕ)
-      → smallAt p w (x + cellColumn 4 i) (y + cellRow 4 i) (eqb (i % 4) 3) right mode ≡ smallAt q w (x + cellColumn 4 i) (y + cellRow 4 i) (eqb (i % 4) 3) right mode
-  unfolding smallAt aroundOf blockAboveRight
-  around-same x y i right l j h mode =
-      ap (smallBlock mode)
-      (left 4 (omega arith) ∷≡ left 3 (omega arith) ∷≡ left 2 (omega arith) ∷≡ left 1 (omega arith) ∷≡ corner
-      ∷≡ top 1 (omega arith) ∷≡ top 2 (omega arith) ∷≡ top 3 (omega arith) ∷≡ top 4 (omega arith)
-      ∷≡ ap (λ (a : List ℕ). getD a 0 0) aside ∷≡ ap (λ (a : List ℕ). getD a 1 0) aside
-      ∷≡ ap (λ (a : List ℕ). getD a 2 0) aside ∷≡ ap (λ (a : List ℕ). getD a 3 0) aside ∷≡ refl)
-    where
-      left : (k : ℕ) → k ≤ 4 → nearOf p w (x + cellColumn 4 i) (y + cellRow 4 i + k) ≡ nearOf q w (x + cellColumn 4 i) (y + cellRow 4 i + k)
-      left k n = near-same (x + cellColumn 4 i) (y + cellRow 4 i + k) (omega arith) (λ c r e f. h c r (before (omega arith) (omega arith) (omega arith)))
-
-      corner : nearOf p w (x + cellColumn 4 i) (y + cellRow 4 i) ≡ nearOf q w (x + cellColumn 4 i) (y + cellRow 4 i)
-      corner = near-same (x + cellColumn 4 i) (y + cellRow 4 i) (omega arith) (λ c r e f. h c r (higher (omega arith) (omega arith) (omega arith)))
-
-      top : (k : ℕ) → k ≤ 4 → nearOf p w (x + cellColumn 4 i + k) (y + cellRow 4 i) ≡ nearOf q w (x + cellColumn 4 i + k) (y + cellRow 4 i)
-      top k n = near-same (x + cellColumn 4 i + k) (y + cellRow 4 i) (omega arith) (λ c r e f. h c r (higher (omega arith) (omega arith) (omega arith)))
-
-      next : (last : Bool) → (last ≡ false → cellColumn 4 i + 8 ≤ 16)
-          → blockAboveRight p w (x + cellColumn 4 i) (y + cellRow 4 i) last right ≡ blockAboveRight q w (x + cellColumn 4 i) (y + cellRow 4 i) last right
-      next true n = refl
-      next false n =
-          let b = n refl in
-          above-same (x + cellColumn 4 i + 4) (y + cellRow 4 i) (omega arith) (λ c r e f. h c r (higher (omega arith) (omega arith) (omega arith)))
-
-      aside : blockAboveRight p w (x + cellColumn 4 i) (y + cellRow 4 i) (eqb (i % 4) 3) right ≡ blockAboveRight q w (x + cellColumn 4 i) (y + cellRow 4 i) (eqb (i % 4) 3) right
-      aside = next (eqb (i % 4) 3) (not-last i)
-
-module _ (p q : List ℕ) (w x y m : ℕ) (cs : List ℤ) (f g : List ℕ → ℕ → List ℕ) (e : length p ≡ length q) (s : BlockSides m) (t : Square (length p) w x y (4 * m))
-    (same : (i : ℕ) → i < m * m → (P Q : List ℕ) → Same P Q w (Stands x y m i) → f P i ≡ g Q i) where
-  blocks-same : Same p q w (Stands x y m 0) → (i : ℕ) → i ≤ m * m → Same (blocksPainted f p w x y m cs i) (blocksPainted g q w x y m cs i) w (Stands x y m i)
-  unfolding blocksPainted
-  blocks-same h zero l = h
-  blocks-same h (suc i) l = λ c r k d.
-      let n : i < m * m = omega arith in
-      let P = blocksPainted f p w x y m cs i in
-      let Q = blocksPainted g q w x y m cs i in
-      let X = x + cellColumn m i in
-      let Y = y + cellRow m i in
-      let a = due f p w x y m cs i s t n in
-      let b = due g q w x y m cs i s (subst (λ (z : ℕ). Square z w x y (4 * m)) e t) n in
-      let u : f P i ≡ g Q i = same i n P Q (blocks-same h i (omega arith)) in
-      elim (stood s n d) [
-        | inl o ↦ one-off P w X Y (f P i) cs i c r (a .columns) k (o .1) ∙ blocks-same h i (omega arith) c r k (o .0) ∙ sym (one-off Q w X Y (g Q i) cs i c r (b .columns) k (o .1))
-        | inr o ↦ one-in P w X Y (f P i) cs i c r a o ∙ rw u (sym (one-in Q w X Y (g Q i) cs i c r b o))
-      ]
-
 -- ---- the square
 module _ (p : List ℕ) (w x y n : ℕ) (small : Bool) (mode : ℕ) (modes : List ℕ) (cs : List ℤ) where
   -- what the code paints in each kind of mode
@@ -383,35 +296,6 @@ module _ (p : List ℕ) (w x y n : ℕ) (small : Bool) (mode : ℕ) (modes : Lis
     unfolding squarePainted
     square-off h o =
         blocks-off (predictionRule p w x y n small mode modes) p w x y (n / 4) cs (n / 4 * (n / 4)) c r (size-sides s) (rw (quarter s) t) (omega arith) h (rw (quarter s) o)
-
-    -- a sample of sub-block i is what its rule predicts from the plane as those before it left it, and its residual
-    pub square-in : (i : ℕ) → i < n / 4 * (n / 4) → Within (x + cellColumn (n / 4) i) (y + cellRow (n / 4) i) c r
-        → sampleAt (squarePainted p w x y n small mode modes cs) w c r
-        ≡ paintedIn (predictionRule p w x y n small mode modes) p w x y (n / 4) cs i c r
-    unfolding squarePainted
-    square-in i h k = blocks-in (predictionRule p w x y n small mode modes) p w x y (n / 4) cs (size-sides s) (rw (quarter s) t) i c r h k (n / 4 * (n / 4)) h (omega arith)
-
--- in both of two planes of the same length
-module _ (p q : List ℕ) (w x y n : ℕ) (small : Bool) (mode : ℕ) (modes : List ℕ) (cs : List ℤ) (e : length p ≡ length q) (g : Good (length p) w x y n small mode modes)
-    (s : Same p q w (Around x y n)) where
-  rule-same : (b : Bool) → small ≡ b → (i : ℕ) → i < n / 4 * (n / 4) → (P Q : List ℕ) → Same P Q w (Stands x y (n / 4) i)
-      → predictionRule p w x y n b mode modes P i ≡ predictionRule q w x y n b mode modes Q i
-  unfolding predictionRule
-  rule-same true t i h P Q u =
-      let z = g .luma t in
-      let v : Same P Q w (Stands x y 4 i) = subst (λ (k : ℕ). Same P Q w (Stands x y (k / 4) i)) z u in
-      let l : i < 16 = subst (λ (k : ℕ). i < k / 4 * (k / 4)) z h in
-      let o = luma-square g t .columns in
-      rw (right-same p q w (Around x y n) s x y o (luma-whole g t) (λ c r h. inl h)) (around-same P Q w (Stands x y 4 i) v x y i (aboveRight q w x y) o l (λ c r a. a) (getD modes i 0))
-  rule-same false t i h P Q u = rw (edge-same p q w (Around x y n) s x y n (g .square .columns) (λ c r h. h))
-
-  square-same : (c r : ℕ) → c < x + n → r < y + n → sampleAt (squarePainted p w x y n small mode modes cs) w c r ≡ sampleAt (squarePainted q w x y n small mode modes cs) w c r
-  unfolding squarePainted
-  square-same c r k l =
-      let d = size-sides (g .size) in
-      let z = quarter (g .size) in
-      blocks-same p q w x y (n / 4) cs (predictionRule p w x y n small mode modes) (predictionRule q w x y n small mode modes) e d (rw z (g .square)) (rule-same small refl)
-      (λ c r h v. s c r h (rw (← z) (stands-first d v))) (n / 4 * (n / 4)) (omega arith) c r (omega (arith, g .square .columns)) (stands-last d (rw z l) (rw z k))
 
 -- ---- what the checks say
 either : (a b : Bool) → a || b ≡ true → (a ≡ true) ⊎ (b ≡ true)
@@ -581,23 +465,6 @@ module _ (p : List ℕ) (w column row n : ℕ) (small : Bool) (mode : ℕ) (mode
   unfolding paintOf
   paint-fine e = rw e
 
-  -- then a sample of sub-block i of the square is what its rule predicts for it from the plane as those before it left it, and its residual
-  pub paint-in : paintFine (length p) w column row n small mode modes cs ≡ true → (i c r : ℕ) → i < n / 4 * (n / 4)
-      → Within (column * n + cellColumn (n / 4) i) (row * n + cellRow (n / 4) i) c r
-      → sampleAt (paintOf p w column row n small mode modes cs .plane) w c r
-      ≡ paintedIn (predictionRule p w (column * n) (row * n) n small mode modes) p w (column * n) (row * n) (n / 4) cs i c r
-  paint-in e i c r h k =
-      let g = fine-good (length p) w column row n small mode modes cs e in
-      rw (paint-fine e) (square-in p w (column * n) (row * n) n small mode modes cs (g .size) (g .square) c r i h k)
-
   pub paint-good : {columns rows : ℕ} → Proper (length p) w columns rows column row n small mode modes cs
       → paintOf p w column row n small mode modes cs ≡ record { answer = Done; plane = squarePainted p w (column * n) (row * n) n small mode modes cs }
   paint-good g = paint-fine (proper-fine g)
-
-  -- two planes of the same length that agree above the square's rows, and left of it in them, agree in the square once it is painted
-  pub paint-same : (q : List ℕ) → length p ≡ length q → paintFine (length p) w column row n small mode modes cs ≡ true → Same p q w (Around (column * n) (row * n) n)
-      → (c r : ℕ) → c < column * n + n → r < row * n + n
-      → sampleAt (paintOf p w column row n small mode modes cs .plane) w c r ≡ sampleAt (paintOf q w column row n small mode modes cs .plane) w c r
-  unfolding paintOf
-  paint-same q e t s c r k l =
-      rw (t, ← e, t) (square-same p q w (column * n) (row * n) n small mode modes cs e (fine-good (length p) w column row n small mode modes cs t) s c r k l)

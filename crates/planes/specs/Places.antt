@@ -1,5 +1,5 @@
 -- Where squares and sub-blocks lie in a plane of `len` samples, w to a row.
-use Prim.Native.Nat.{ℕ, suc, _+_, _-_, _*_, _/_, _%_, _^_, _≤_, _<_}
+use Prim.Native.Nat.{ℕ, _+_, _-_, _*_, _/_, _%_, _^_, _≤_, _<_}
 use mathlib.Core.Bool.{false}
 use mathlib.Core.Logic.{_⊎_, inl, inr}
 use mathlib.Core.Path.{_≡_, refl, sym, _∙_, ap, subst}
@@ -163,87 +163,12 @@ sub-lies {len} {w} {x} {y} {m} {i} b h t a =
 pub not-last : (i : ℕ) → eqb (i % 4) 3 ≡ false → cellColumn 4 i + 8 ≤ 16
 not-last i e = let n = eqb-false (i % 4) 3 e in omega arith
 
--- the next sub-block lies right of it, or begins the next row
-pub record Right (m i : ℕ) : Type 0 where
-  pub down : cellRow m (suc i) ≡ cellRow m i
-  pub across : cellColumn m (suc i) ≡ cellColumn m i + 4
-
-pub record Below (m i : ℕ) : Type 0 where
-  pub down : cellRow m (suc i) ≡ cellRow m i + 4
-  pub across : cellColumn m (suc i) ≡ 0
-  pub last : cellColumn m i + 4 ≡ 4 * m
-
-pub next-cell : {m : ℕ} (i : ℕ) → BlockSides m → Right m i ⊎ Below m i
-next-cell i s = by-sides (λ (m : ℕ). Right m i ⊎ Below m i) two four s
-  where
-    two : Right 2 i ⊎ Below 2 i
-    two = elim (lt-or (i % 2) 1) [
-      | inl h ↦ inl (record { down = omega arith; across = omega arith })
-      | inr h ↦ inr (record { down = omega arith; across = omega arith; last = omega arith })
-    ]
-
-    four : Right 4 i ⊎ Below 4 i
-    four = elim (lt-or (i % 4) 3) [
-      | inl h ↦ inl (record { down = omega arith; across = omega arith })
-      | inr h ↦ inr (record { down = omega arith; across = omega arith; last = omega arith })
-    ]
-
--- ---- column c of row r stands when sub-block i of the square is due: above the square, left of it, in a row of sub-blocks before, or
--- before it in its row
-pub data Stands (x y m i c r : ℕ) : Type 0 where
-  over : r < y → Stands x y m i c r
-  beside : r < y + 4 * m → c < x → Stands x y m i c r
-  higher : r < y + 4 * m → r < y + cellRow m i → c < x + 4 * m → Stands x y m i c r
-  before : r < y + 4 * m → r < y + cellRow m i + 4 → c < x + cellColumn m i → Stands x y m i c r
-
--- before the first only what lies above and left
-pub stands-first : {x y m c r : ℕ} → BlockSides m → Stands x y m 0 c r → (r < y) ⊎ ((r < y + 4 * m) × (c < x))
-stands-first s (over h) = inl h
-stands-first s (beside h k) = inr (h, k)
-stands-first s (higher h k l) = let z = by-sides (λ (m : ℕ). cellRow m 0 ≡ 0) refl refl s in inl (omega arith)
-stands-first s (before h k l) = let z = by-sides (λ (m : ℕ). cellColumn m 0 ≡ 0) refl refl s in inr (h, omega arith)
-
--- after the last the whole square
-pub stands-last : {x y m c r : ℕ} → BlockSides m → r < y + 4 * m → c < x + 4 * m → Stands x y m (m * m) c r
-stands-last s h k = let z = by-sides (λ (m : ℕ). cellRow m (m * m) ≡ 4 * m) refl refl s in higher h (omega arith) k
-
--- what stands after sub-block i and lies outside it stood before it; or it lies in it
+-- column c of row r lies in the sub-block at column x of row y
 pub record Within (x y c r : ℕ) : Type 0 where
   pub left : x ≤ c
   pub right : c < x + 4
   pub top : y ≤ r
   pub bottom : r < y + 4
-
-pub stood : {x y m i c r : ℕ} → BlockSides m → i < m * m → Stands x y m (suc i) c r
-    → (Stands x y m i c r × Outside (x + cellColumn m i) (y + cellRow m i) 4 c r) ⊎ Within (x + cellColumn m i) (y + cellRow m i) c r
-stood {x} {y} {m} {i} {c} {r} s l (over h) = inl (over h, inr (inl (omega arith)))
-stood {x} {y} {m} {i} {c} {r} s l (beside h k) = inl (beside h k, inl (inl (omega arith)))
-stood {x} {y} {m} {i} {c} {r} s l (higher h k q) = elim (next-cell i s) [ inl n ↦ same n | inr n ↦ below n ]
-  where
-    same : Right m i → (Stands x y m i c r × Outside (x + cellColumn m i) (y + cellRow m i) 4 c r) ⊎ Within (x + cellColumn m i) (y + cellRow m i) c r
-    same n = inl (higher h (omega (arith, n .down)) q, inr (inl (omega (arith, n .down))))
-
-    below : Below m i → (Stands x y m i c r × Outside (x + cellColumn m i) (y + cellRow m i) 4 c r) ⊎ Within (x + cellColumn m i) (y + cellRow m i) c r
-    below n = elim (lt-or r (y + cellRow m i)) [
-      | inl a ↦ inl (higher h a q, inr (inl a))
-      | inr a ↦ elim (lt-or c (x + cellColumn m i)) [
-        | inl b ↦ inl (before h (omega (arith, n .down)) b, inl (inl b))
-        | inr b ↦ inr (record { left = b; right = omega (arith, n .last); top = a; bottom = omega (arith, n .down) })
-      ]
-    ]
-stood {x} {y} {m} {i} {c} {r} s l (before h k q) = elim (next-cell i s) [ inl n ↦ same n | inr n ↦ below n ]
-  where
-    same : Right m i → (Stands x y m i c r × Outside (x + cellColumn m i) (y + cellRow m i) 4 c r) ⊎ Within (x + cellColumn m i) (y + cellRow m i) c r
-    same n = elim (lt-or r (y + cellRow m i)) [
-      | inl a ↦ inl (higher h a (omega (arith, n .across, cell s l .inside)), inr (inl a))
-      | inr a ↦ elim (lt-or c (x + cellColumn m i)) [
-        | inl b ↦ inl (before h (omega (arith, n .down)) b, inl (inl b))
-        | inr b ↦ inr (record { left = b; right = omega (arith, n .across); top = a; bottom = omega (arith, n .down) })
-      ]
-    ]
-
-    below : Below m i → (Stands x y m i c r × Outside (x + cellColumn m i) (y + cellRow m i) 4 c r) ⊎ Within (x + cellColumn m i) (y + cellRow m i) c r
-    below n = inl (beside h (omega (arith, n .across)), inl (inl (omega (arith, n .across))))
 
 -- a place in sub-block i lies outside the others
 pub other : {m c r : ℕ} (x y i j : ℕ) → BlockSides m → (i ≡ j → ⊥) → Within (x + cellColumn m i) (y + cellRow m i) c r → Outside (x + cellColumn m j) (y + cellRow m j) 4 c r

@@ -81,14 +81,6 @@ module _ {A B : Type 0} (f : A → Reading B) (m : Reading A) {s : List ℕ} {r 
     pub took-ends : Took (f a) s q y 0 → Took (m >>= f) s r y n
     took-ends u = took-as refl (add-zero n) (took-then u)
 
--- ---- what is worked out of a part's value reads nothing
-pub count-last : {A B : Type 0} (f : A → B) (s : List ℕ) (m : Reading A) (r : Reader) → count (m >>= λ a. done (f a)) s r ≡ count m s r
-count-last {A} f s m r = go (run m s r) refl
-  where
-    go : (x : Given A) → run m s r ≡ x → count (m >>= λ a. done (f a)) s r ≡ count m s r
-    go missing e = count-stops (λ a. done (f a)) s m r e
-    go (given a q) e = count-then (λ a. done (f a)) s m r e ∙ omega (arith, count-done (f a) s q)
-
 -- ---- one step of a walk
 module _ (s ps : List ℕ) (t : List ℤ) (n i : ℕ) (r : Reader) where
   pub count-walk-stops : run (step ps t i) s r ≡ missing → count (walk (suc n) ps t i) s r ≡ 0

@@ -1,7 +1,7 @@
 -- Grammars: what a part of a frame asks of its partition, symbols each with a probability, one after the other. A grammar
 -- knows nothing of readers; `run` puts one under it.
-use Prim.Native.Nat.{ℕ, suc, _<_, max}
-use mathlib.Core.Bool.{Bool, true, false}
+use Prim.Native.Nat.{ℕ, suc, _<_}
+use mathlib.Core.Bool.{Bool}
 use mathlib.Core.List.{List}
 use Rattle.reader.specs.Boolean.{Reader, Given, given, missing, symbolOf}
 
@@ -29,8 +29,3 @@ run (ask p k) s r = elim (symbolOf s r p) [ missing ↦ missing | given b r2 ↦
 pub data Within {A : Type 0} (P : A → Type 0) : ℕ → Reading A → Type 0 where
   ends : {n : ℕ} {a : A} → P a → Within P n (done a)
   asks : {n p : ℕ} {k : Bool → Reading A} → p < 256 → ((b : Bool) → Within P n (k b)) → Within P (suc n) (ask p k)
-
--- the most symbols that it can ask
-abbrev pub depth : {A : Type 0} → Reading A → ℕ
-depth (done a) = 0
-depth (ask p k) = suc (max (depth (k true)) (depth (k false)))

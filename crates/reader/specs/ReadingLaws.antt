@@ -3,12 +3,12 @@ use Prim.Native.Nat.{ℕ, zero, suc, _+_, _≤_, _<_}
 use native.Mathlib.Omega.{arith}
 use native.Mathlib.Nat.{suc-add}
 use mathlib.Core.Path.{_≡_, refl, sym, _∙_, ap}
-use mathlib.Core.Bool.{Bool, true, false}
+use mathlib.Core.Bool.{Bool}
 use mathlib.Core.List.{List}
 use Rattle.reader.specs.declared.boolean.Symbol.the-variants as S
 use Rattle.reader.specs.Boolean.{Reader, Symbol, Given, given, missing, symbolOf, toSymbol, symbolAnswer}
 use Rattle.reader.specs.BooleanLaws.{Bytes, Valid, symbol-valid, symbol-good}
-use Rattle.reader.specs.Reading.{Reading, done, ask, _>>=_, symbol, run, Within, ends, asks, depth}
+use Rattle.reader.specs.Reading.{Reading, done, ask, _>>=_, symbol, run, Within, ends, asks}
 
 -- an answer that gives a value misses no byte
 pub never-both : {A : Type 0} {x : Given A} {a : A} {r : Reader} → x ≡ given a r → x ≡ missing → ⊥
@@ -67,10 +67,6 @@ within-bind {k} (asks {n} h f) g = rw (suc-add n k) (asks h (λ b. within-bind (
 
 pub within-symbol : {p : ℕ} → p < 256 → Within (λ (b : Bool). Unit {0}) 1 (symbol p)
 within-symbol h = asks h (λ b. ends tt)
-
-pub within-depth : {A : Type 0} {P : A → Type 0} {n : ℕ} {m : Reading A} → Within P n m → depth m ≤ n
-within-depth (ends h) = omega arith
-within-depth (asks h f) = omega (arith, within-depth (f true), within-depth (f false))
 
 -- what a run ends with
 pub record ReadTo {A : Type 0} (P : A → Type 0) (s : List ℕ) (r : Reader) (a : A) (r2 : Reader) : Type 0 where

@@ -80,14 +80,6 @@ module _ {A B : Type 0} (f : A → Reading B) (s : List ℕ) where
   unfolding count
   count-stops m r e = ap length (trace-stops f s m r e)
 
--- a value that is made of another costs nothing
-pub count-map : {A B : Type 0} (f : A → B) (s : List ℕ) (m : Reading A) (r : Reader) → count (m >>= λ a. done (f a)) s r ≡ count m s r
-count-map f s m r = go (run m s r) refl
-  where
-    go : (x : Given _) → run m s r ≡ x → count (m >>= λ a. done (f a)) s r ≡ count m s r
-    go missing e = count-stops (λ a. done (f a)) s m r e
-    go (given a q) e = omega (arith, count-then (λ a. done (f a)) s m r e, count-done (f a) s q)
-
 pub count-within : {A : Type 0} {P : A → Type 0} {n : ℕ} {m : Reading A} (s : List ℕ) (r : Reader) → Within P n m → count m s r ≤ n
 unfolding count
 count-within s r h = trace-within s r h

@@ -31,7 +31,7 @@ use Rattle.header.specs.Quantizers.{factorsOf}
 use Rattle.coefficients.specs.BlockLaws.{SixteenBits, Sixteen, block-within}
 use Rattle.coefficients.specs.Block.{headerTable}
 use Rattle.transform.specs.Lanes.{macroblockBlocks}
-use Rattle.transform.specs.LanesLaws.{length-squares, blocks-of-squares}
+use Rattle.transform.specs.LanesLaws.{blocks-of-squares}
 use Rattle.transform.specs.Transform.{samplesOf}
 use Rattle.transform.specs.TransformLaws.{CoefficientsIn, transform-good, transform-walsh-in}
 use Rattle.residual.specs.Residual.{Residual, Kind, FlagsAt, Model, Flags, ModelInRange, initial, coordinates, secondKind, lumaKind, kindOf, flagged, spread, secondPlace, second, sixteenAt, emptyOf, advance, blocksFrom, cleared, residualOf, ResidualCalled, toResidualCalled, residualArguments, residualAnswer, residualCallOf, residualByHeaderOf, residualReads}
@@ -230,10 +230,6 @@ module _ (s : List ℕ) (r : Reader) (table : List ℕ) (f : Factors) (small ski
   pub decode-reads : Valid s r → Good table top left old → {n : ℕ} → n ≡ residualReads s r table f small skip top left old → n ≡ count (residualOf table f small skip top left) s r
   decode-reads v g e = e ∙ sym (reads-passed s r table f small skip top left old (both-true (valid-test s r v) (arguments-good table top left (length old) (g .size) (g .top-flags) (g .left-flags) (g .long))))
 
-  -- M-103: no macroblock reads more, whatever its symbols are
-  pub residual-few : Bytes table → Flags top → Flags left → count (residualOf table f small skip top left) s r ≤ 7296
-  residual-few b t l = count-within s r (residual-within table f b small skip t l)
-
   -- what was read from good arguments: whole, the reader in range and no earlier
   pub decode-ends : Valid s r → Good table top left old → Bytes s → Bytes table → {m : Model} {q : Reader} → run (residualOf table f small skip top left) s r ≡ given m q → ReadingLaws.ReadTo ModelInRange s r m q
   decode-ends v g y b e = run-valid (residual-within table f b small skip (g .top-flags) (g .left-flags)) y v e
@@ -259,21 +255,6 @@ module _ (s : List ℕ) (r : Reader) (table : List ℕ) (f : Factors) (small ski
           let w : record { answer = x; out = l } ≡ toResidualCalled old (run (residualOf table f small skip top left) s r) = e ∙ rw (k, residualCallOf) in
           kept w (given-not (run (residualOf table f small skip top left) s r) (sym (ap (λ (a : ResidualCalled). fromResidual c (a .answer)) w) ∙ m))
       go false k = kept (e ∙ sym (decode-refused s r table f small skip top left old k refl)) (record { same = refl; top = refl; left = refl })
-
-  -- the lent numbers stay 384
-  pub decode-long : {x : Residual} {l : List ℤ} → length old ≡ 384 → record { answer = x; out = l } ≡ residualCallOf s r table f small skip top left old → length l ≡ 384
-  unfolding residualCallOf residualAnswer
-  decode-long {x} {l} h e = go (validOf s r && residualArguments table top left (length old)) refl
-    where
-      called : (g : Given Model) → length (toResidualCalled old g .out) ≡ 384
-      called (given m q) = length-squares (m .coefficients)
-      called missing = h
-
-      go : (b : Bool) → validOf s r && residualArguments table top left (length old) ≡ b → length l ≡ 384
-      go true k =
-          let w : record { answer = x; out = l } ≡ toResidualCalled old (run (residualOf table f small skip top left) s r) = e ∙ rw (k, residualCallOf) in
-          ap (λ (a : ResidualCalled). length (a .out)) w ∙ called (run (residualOf table f small skip top left) s r)
-      go false k = ap (λ (a : ResidualCalled). length (a .out)) (e ∙ sym (decode-refused s r table f small skip top left old k refl)) ∙ h
 
 -- with a header, where it is fine and there is such a segment
 pub header-good : (s : List ℕ) (r : Reader) (h : List ℤ) (segment : ℕ) (small skip : Bool) (top left : List ℕ) (old : List ℤ) → headerOf h ≡ true → segment < 4 → residualCallOf s r (headerTable h) (factorsOf h segment) small skip top left old ≡ residualByHeaderOf s r h segment small skip top left old

@@ -1,5 +1,4 @@
 -- How far the numbers of a transform go: from a limit on what goes in follows one on what comes out, for both transforms and both passes.
-use mathlib.Core.Path.{_≡_, refl}
 use mathlib.Core.Bool.{Bool, true, false, _&&_}
 use mathlib.Core.List.{List, [], _∷_}
 use Prim.Native.Nat.{ℕ, suc, _+_, _*_, _/_, _≤_}
@@ -17,7 +16,7 @@ use Rattle.numbers.specs.Know.{num, plainly, inside}
 use Rattle.numbers.specs.Eval.{v, shr, know}
 use Rattle.numbers.specs.Hand.{known}
 use Rattle.numbers.specs.Bounds.{each-∷, each2-∷}
-use Rattle.numbers.specs.WrapLaws.{wrap-in, wrap-same}
+use Rattle.numbers.specs.WrapLaws.{wrap-in}
 use Rattle.transform.specs.Transform.{Grid, cell, four, gridColumn, transposeOf, scaledOf, passOf, lineOf, rowsOf, verticalPass, biasOf, horizontalPass, resultOf}
 
 -- a numeral between two others
@@ -177,11 +176,6 @@ small-horizontal-in e = dct-rows-in {n = 8000} {m = 32000} (lit≤ tt) (bias-in 
 
 pub small-result-in : {z : ℤ} → In (negsuc 31999) (pos 32000) z → In (negsuc 32512) (pos 32512) (resultOf false z)
 small-result-in i = In-wider (inside (know w64 (known (plainly i) ∷ []) (shr (v 0) 3) tt)) tt
-
--- a division rounds down below 0 too: -1 leaves -1
-pub rounds-down : (walsh : Bool) → resultOf walsh (negsuc 0) ≡ negsuc 0
-rounds-down true = wrap-same (numeral-in (negsuc 0) tt)
-rounds-down false = refl
 
 -- a result is an eighth of what the passes leave, at most
 pub result-in : (walsh : Bool) {z : ℤ} → In (negsuc 1200007) (pos 1200008) z → In (negsuc 150000) (pos 150001) (resultOf walsh z)

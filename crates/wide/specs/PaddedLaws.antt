@@ -43,14 +43,6 @@ unfolding paddedNext
 padded-later s r p h = part-later 7 s r (splitOf (r .range) p) (paddedBit r p) h
 
 -- ---- one question, and one part after another
-pub padded-done : {A : Type 0} (a : A) (s : List ℕ) (r : Reader) → runPadded (done a) s r ≡ (a, r)
-unfolding runPadded
-padded-done a s r = refl
-
-pub padded-ask : {A : Type 0} (p : ℕ) (k : Bool → Reading A) (s : List ℕ) (r : Reader) → runPadded (ask p k) s r ≡ runPadded (k (paddedBit r p)) s (paddedNext s r p)
-unfolding runPadded
-padded-ask p k s r = refl
-
 pub padded-then : {A B : Type 0} (m : Reading A) (f : A → Reading B) (s : List ℕ) (r : Reader) → runPadded (m >>= f) s r ≡ runPadded (f (runPadded m s r .0)) s (runPadded m s r .1)
 unfolding runPadded
 padded-then (done a) f s r = refl

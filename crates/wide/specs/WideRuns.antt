@@ -184,10 +184,6 @@ module _ {s : List ℕ} {E : ℕ × Reader} {lim k : ℕ} {ps : List ℕ} {t : L
   pub walking-last : {n o j a : ℕ} → Walking s E lim k n ps t m i w → WideReads s j o (walk m ps t i) w a q → j ≤ k → o ≤ n → Gave s E lim a q
   walking-last c h l f = going-last (c .going) h l f
 
--- the same node, said otherwise
-pub walking-as : {s : List ℕ} {E : ℕ × Reader} {lim k n : ℕ} {ps : List ℕ} {t : List ℤ} {m i j : ℕ} {w : Wide} → i ≡ j → Walking s E lim k n ps t m i w → Walking s E lim k n ps t m j w
-walking-as e c = rw e at c
-
 -- a node of two leaves, one after the other
 module _ {s : List ℕ} {E : ℕ × Reader} {lim n : ℕ} {ps : List ℕ} {t : List ℤ} {i p : ℕ} {w : Wide} {q : Bit} (k m : ℕ) (y : Bytes s) (h : p < 256) (e : getD ps i 0 ≡ p) (c : Walking s E lim (suc k + 7) n ps t (suc m) i w) (o : q ≡ wideBitOf w p) where
   pub walking-two : {x a : ℕ} → branchAt t i false ≡ B.Leaf a → branchAt t i true ≡ B.Leaf (a + 1) → x ≡ a + flags.bitOf (q .on) → Gave s E lim x (q .next)

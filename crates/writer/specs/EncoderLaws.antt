@@ -79,10 +79,6 @@ pub record Moved (e e′ : Encoder) (k : ℕ) : Type 0 where
   pub place : 8 * length (e′ .out) + e .count ≡ 8 * length (e .out) + e′ .count + k
   pub range : e′ .range ≡ e .range * 2 ^ k
 
--- a shift that writes a byte
-byte-low : (N T rest : ℕ) → N * 4294967296 + (rest * 2) ≡ (N * 256 + rest * 2 / 16777216) * 16777216 + rest * 2 % 16777216
-byte-low N T rest = omega arith
-
 one-byte : (b : ℕ) → b < 256 → Bytes (b ∷ [])
 one-byte b h zero = h
 one-byte b h (suc i) = omega arith
