@@ -1,10 +1,11 @@
 -- A block over a wide reader: what its calls promise. Its sixteen numbers stand in a longer list, from a place on, each a step after the last.
-use Prim.Native.Nat.{ℕ, zero, suc, _+_, _*_}
+use Prim.Native.Nat.{ℕ, _+_, _*_}
 use mathlib.Core.List.{List}
 use mathlib.Core.Path.{_≡_}
 use lib.IntN.{ℤ, pos}
-use lib.ListN.{getD, set}
+use lib.ListN.{getD}
 use Rattle.numbers.specs.Lists.{build}
+use Rattle.numbers.specs.Stores.{storedAt}
 use Rattle.reader.specs.Reading.{Reading}
 use Rattle.wide.specs.Counted.{counted}
 use Rattle.wide.specs.WideRuns.{WideReads}
@@ -16,14 +17,9 @@ pub use Rattle.residual.specs.declared.fast.WideBlock.{WideBlock}
 unfoldable pub spotsOf : List ℤ → (at step : ℕ) → List ℤ
 spotsOf l at step = build 16 (λ j. getD l (at + step * j) (pos 0))
 
--- l with f 0, f 1, .. f (n - 1) at the first n of these places
-unfoldable pub spaced : List ℤ → (at step : ℕ) → (f : ℕ → ℤ) → (n : ℕ) → List ℤ
-spaced l at step f zero = l
-spaced l at step f (suc n) = set (spaced l at step f n) (at + step * n) (f n)
-
 -- sixteen others put there
 abbrev pub strewn : List ℤ → (at step : ℕ) → (c : List ℤ) → List ℤ
-strewn l at step c = spaced l at step (λ j. getD c j (pos 0)) 16
+strewn l at step c = storedAt l (λ j. at + step * j) (λ j. getD c j (pos 0)) 16
 
 -- ---- the call: at most 1216 bytes are read, and the list changes in its sixteen places alone
 pub record BlockCoded (s : List ℕ) (w : Wide) (g : List ℤ → Reading Coefficients) (at step : ℕ) (old new : List ℤ) (q : WideBlock) : Type 0 where

@@ -18,6 +18,7 @@ use Rattle.numbers.specs.Know.{round}
 use Rattle.numbers.specs.Lists.{build, length-build, getD-build, build-same, build-constant, getD-constant, built}
 use Rattle.numbers.specs.Parts.{up, dn, of-le, of-eq, add-parts, sub-parts-ℤ, up-times, dn-times}
 use Rattle.numbers.specs.Tables.{allBelow, all-below}
+use Rattle.numbers.specs.StoresLaws.{length-stored, stored-off, stored-in}
 use Rattle.numbers.specs.Tests.{lt-or, eqb-true, leb-true}
 use Rattle.numbers.specs.Wrap.{wrapZ}
 use Rattle.numbers.specs.WrapLaws.{wrap-is}
@@ -40,7 +41,7 @@ use Rattle.wide.specs.WideLaws.{Sim}
 use Rattle.wide.specs.WideRuns.{WideReads, Going, going-start, going-fill, going-bit, going-as, going-weaken, going-cost, going-told, going-fresh, call-fresh, fill-fresh, going-half, reads-then, walk-asks}
 use Rattle.wide.specs.declared.wide.Bit.{Bit}
 use Rattle.wide.specs.declared.wide.Wide.{Wide}
-use Rattle.residual.specs.Fast.{WideBlock, spotsOf, spaced, strewn, BlockCoded}
+use Rattle.residual.specs.Fast.{WideBlock, spotsOf, strewn, BlockCoded}
 use Rattle.residual.specs.Residual.{sixteenAt}
 use Rattle.coefficients.specs.BlockLaws.{SixteenBits, magnitude-within, bitsOf, magnitude-costs, restOf, signOn, block-asks, rest-ends, rest-zero, rest-number, block-none}
 use Rattle.coefficients.specs.BlockSteps.{place-below, zigzag-below, context-more}
@@ -105,45 +106,17 @@ unfolding spotsOf
 spots-at l at step j h = getD-build 16 (λ j. getD l (at + step * j) (pos 0)) j (pos 0) h
 
 module _ (l : List ℤ) (at step : ℕ) where
-  pub spaced-none : (f : ℕ → ℤ) → spaced l at step f 0 ≡ l
-  unfolding spaced
-  spaced-none f = refl
-
-  pub spaced-next : (f : ℕ → ℤ) (n : ℕ) → spaced l at step f (suc n) ≡ set (spaced l at step f n) (at + step * n) (f n)
-  unfolding spaced
-  spaced-next f n = refl
-
-  pub length-spaced : (f : ℕ → ℤ) (n : ℕ) → length (spaced l at step f n) ≡ length l
-  unfolding spaced
-  length-spaced f zero = refl
-  length-spaced f (suc n) = length-set (spaced l at step f n) (at + step * n) (f n) ∙ length-spaced f n
-
-  spaced-off : (f : ℕ → ℤ) (n i : ℕ) → Between at step n i → getD (spaced l at step f n) i (pos 0) ≡ getD l i (pos 0)
-  unfolding spaced
-  spaced-off f zero i h = refl
-  spaced-off f (suc n) i h =
-      getD-set-other (spaced l at step f n) (at + step * n) i (f n) (pos 0) (h n (omega arith)) ∙ spaced-off f n i (λ j k. h j (omega arith))
-
   pub length-strewn : (c : List ℤ) → length (strewn l at step c) ≡ length l
-  length-strewn c = length-spaced (λ j. getD c j (pos 0)) 16
+  length-strewn c = length-stored l (λ j. at + step * j) (λ j. getD c j (pos 0)) 16
 
   pub strewn-off : (c : List ℤ) (i : ℕ) → Between at step 16 i → getD (strewn l at step c) i (pos 0) ≡ getD l i (pos 0)
-  strewn-off c i h = spaced-off (λ j. getD c j (pos 0)) 16 i h
+  strewn-off c i h = stored-off l (λ j. at + step * j) (λ j. getD c j (pos 0)) 16 i (pos 0) h
 
   module _ (apart : 1 ≤ step) (room : at + 15 * step < length l) where
-    spaced-in : (f : ℕ → ℤ) (n j : ℕ) → n ≤ 16 → j < n → getD (spaced l at step f n) (at + step * j) (pos 0) ≡ f j
-    unfolding spaced
-    spaced-in f zero j m h = absurd (omega arith)
-    spaced-in f (suc n) j m h = elim (ℕ-discrete j n) [
-      | yes e ↦ rw e
-          (getD-set-same (spaced l at step f n) (at + step * n) (f n) (pos 0)
-          (rw (length-spaced f n) (omega (arith, room, step-last step {j = n} (omega arith)))))
-      | no e ↦ getD-set-other (spaced l at step f n) (at + step * n) (at + step * j) (f n) (pos 0) (λ q. e (step-apart apart (omega arith)))
-          ∙ spaced-in f n j (omega arith) (omega arith)
-    ]
-
     pub strewn-in : (c : List ℤ) (j : ℕ) → j < 16 → getD (strewn l at step c) (at + step * j) (pos 0) ≡ getD c j (pos 0)
-    strewn-in c j h = spaced-in (λ j. getD c j (pos 0)) 16 j (lit≤ tt) h
+    strewn-in c j h =
+        stored-in l (λ j. at + step * j) (λ j. getD c j (pos 0)) 16 j (pos 0)
+        (λ k m. (omega (arith, room, step-last step m), λ q. step-apart apart (omega arith))) h
 
     -- two lists agree where they do in the sixteen places and outside of them
     by-spot : (x y : List ℤ) → length x ≡ length l → length y ≡ length l

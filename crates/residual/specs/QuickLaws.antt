@@ -13,13 +13,15 @@ use Rattle.numbers.specs.Flags.{bitOf}
 use Rattle.numbers.specs.In.{Each}
 use Rattle.numbers.specs.Lists.{length-build, getD-build, built, build-same, build-constant, getD-constant}
 use Rattle.numbers.specs.Runs.{placed, length-placed, placed-none, placed-next}
+use Rattle.numbers.specs.Stores.{storedAt}
+use Rattle.numbers.specs.StoresLaws.{length-stored}
 use Rattle.numbers.specs.Tests.{lt-or, eq-or, lt-ltb, le-ltb}
 use Rattle.reader.specs.BooleanLaws.{Bytes, Valid}
 use Rattle.reader.specs.Reading.{done, _>>=_}
 use Rattle.reader.specs.declared.boolean.Reader.{Reader}
 use Rattle.header.specs.declared.quantizers.Factors.{Factors}
-use Rattle.residual.specs.Fast.{spotsOf, spaced}
-use Rattle.residual.specs.FastLaws.{spaced-none, spaced-next, length-spaced, spots-same}
+use Rattle.residual.specs.Fast.{spotsOf}
+use Rattle.residual.specs.FastLaws.{spots-same}
 use Rattle.coefficients.specs.Block.{Coefficients}
 use Rattle.transform.specs.declared.Transformed.{Transformed}
 use Rattle.transform.specs.Transform.{samplesOf, transformOf}
@@ -130,20 +132,21 @@ module _ (l : List ℤ) where
   in-blocks-past x v h = build-same 384 _ _ (λ p g. getD-set-other l x (numberPlace p) v (pos 0) (λ e. omega (arith, number-below p g)))
 
 -- a block's
-pub in-blocks-spaced : (l : List ℤ) (i : ℕ) (f : ℕ → ℤ) (n : ℕ) → i < 24 → n ≤ 16 → 384 ≤ length l → inBlocks (spaced l (blockSpots i .at) (blockSpots i .step) f n) ≡ placed (inBlocks l) (16 * i) f n
-in-blocks-spaced l i f zero h g k = ap inBlocks (spaced-none l (blockSpots i .at) (blockSpots i .step) f) ∙ sym (placed-none (inBlocks l) (16 * i) f)
+pub in-blocks-spaced : (l : List ℤ) (i : ℕ) (f : ℕ → ℤ) (n : ℕ) → i < 24 → n ≤ 16 → 384 ≤ length l → inBlocks (storedAt l (λ j. blockSpots i .at + blockSpots i .step * j) f n) ≡ placed (inBlocks l) (16 * i) f n
+unfolding storedAt
+in-blocks-spaced l i f zero h g k = sym (placed-none (inBlocks l) (16 * i) f)
 in-blocks-spaced l i f (suc n) h g k =
-    let x : List ℤ = spaced l (blockSpots i .at) (blockSpots i .step) f n in
-    ap inBlocks (spaced-next l (blockSpots i .at) (blockSpots i .step) f n)
-    ∙ ap (λ (q : ℕ). inBlocks (set x q (f n))) (number-block i n (omega arith))
-    ∙ in-blocks-set x (16 * i + n) (f n) (omega arith) (rw (length-spaced l (blockSpots i .at) (blockSpots i .step) f n) k)
+    let x : List ℤ = storedAt l (λ j. blockSpots i .at + blockSpots i .step * j) f n in
+    ap (λ (q : ℕ). inBlocks (set x q (f n))) (number-block i n (omega arith))
+    ∙ in-blocks-set x (16 * i + n) (f n) (omega arith) (rw (length-stored l (λ j. blockSpots i .at + blockSpots i .step * j) f n) k)
     ∙ ap (λ (y : List ℤ). set y (16 * i + n) (f n)) (in-blocks-spaced l i f n h (omega arith) k)
     ∙ placed-next (inBlocks l) (16 * i) f n ∙ ap (placed (inBlocks l) (16 * i) f) (add-one n)
 
 -- those of the second-order block
-pub in-blocks-second : (l : List ℤ) (f : ℕ → ℤ) (n : ℕ) → inBlocks (spaced l 384 1 f n) ≡ inBlocks l
-in-blocks-second l f zero = ap inBlocks (spaced-none l 384 1 f)
-in-blocks-second l f (suc n) = ap inBlocks (spaced-next l 384 1 f n) ∙ in-blocks-past (spaced l 384 1 f n) (384 + 1 * n) (f n) (omega arith) ∙ in-blocks-second l f n
+pub in-blocks-second : (l : List ℤ) (f : ℕ → ℤ) (n : ℕ) → inBlocks (storedAt l (λ j. 384 + 1 * j) f n) ≡ inBlocks l
+unfolding storedAt
+in-blocks-second l f zero = refl
+in-blocks-second l f (suc n) = in-blocks-past (storedAt l (λ j. 384 + 1 * j) f n) (384 + 1 * n) (f n) (omega arith) ∙ in-blocks-second l f n
 
 -- the first of each block of luma
 pub in-blocks-firsts : (l dc : List ℤ) (n : ℕ) → n ≤ 16 → 384 ≤ length l → inBlocks (placed l 0 (λ j. getD dc j (pos 0)) n) ≡ spread (inBlocks l) dc n
