@@ -11,6 +11,7 @@ use lib.Dec.{ltb, leb, eqb}
 use lib.ListN.{length, getD, List·getD-eq-default}
 use Rattle.header.specs.Entries.{probabilityCount}
 use Rattle.numbers.specs.Tests.{both-left, both-right, both-true, both-false, eqb-true, ltb-true, leb-true, lt-ltb, le-ltb, le-leb, lt-leb, eq-eqb}
+use Rattle.reader.specs.declared.boolean.Reader.{Reader}
 use Rattle.reader.specs.Boolean.{validOf}
 use Rattle.reader.specs.BooleanLaws.{valid-test, valid-fact}
 use Rattle.modes.specs.Answers.{eachBelow}
@@ -23,7 +24,8 @@ use Rattle.macroblock.specs.declared.ending.Finish.the-variants as F
 use Rattle.header.specs.declared.frame.Frame.{Frame}
 use Rattle.header.specs.Frame.{levelAt}
 use Rattle.macroblock.specs.Macroblock.{Place, Readers, Around, Outcome, Planes, Step, finished, no-modes, no-tokens, MacroblockCalled, toMacroblockCalled, levelsFine, readyOf, placeFine, stepOf, macroblockCallOf, noOutcome, finishNumberOf}
-use Rattle.macroblock.specs.Asked.{Laid, Ready, FrameSizes, AroundSizes}
+use Rattle.macroblock.specs.Asked.{Laid, Ready, Legible, FrameSizes, AroundSizes}
+use Rattle.macroblock.specs.Rebuilt.{legibleOf}
 
 -- ---- levels
 pub levels-fact : (l : List ℕ) → length l ≡ 4 → levelsFine l ≡ true → (i : ℕ) → getD l i 0 ≤ 63
@@ -64,25 +66,23 @@ context-test c e f = both-true e (each-all 2 (c .flags) (λ i h. omega (arith, f
 pub frame-sized : (f : Frame) → length (f .large) ≡ 4 → length (f .small) ≡ 4 → ((i : ℕ) → Fits w8 (getD (f .announced .«map_probabilities») i 0)) → Fits w8 (f .announced .«skip_probability») → FrameSizes f
 frame-sized f e g h k = record { large = e; small = g; probabilities = record { map = λ i. h i .fits; skip = k .fits } }
 
-module _ (first tokens : List ℕ) (readers : Readers) (f : Frame) (table : List ℕ) (around : Around) where
-  pub ready-out : FrameSizes f → AroundSizes around → readyOf first tokens readers f (length table) around ≡ true → Ready first tokens readers f table around
-  unfolding readyOf
-  ready-out y z e =
+-- whoever could decode it can rebuild it
+pub ready-legible : {first tokens : List ℕ} {readers : Readers} {f : Frame} {table : List ℕ} {around : Around} → Ready first tokens readers f table around → Legible first (readers .first) f around
+ready-legible g = record { reader = g .reader; contexts = g .contexts; top = g .top; left = g .left; sound = g .sound }
+
+module _ (first : List ℕ) (r : Reader) (f : Frame) (around : Around) where
+  pub legible-out : FrameSizes f → AroundSizes around → legibleOf first r f around ≡ true → Legible first r f around
+  unfolding legibleOf
+  legible-out y z e =
       let top = around .top in
       let left = around .left in
-      let r = readers .first in
-      let t = readers .token in
-      let two = both-left (validOf first r && validOf tokens t) _ e in
-      let e1 = both-right (validOf first r && validOf tokens t) _ e in
-      let e2 = both-right (eqb (length table) probabilityCount) _ e1 in
-      let contexts = both-left (contextFine top && contextFine left) _ e2 in
-      let levels = both-right (contextFine top && contextFine left) _ e2 in
+      let rest = both-right (validOf first r) _ e in
+      let contexts = both-left (contextFine top && contextFine left) _ rest in
+      let levels = both-right (contextFine top && contextFine left) _ rest in
       let a = both-left (contextFine top) _ contexts in
       let b = both-right (contextFine top) _ contexts in
       record {
-        reader = valid-fact first r (both-left _ _ two);
-        token = valid-fact tokens t (both-right (validOf first r) _ two);
-        size = eqb-true _ _ (both-left _ _ e1);
+        reader = valid-fact first r (both-left _ _ e);
         contexts = contexts-fine top left a b;
         top = flags-of top (z .top) a;
         left = flags-of left (z .left) b;
@@ -93,16 +93,40 @@ module _ (first tokens : List ℕ) (readers : Readers) (f : Frame) (table : List
             };
       }
 
-  pub ready-test : Ready first tokens readers f table around → readyOf first tokens readers f (length table) around ≡ true
-  unfolding readyOf
-  ready-test g =
-      both-true (both-true (valid-test first (readers .first) (g .reader)) (valid-test tokens (readers .token) (g .token)))
-      (both-true (eq-eqb _ _ (g .size))
+  pub legible-test : Legible first r f around → legibleOf first r f around ≡ true
+  unfolding legibleOf
+  legible-test g =
+      both-true (valid-test first r (g .reader))
       (both-true
       (both-true
       (context-test (around .top) (both-left _ _ (g .contexts)) (g .top))
       (context-test (around .left) (both-right (eachBelow 10 (around .top .modes)) _ (g .contexts)) (g .left)))
-      (both-true (levels-test (f .large) (g .sound .levels false)) (levels-test (f .small) (g .sound .levels true)))))
+      (both-true (levels-test (f .large) (g .sound .levels false)) (levels-test (f .small) (g .sound .levels true))))
+
+module _ (first tokens : List ℕ) (readers : Readers) (f : Frame) (table : List ℕ) (around : Around) where
+  pub ready-out : FrameSizes f → AroundSizes around → readyOf first tokens readers f (length table) around ≡ true → Ready first tokens readers f table around
+  unfolding readyOf legibleOf
+  ready-out y z e =
+      let r = readers .first in
+      let t = readers .token in
+      let two = both-left (validOf first r && validOf tokens t) _ e in
+      let rest = both-right (validOf first r && validOf tokens t) _ e in
+      let l = legible-out first r f around y z (both-true {a = validOf first r} (both-left (validOf first r) _ two) (both-right (eqb (length table) probabilityCount) _ rest)) in
+      record {
+        reader = l .reader;
+        token = valid-fact tokens t (both-right (validOf first r) _ two);
+        size = eqb-true _ _ (both-left _ _ rest);
+        contexts = l .contexts;
+        top = l .top;
+        left = l .left;
+        sound = l .sound;
+      }
+
+  pub ready-test : Ready first tokens readers f table around → readyOf first tokens readers f (length table) around ≡ true
+  unfolding readyOf legibleOf
+  ready-test g =
+      both-true (both-true (valid-test first (readers .first) (g .reader)) (valid-test tokens (readers .token) (g .token)))
+      (both-true (eq-eqb _ _ (g .size)) (both-right (validOf first (readers .first)) _ (legible-test first (readers .first) f around (ready-legible g))))
 
 -- ---- where it is painted
 -- as the code finds it

@@ -7,10 +7,10 @@ use native.Mathlib.Omega.{arith}
 use lib.IntN.{ℤ, pos}
 use lib.ListN.{length, replicate, length-replicate}
 use Rattle.numbers.specs.Lists.{getD-constant}
-use Rattle.numbers.specs.Tests.{both-left, both-right, both-true, both-false}
+use Rattle.numbers.specs.Tests.{both-true, both-false}
 use Rattle.reader.specs.declared.boolean.Reader.{Reader}
-use Rattle.reader.specs.Boolean.{Given, given, missing, validOf}
-use Rattle.reader.specs.BooleanLaws.{Bytes, Valid, valid-test, valid-fact}
+use Rattle.reader.specs.Boolean.{Given, given, missing}
+use Rattle.reader.specs.BooleanLaws.{Bytes, Valid}
 use Rattle.reader.specs.Reading.{run}
 use Rattle.reader.specs.ReadingLaws.{ReadTo, run-valid}
 use Rattle.header.specs.declared.frame.Frame.{Frame}
@@ -20,19 +20,16 @@ use Rattle.filter.specs.Strengths.{strengthFine}
 use Rattle.filter.specs.StrengthsLaws.{strength-fine}
 use Rattle.modes.specs.Modes.{Macroblock, modesOf}
 use Rattle.modes.specs.ModesLaws.{InRange, modes-within}
-use Rattle.modes.specs.Answers.{eachBelow}
-use Rattle.modes.specs.Contexts.{contextFine}
-use Rattle.modes.specs.ContextsLaws.{contexts-fine}
 use Rattle.transform.specs.Lanes.{macroblockBlocks}
 use Rattle.transform.specs.LanesLaws.{blocks-of-squares, squares-zeros}
 use Rattle.residual.specs.Residual.{ModelInRange, Flags}
 use Rattle.residual.specs.ResidualLaws.{initial-whole}
 use Rattle.macroblock.specs.declared.ending.Finish.the-variants as F
-use Rattle.macroblock.specs.Macroblock.{Place, Readers, Around, Outcome, Planes, Finished, Step, finished, no-modes, no-tokens, toMacroblockCalled, strengthMade, endOf, afterModes, noOutcome, levelsFine, placeFine}
+use Rattle.macroblock.specs.Macroblock.{Place, Readers, Around, Outcome, Planes, Finished, Step, finished, no-modes, no-tokens, toMacroblockCalled, strengthMade, endOf, afterModes, noOutcome, placeFine}
 use Rattle.macroblock.specs.Ending.{residueOf, macroblockEnded}
-use Rattle.macroblock.specs.Asked.{Laid, Ready, Legible, FrameSizes, AroundSizes}
+use Rattle.macroblock.specs.Asked.{Laid, Legible}
 use Rattle.macroblock.specs.MacroblockLaws.{painting, complete-good}
-use Rattle.macroblock.specs.DecodeLaws.{flags-of, context-test, levels-fact, levels-test, levels-of, laid-test}
+use Rattle.macroblock.specs.DecodeLaws.{legible-test, laid-test}
 use Rattle.macroblock.specs.StepLaws.{Ends, Elsewhere, finished-is, apart, end-ends, end-outside}
 use Rattle.macroblock.specs.Rebuilt.{noResidual, rebuiltOf, legibleOf, rebuildCallOf}
 
@@ -46,44 +43,6 @@ no-residual = initial-whole no-flags no-flags
 -- by lanes it is zeros too
 pub no-lanes : macroblockBlocks (replicate 384 (pos 0)) ≡ replicate 384 (pos 0)
 no-lanes = ap macroblockBlocks (squares-zeros {l = replicate 384 (pos 0)} {c = replicate 384 (pos 0)} refl refl) ∙ blocks-of-squares (replicate 384 (pos 0)) (length-replicate 384 (pos 0))
-
--- ---- what is read, and what it is read by
--- whoever could decode it can rebuild it
-pub ready-legible : {first tokens : List ℕ} {readers : Readers} {f : Frame} {table : List ℕ} {around : Around} → Ready first tokens readers f table around → Legible first (readers .first) f around
-ready-legible g = record { reader = g .reader; contexts = g .contexts; top = g .top; left = g .left; sound = g .sound }
-
-module _ (first : List ℕ) (r : Reader) (f : Frame) (around : Around) where
-  pub legible-out : FrameSizes f → AroundSizes around → legibleOf first r f around ≡ true → Legible first r f around
-  unfolding legibleOf
-  legible-out y z e =
-      let top = around .top in
-      let left = around .left in
-      let rest = both-right (validOf first r) _ e in
-      let contexts = both-left (contextFine top && contextFine left) _ rest in
-      let levels = both-right (contextFine top && contextFine left) _ rest in
-      let a = both-left (contextFine top) _ contexts in
-      let b = both-right (contextFine top) _ contexts in
-      record {
-        reader = valid-fact first r (both-left _ _ e);
-        contexts = contexts-fine top left a b;
-        top = flags-of top (z .top) a;
-        left = flags-of left (z .left) b;
-        sound =
-            record {
-              levels = levels-of f (levels-fact (f .large) (y .large) (both-left _ _ levels)) (levels-fact (f .small) (y .small) (both-right (levelsFine (f .large)) _ levels));
-              announced = y .probabilities;
-            };
-      }
-
-  pub legible-test : Legible first r f around → legibleOf first r f around ≡ true
-  unfolding legibleOf
-  legible-test g =
-      both-true (valid-test first r (g .reader))
-      (both-true
-      (both-true
-      (context-test (around .top) (both-left _ _ (g .contexts)) (g .top))
-      (context-test (around .left) (both-right (eachBelow 10 (around .top .modes)) _ (g .contexts)) (g .left)))
-      (both-true (levels-test (f .large) (g .sound .levels false)) (levels-test (f .small) (g .sound .levels true))))
 
 -- ---- as the code makes it: of coefficients that are zeros by lanes
 pub bare-done : (f : Frame) (place : Place) (p : Planes) (m : Macroblock) (next token : Reader) → Sound f → Laid place p → InRange m

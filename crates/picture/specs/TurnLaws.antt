@@ -25,7 +25,8 @@ use Rattle.macroblock.specs.declared.arguments.SymbolCounts.{SymbolCounts}
 use Rattle.macroblock.specs.Counts.{readsOf, decodeReads}
 use Rattle.macroblock.specs.CountsLaws.{reads-good}
 use Rattle.macroblock.specs.DecodeLaws.{decode-good}
-use Rattle.macroblock.specs.StepLaws.{step-ends, step-outside}
+use Rattle.macroblock.specs.StepLaws as step
+use Rattle.macroblock.specs.StepLaws.{Elsewhere, step-ends, step-outside}
 use Rattle.macroblock.specs.StepRecords.{step-strength}
 use Rattle.macroblock.specs.declared.ending.Outcome.{Outcome}
 use Rattle.macroblock.specs.declared.arguments.Place.{Place}
@@ -74,12 +75,9 @@ pub record Ends (first tokens : List ℕ) (p : Planes) (x : Finished) : Type 0 w
   pub u : length (x .planes .u) ≡ length (p .u)
   pub v : length (x .planes .v) ≡ length (p .v)
 
-pub ends-of : (first tokens : List ℕ) (readers : Readers) (f : Frame) (table : List ℕ) (around : Around) (place : Place) (p : Planes)
-    → Ready first tokens readers f table around → Laid place p → Bytes first → Bytes tokens → Bytes table
-    → (x : Finished) → stepOf first tokens readers f table around place p ≡ finished x → Ends first tokens p x
-ends-of first tokens readers f table around place p g l a b c x e =
-    let z = step-ends first tokens readers f table around place p g a b c e in
-    let o = step-outside first tokens readers f table around place p g a b c e l in
+pub ends-from : {first tokens : List ℕ} {readers : Readers} {place : Place} {p : Planes} {x : Finished}
+    → step.Ends first tokens readers x → Elsewhere place p (x .planes) → strengthFine (x .strength) ≡ true → Ends first tokens p x
+ends-from {x} z o s =
     record {
       reader = z .first;
       token = z .token;
@@ -89,11 +87,18 @@ ends-of first tokens readers f table around place p g l a b c x e =
       top-sized = z .top-sized;
       left = z .left;
       left-sized = z .left-sized;
-      strength = step-strength first tokens readers f table around place p (g .sound) e;
+      strength = s;
       y = o .y .long;
       u = o .u .long;
       v = o .v .long;
     }
+
+pub ends-of : (first tokens : List ℕ) (readers : Readers) (f : Frame) (table : List ℕ) (around : Around) (place : Place) (p : Planes)
+    → Ready first tokens readers f table around → Laid place p → Bytes first → Bytes tokens → Bytes table
+    → (x : Finished) → stepOf first tokens readers f table around place p ≡ finished x → Ends first tokens p x
+ends-of first tokens readers f table around place p g l a b c x e =
+    ends-from (step-ends first tokens readers f table around place p g a b c e) (step-outside first tokens readers f table around place p g a b c e l)
+    (step-strength first tokens readers f table around place p (g .sound) e)
 
 -- as the code puts it together
 abbrev pub afterOf : Readers → Outcome → Planes → (columns modes strengths : List ℕ) → Turned

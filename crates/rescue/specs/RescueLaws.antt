@@ -11,19 +11,17 @@ use Rattle.reader.specs.Boolean.{noReader}
 use Rattle.reader.specs.BooleanLaws.{Bytes, Valid}
 use Rattle.header.specs.declared.frame.Frame.{Frame}
 use Rattle.modes.specs.declared.contexts.Context.{Context}
-use Rattle.modes.specs.ModesLaws.{modes-test}
 use Rattle.lent.specs.Memory.{Memory, sizesOf}
-use Rattle.lent.specs.MacroblocksLaws.{kinds-fine}
 use Rattle.lent.specs.Records.{columnAt}
 use Rattle.tile.specs.Checks.{blocksOf}
 use Rattle.macroblock.specs.declared.arguments.Place.{Place}
 use Rattle.macroblock.specs.declared.arguments.Readers.{Readers}
 use Rattle.macroblock.specs.declared.arguments.Around.{Around}
 use Rattle.macroblock.specs.Macroblock.{Planes, Finished, Step, finished, no-modes, no-tokens, MacroblockCalled, toMacroblockCalled}
-use Rattle.macroblock.specs.Asked.{Laid}
+use Rattle.macroblock.specs.Asked.{Laid, Legible}
 use Rattle.macroblock.specs.Rebuilt.{rebuiltOf, rebuildCallOf}
-use Rattle.macroblock.specs.Asked.{Legible}
-use Rattle.macroblock.specs.RebuiltLaws.{ready-legible, rebuild-good, rebuilt-never, rebuilt-ends, rebuilt-outside, rebuilt-strength, withToken, rebuilt-token, rebuilt-token-none}
+use Rattle.macroblock.specs.DecodeLaws.{ready-legible}
+use Rattle.macroblock.specs.RebuiltLaws.{rebuild-good, rebuilt-never, rebuilt-ends, rebuilt-outside, rebuilt-strength, withToken, rebuilt-token, rebuilt-token-none}
 use Rattle.macroblock.specs.StepLaws.{Elsewhere}
 use Rattle.choices.specs.declared.answer.Decoded.the-variants as D
 use Rattle.choices.specs.Checks.{Call}
@@ -31,7 +29,7 @@ use Rattle.choices.specs.Answer.{valuesOf}
 use Rattle.choices.specs.Beside.{besideOf}
 use Rattle.picture.specs.Picture.{Picture, State, picturedOf, columnOf, partitionOf, planesIn, placeOf, readersAt, aroundAt, written, nextOf}
 use Rattle.picture.specs.Turn.{Turned, turned}
-use Rattle.picture.specs.TurnLaws.{Ends}
+use Rattle.picture.specs.TurnLaws.{Ends, ends-from}
 use Rattle.picture.specs.Live.{Shared, Live}
 use Rattle.picture.specs.PictureLaws.{live-next, column-below, partition-below, laid-at, ready-at}
 use Rattle.picture.specs.Halt.{Halted, haltedOf}
@@ -55,22 +53,8 @@ pub ends-rebuilt : (first tokens : List ℕ) (readers : Readers) (f : Frame) (ar
     → Legible first (readers .first) f around → Laid place p → Bytes first → Valid tokens (readers .token)
     → (x : Finished) → rebuiltOf first readers f around place p ≡ finished x → Ends first tokens p x
 ends-rebuilt first tokens readers f around place p g l a v x e =
-    let z = rebuilt-ends first readers f around place p g a e tokens v in
-    let o = rebuilt-outside first readers f around place p g a e tokens v l in
-    record {
-      reader = z .first;
-      token = z .token;
-      kinds = kinds-fine (x .modes) (z .modes);
-      modes = modes-test (x .modes .modes) (λ j. z .modes .luma .each j);
-      top = z .top;
-      top-sized = z .top-sized;
-      left = z .left;
-      left-sized = z .left-sized;
-      strength = rebuilt-strength first readers f around place p g a e;
-      y = o .y .long;
-      u = o .u .long;
-      v = o .v .long;
-    }
+    ends-from (rebuilt-ends first readers f around place p g a e tokens v) (rebuilt-outside first readers f around place p g a e tokens v l)
+    (rebuilt-strength first readers f around place p g a e)
 
 -- ---- macroblock k in its place
 -- written out

@@ -3,9 +3,9 @@ use mathlib.Core.Bool.{true}
 use mathlib.Core.Path.{_≡_, sym, _∙_}
 use borrow.Author.Tests.{not-true, not-false}
 use Rattle.macroblock.specs.Macroblock.{placeFine}
-use Rattle.macroblock.specs.DecodeLaws.{laid-out}
+use Rattle.macroblock.specs.DecodeLaws.{legible-out, laid-out}
 use Rattle.macroblock.specs.Rebuilt.{legibleOf}
-use Rattle.macroblock.specs.RebuiltLaws.{legible-out, rebuild-passed, rebuild-illegible, rebuild-unlaid}
+use Rattle.macroblock.specs.RebuiltLaws.{rebuild-passed, rebuild-illegible, rebuild-unlaid}
 use borrow.Author.Needs.{needs}
 use Rattle.rebuilt.proofs.rebuild.Statement.{statement}
 use Rattle.rebuilt.proofs.rebuild.Tie as tie
