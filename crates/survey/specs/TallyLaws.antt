@@ -418,36 +418,17 @@ pub by-tables : (P : ℕ → Type 0) → ((y : ℕ) → y < 8 → P y) → ((y :
     → ((y : ℕ) → y < 2 → P (23 + y)) → ((y : ℕ) → y < 10 → P (25 + y)) → P 35 → P 36 → (i : ℕ) → i < 37 → P i
 by-tables P a b c d e f g p q i h = elim (lt-or i 8) [
   | inl k ↦ a i k
-  | inr j ↦
-      elim (lt-or i 12) [
-        | inl k ↦ at 8 (i - 8) (omega arith) (b (i - 8) (omega arith))
-        | inr j ↦
-            elim (lt-or i 17) [
-              | inl k ↦ at 12 (i - 12) (omega arith) (c (i - 12) (omega arith))
-              | inr j ↦
-                  elim (lt-or i 21) [
-                    | inl k ↦ at 17 (i - 17) (omega arith) (d (i - 17) (omega arith))
-                    | inr j ↦
-                        elim (lt-or i 23) [
-                          | inl k ↦ at 21 (i - 21) (omega arith) (e (i - 21) (omega arith))
-                          | inr j ↦
-                              elim (lt-or i 25) [
-                                | inl k ↦ at 23 (i - 23) (omega arith) (f (i - 23) (omega arith))
-                                | inr j ↦
-                                    elim (lt-or i 35) [
-                                      | inl k ↦ at 25 (i - 25) (omega arith) (g (i - 25) (omega arith))
-                                      | inr j ↦
-                                          elim (lt-or i 36) [ inl k ↦ at 35 0 (omega arith) p | inr j ↦ at 36 0 (omega arith) q ]
-                                    ]
-                              ]
-                        ]
-                  ]
-            ]
-      ]
+  | inr k ↦ table 8 4 b (table 12 5 c (table 17 4 d (table 21 2 e (table 23 2 f (table 25 10 g last))))) k
 ]
   where
     at : (n k : ℕ) → i ≡ n + k → P (n + k) → P i
     at n k e x = subst P (sym e) x
+
+    table : (from rows : ℕ) → ((y : ℕ) → y < rows → P (from + y)) → (from + rows ≤ i → P i) → from ≤ i → P i
+    table from rows here later k = elim (lt-or i (from + rows)) [ inl j ↦ at from (i - from) (omega arith) (here (i - from) (omega arith)) | inr j ↦ later j ]
+
+    last : 35 ≤ i → P i
+    last k = elim (lt-or i 36) [ inl j ↦ at 35 0 (omega arith) p | inr j ↦ at 36 0 (omega arith) q ]
 
 -- ---- the picture's counts, as the code makes them
 module _ (number n : ℕ) (reads : SymbolCounts) (modes strengths : List ℕ) where

@@ -22,14 +22,12 @@ tally-requires c κs =
 
 returns-2 : tie.Need-returns-2
 returns-2 c =
-    let sum = c .before .before .before in
-    let counts = sum .before .before .before in
-    let k = counts .before .before .before in
+    let k = c .before .before .before .before .before .before .before .before .before in
     let d = k .before .before .before .before .before .before .before .before .before .before .before .before .before .before .before in
     let room = d .before .before .before .before .before .before .before in
     let s = room .before .before .before .before .before .before .before .before .before in
     survey-found (call s) (lent s) (s .args .counts .now) (room .if1 .left) (d .decode .ensures .0) (d .decode .ensures .1)
-    (k .before .number .ensures) (k .finished .ensures) (counts .tally .ensures) (sum .add .ensures) _ (c .told .ensures)
+    (k .before .number .ensures) (k .finished .ensures) (c .before .before .before .before .before .before .tally .ensures) (c .before .before .before .add .ensures) _ (c .told .ensures)
 
 pub survey-spec : {M : Type 1} → statement M
 survey-spec = tie.close (tie.spec returns (λ c κs. search needs) (λ c κs. search needs) (λ c κs. search needs) tally-requires (λ c. search needs) (λ c κs. search needs) (λ c κs. search needs) (λ c. search needs) (λ c. search needs) (λ c. search needs) (λ c. search needs) (λ c. search needs) (λ c. search needs) (λ c. search needs) returns-2)

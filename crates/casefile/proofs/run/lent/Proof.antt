@@ -9,15 +9,12 @@ use borrow.Author.Needs.{needs}
 use Rattle.casefile.proofs.run.lent.Statement.{statement}
 use Rattle.casefile.proofs.run.lent.Tie as tie
 
--- places: behind the sizes, behind the arrays, at the call
+-- places: behind the sizes, behind the arrays
 abbrev sized : tie.After-records3 → tie.After-area3
 sized c = c .before .before .before .before .before .before
 
 abbrev made : tie.After-strengths → tie.After-records3
 made c = c .before .before .before .before .before .before
-
-abbrev called : tie.After-strengths2 → tie.After-strengths
-called c = c .before .before .before .before .before .before .before
 
 most : (m n : ℕ) {l : List ℕ} → l ≡ replicate m 165 → n ≤ m → n ≤ 4096 → length (take n l) ≤ 4096
 most m n e h g = rw (sym (part-long m 165 n e h)) g
@@ -108,7 +105,7 @@ told-requires c κs =
 
 returns : tie.Need-returns
 returns c =
-    let a = made (called c) in
+    let a = made (c .before .before .before .before .before .before .before) in
     let z = sized a in
     let s = z .before .before .before .before in
     report-is _ (c .before .before .before .before .before .before .told .ensures)

@@ -11,16 +11,14 @@ use Rattle.lent.proofs.macroblocks.write_strength.Tie as tie
 
 returns : tie.Need-returns
 returns c =
-    let d = c .before .before in
-    let e = d .before .before .before in
+    let e = c .before .before .before .before .before in
     let g = e .before .before in
     let a = g .before .before .args in
     let t = a .t in
-    let k = a .kinds in
     written-as strengthWidth (a .mem .now) (a .i) refl
-    (ap (λ (f : Bool). f && ltb (k .segment) 4) (e .strength-fine .ensures))
-    (ap (λ (n : ℕ). t .limit ∷ t .inner ∷ t .threshold ∷ t .inside ∷ k .segment ∷ n ∷ []) (g .bit .ensures))
-    (d .write .ensures)
+    (ap (λ (f : Bool). f && ltb (a .kinds .segment) 4) (e .strength-fine .ensures))
+    (ap (λ (n : ℕ). t .limit ∷ t .inner ∷ t .threshold ∷ t .inside ∷ a .kinds .segment ∷ n ∷ []) (g .bit .ensures))
+    (c .before .before .write .ensures)
 
 pub write-strength-spec : {M : Type 1} → statement M
 write-strength-spec = tie.close (tie.spec (λ c κs. search needs) (λ c κs. search needs) (λ c. search needs) (λ c κs. search needs) (λ c. search needs) returns)

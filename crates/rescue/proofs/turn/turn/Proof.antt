@@ -99,12 +99,11 @@ same-length-10 c = search needs
 
 returns-2 : tie.Need-returns-2
 returns-2 c =
-    let w = c .before .before in
-    let o = w .before .before .before .before in
+    let o = c .before .before .before .before .before .before in
     let q = o .before .before .before .before .before in
     let t = q .before .before .before .before .before .before .before .before in
     let d = t .before .before .before .before .before .before .before .before in
-    turn-done _ _ _ (before d) (t .answer .given .1) (start d .pre .1 .1 .1) (q .write-column .ensures) (o .write-mode-record .ensures) (w .write-strength .ensures) (step d) (answer d) (ends d)
+    turn-done _ _ _ (before d) (t .answer .given .1) (start d .pre .1 .1 .1) (q .write-column .ensures) (o .write-mode-record .ensures) (c .before .before .write-strength .ensures) (step d) (answer d) (ends d)
 
 pub turn-spec : {M : Type 1} → statement M
 turn-spec =

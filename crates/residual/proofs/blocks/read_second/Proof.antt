@@ -52,16 +52,13 @@ same-length c = search needs
 
 returns-2 : tie.Need-returns-2
 returns-2 c =
-    let d = c .before .before .before in
-    let t = d .before .before .before .before in
+    let t = c .before .before .before .before .before .before .before in
     let x = t .before .before .before .before .before in
-    let n = x .before .before in
-    let k = n .before in
+    let k = x .before .before .before in
     let b = k .before .before .before in
-    let a = b .args in
-    second-read (a .s .now) (a .table .now) (a .f) (a .m) (a .flat .now) (k .second-kind .ensures) (n .context-at .ensures .0) (part x)
+    second-read (b .args .s .now) (b .args .table .now) (b .args .f) (b .args .m) (b .args .flat .now) (k .second-kind .ensures) (x .before .before .context-at .ensures .0) (part x)
     (b .pre .reader) (λ i. k .before .before .shared-slice-known .given i .fits) (λ i. k .before .shared-slice-known2 .given i .fits)
-    (t .before .before .before .answer .given .1) (t .transform .ensures) (d .spread .ensures) (c .passed .ensures)
+    (t .before .before .before .answer .given .1) (t .transform .ensures) (c .before .before .before .spread .ensures) (c .passed .ensures)
 
 pub read-second-spec : {M : Type 1} → statement M
 read-second-spec =
