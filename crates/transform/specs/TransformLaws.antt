@@ -1,5 +1,5 @@
 -- What callers cite of the inverse transforms.
-use mathlib.Core.Path.{_≡_, refl, sym}
+use mathlib.Core.Path.{_≡_, refl, sym, ap, _∙_}
 use mathlib.Core.Bool.{Bool, true, false, _&&_}
 use mathlib.Core.List.{List, [], _∷_}
 use mathlib.Core.Logic.{inl, inr}
@@ -8,17 +8,17 @@ use native.Mathlib.Decide.{ℕ-discrete}
 use native.Mathlib.Omega.{arith}
 use lib.Dec.{T, ltb, lit<}
 use lib.IntN.{ℤ, pos, negsuc, _+ℤ_, _-ℤ_, _*ℤ_, +ℤ-idr}
-use lib.ListN.{length, replicate}
+use lib.ListN.{getD, replicate}
 use lib.Signed.{leZ, shrZ}
 use Rattle.numbers.specs.In.{In, Each, Each2}
 use Rattle.numbers.specs.Parts.{up, dn, of-le, le-true, true-le, add-parts, sub-parts-ℤ, up-times, dn-times, shr-parts}
 use Rattle.numbers.specs.Floor.{floor-is}
 use Rattle.numbers.specs.Bounds.{each-[], each-∷, each2-[], each2-∷}
-use Rattle.numbers.specs.Lists.{build, build-listed, length-build, getD-build, getD-build-past, getD-constant, _∷≡_}
+use Rattle.numbers.specs.Lists.{build, build-listed, getD-build, getD-build-past, getD-constant, _∷≡_}
 use Rattle.numbers.specs.Tables.{allBelow, all-below}
 use Rattle.numbers.specs.Tests.{lt-or, both-true, both-left, both-right, cond-at, not-so}
 use Rattle.numbers.specs.WrapLaws.{wrap-in}
-use Rattle.transform.specs.Transform.{Transformed, Grid, at, cell, four, gridRow, gridOf, transposeOf, scaledOf, passOf, rowsOf, verticalPass, biasOf, horizontalPass, resultOf, resultsOf, samplesOf, fits16, blockFits, transformOf}
+use Rattle.transform.specs.Transform.{Transformed, Grid, at, cell, four, gridRow, gridOf, transposeOf, scaledOf, passOf, lineOf, rowsOf, verticalPass, biasOf, horizontalPass, resultOf, resultsOf, samplesOf, fits16, blockFits, transformOf}
 pub use Rattle.transform.specs.Pieces.{CoefficientsIn}
 use Rattle.transform.specs.Pieces.{PlainTo}
 use Rattle.transform.specs.TransformBounds.{numeral-in, vertical-in, horizontal-in, result-in, small-vertical-in, small-horizontal-in, small-result-in}
@@ -63,6 +63,12 @@ unfolding transposeOf
 transpose-at g =
     below-four (λ x. (y : ℕ) → y < 4 → cell (transposeOf g) x y ≡ cell g y x) (below-four _ refl refl refl refl) (below-four _ refl refl refl refl)
     (below-four _ refl refl refl refl) (below-four _ refl refl refl refl)
+
+-- the first pass, from the four lines of the grid turned, and those turned back
+pub vertical-lines : (walsh : Bool) (g : Grid) {t r : Grid} {a b c d : List ℤ} → t ≡ transposeOf g → a ≡ lineOf walsh (pos 0) (getD t 0 []) → b ≡ lineOf walsh (pos 0) (getD t 1 [])
+    → c ≡ lineOf walsh (pos 0) (getD t 2 []) → d ≡ lineOf walsh (pos 0) (getD t 3 []) → r ≡ transposeOf (a ∷ b ∷ c ∷ d ∷ []) → r ≡ verticalPass walsh g
+unfolding rowsOf verticalPass
+vertical-lines walsh g e a b c d f = f ∙ ap transposeOf (a ∷≡ b ∷≡ c ∷≡ d ∷≡ refl) ∙ ap (λ (t : Grid). transposeOf (rowsOf walsh (pos 0) t)) e
 
 -- ---- coefficients
 -- what both tests say
@@ -160,10 +166,6 @@ module _ (c : List ℤ) where
   answer : (walsh : Bool) (P : List ℤ → Type 0) → (CoefficientsIn c → P (samplesOf walsh c)) → P (replicate 16 (pos 0)) → P (transformOf c walsh .samples)
   unfolding transformOf
   answer walsh P f z = cond-at (blockFits c) (λ (t : Transformed). P (t .samples)) (λ e. f (good-fit e)) (λ e. z)
-
-  pub length-transform : (walsh : Bool) → length (transformOf c walsh .samples) ≡ 16
-  unfolding samplesOf resultsOf
-  length-transform walsh = answer walsh (λ l. length l ≡ 16) (λ f. length-build 16 _) refl
 
   zeros-in : {l h : ℤ} → T (leZ l (pos 0) && leZ (pos 0) h) → Each l h (replicate 16 (pos 0))
   zeros-in t = record { at = λ k. rw (getD-constant 16 k (pos 0)) (numeral-in (pos 0) t) }

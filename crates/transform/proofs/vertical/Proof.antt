@@ -1,14 +1,12 @@
 -- `vertical` meets its contract, column by column: the columns of coefficients that fit lie within what a line takes.
 use mathlib.Core.List.{[]}
-use mathlib.Core.Path.{refl, ap, _∙_}
 use Prim.Native.Nat.{ℕ}
 use borrow.Author.Needs.{needs}
 use lib.IntN.{pos, negsuc}
 use lib.ListN.{getD}
 use Rattle.numbers.specs.In.{In, Each, Each2}
-use Rattle.numbers.specs.Lists.{_∷≡_}
-use Rattle.transform.specs.Transform.{Grid, transposeOf, rowsOf, verticalPass}
 use Rattle.transform.specs.TransformBounds.{numeral-in, near-zero, each2-wider, transpose-in}
+use Rattle.transform.specs.TransformLaws.{vertical-lines}
 use Rattle.transform.proofs.vertical.Statement.{statement}
 use Rattle.transform.proofs.vertical.Tie as tie
 
@@ -19,15 +17,9 @@ ask s x =
     (record { at = e .at x }, numeral-in _ tt)
 
 returns : tie.Need-returns
-unfolding rowsOf verticalPass
 returns c =
-    let c4 = c .before in
-    let c3 = c4 .before .before in
-    let c2 = c3 .before .before in
-    let c1 = c2 .before .before in
-    let s = c1 .before .before in
-    let e = c1 .line .ensures ∷≡ c2 .line2 .ensures ∷≡ c3 .line3 .ensures ∷≡ c4 .line4 .ensures ∷≡ refl in
-    c .transpose2 .ensures ∙ ap transposeOf e ∙ ap (λ (t : Grid). transposeOf (rowsOf (s .before .args .walsh) (pos 0) t)) (s .transpose .ensures)
+    vertical-lines _ _ (c .before .before .before .before .before .before .before .before .before .transpose .ensures) (c .before .before .before .before .before .before .before .line .ensures) (c .before .before .before .before .before .line2 .ensures)
+    (c .before .before .before .line3 .ensures) (c .before .line4 .ensures) (c .transpose2 .ensures)
 
 pub vertical-spec : {M : Type 1} → statement M
 vertical-spec =

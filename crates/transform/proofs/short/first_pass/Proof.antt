@@ -1,15 +1,13 @@
 -- `first_pass` meets its contract, column by column.
 use mathlib.Core.Bool.{false}
 use mathlib.Core.List.{[]}
-use mathlib.Core.Path.{refl, ap, _∙_}
 use Prim.Native.Nat.{ℕ}
 use borrow.Author.Needs.{needs}
 use lib.IntN.{pos, negsuc}
 use lib.ListN.{getD}
 use Rattle.numbers.specs.In.{In, Each, Each2}
-use Rattle.numbers.specs.Lists.{_∷≡_}
-use Rattle.transform.specs.Transform.{Grid, transposeOf, rowsOf, verticalPass}
 use Rattle.transform.specs.TransformBounds.{numeral-in, near-zero, each2-wider, transpose-in}
+use Rattle.transform.specs.TransformLaws.{vertical-lines}
 use Rattle.transform.proofs.short.first_pass.Statement.{statement}
 use Rattle.transform.proofs.short.first_pass.Tie as tie
 
@@ -20,15 +18,9 @@ ask s x =
     (record { at = e .at x }, numeral-in _ tt)
 
 returns : tie.Need-returns
-unfolding rowsOf verticalPass
 returns c =
-    let c4 = c .before in
-    let c3 = c4 .before .before in
-    let c2 = c3 .before .before in
-    let c1 = c2 .before .before in
-    let s = c1 .before .before in
-    let e = c1 .short-line .ensures ∷≡ c2 .short-line2 .ensures ∷≡ c3 .short-line3 .ensures ∷≡ c4 .short-line4 .ensures ∷≡ refl in
-    c .turned2 .ensures ∙ ap transposeOf e ∙ ap (λ (t : Grid). transposeOf (rowsOf false (pos 0) t)) (s .turned .ensures)
+    vertical-lines false _ (c .before .before .before .before .before .before .before .before .before .turned .ensures) (c .before .before .before .before .before .before .before .short-line .ensures) (c .before .before .before .before .before .short-line2 .ensures)
+    (c .before .before .before .short-line3 .ensures) (c .before .short-line4 .ensures) (c .turned2 .ensures)
 
 pub first-pass-spec : {M : Type 1} → statement M
 first-pass-spec =
