@@ -9,7 +9,7 @@ use lib.Signed.{leZ}
 use Rattle.numbers.specs.Lists.{build}
 use Rattle.numbers.specs.Wrap.{wrapZ}
 use Rattle.reader.specs.declared.boolean.Reader.{Reader}
-use Rattle.reader.specs.Boolean.{Given, given, missing, validOf, noReader}
+use Rattle.reader.specs.Boolean.{Given, given, missing, validOf}
 use Rattle.reader.specs.declared.extra.Number.{Number}
 use Rattle.reader.specs.Extra.{extra, toNumber}
 use Rattle.header.specs.Entries.{coefficientProbability, entryCount, probabilityCount}
@@ -216,26 +216,14 @@ tableOf h =
       | false ↦ record { answer = H.Refused; bytes = replicate probabilityCount 0 }
     ]
 
--- ---- the answers as numbers and values: 7 where the tokens run out, 9 for a refusal, whose values are zero
+-- ---- the answers' numbers: 7 where the tokens run out, 9 for a refusal
 abbrev pub blockNumberOf : Block → ℕ
 blockNumberOf (B.Ended n r) = 0
 blockNumberOf B.Missing = 7
 blockNumberOf B.Refused = 9
-
--- the position after the block, and the reader after it
-abbrev pub blockValuesOf : Block → ℕ × Reader
-blockValuesOf (B.Ended n r) = (n, r)
-blockValuesOf B.Missing = (0, noReader)
-blockValuesOf B.Refused = (0, noReader)
 
 -- the number of `dequant`
 abbrev pub signedNumberOf : Signed → ℕ
 signedNumberOf (S.Value v r) = 0
 signedNumberOf S.Missing = 7
 signedNumberOf S.Refused = 9
-
--- its value, and the reader after it
-abbrev pub signedValuesOf : Signed → ℤ × Reader
-signedValuesOf (S.Value v r) = (v, r)
-signedValuesOf S.Missing = (pos 0, noReader)
-signedValuesOf S.Refused = (pos 0, noReader)

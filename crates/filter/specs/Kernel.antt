@@ -153,11 +153,6 @@ abbrev pub pixelNumberOf : Pixel → ℕ
 pixelNumberOf (Value x) = 0
 pixelNumberOf Refused = 9
 
--- The answer's value: 0 where it is refused.
-abbrev pub pixelValuesOf : Pixel → ℕ
-pixelValuesOf (Value x) = x
-pixelValuesOf Refused = 0
-
 -- Every sample is a byte, as a fact.
 abbrev pub Bytes : List ℕ → Type 0
 Bytes e = (i : ℕ) → getD e i 0 < 256

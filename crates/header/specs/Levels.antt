@@ -33,8 +33,3 @@ levelAnswer h segment small = elim (headerOf h && ltb segment 4) [ true ↦ L.Of
 abbrev pub levelNumberOf : Level → ℕ
 levelNumberOf (L.Of n) = 0
 levelNumberOf L.Refused = 9
-
--- the answer's value: 0 where it is refused
-abbrev pub levelValuesOf : Level → ℕ
-levelValuesOf (L.Of n) = n
-levelValuesOf L.Refused = 0

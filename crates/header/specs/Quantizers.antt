@@ -84,8 +84,3 @@ quantizersNumberOf Q.Refused = 9
 -- what stands for the factors after a refusal: zeros
 abbrev pub noFactors : Factors
 noFactors = record { ydc = 0; yac = 0; y2dc = 0; y2ac = 0; uvdc = 0; uvac = 0 }
-
--- the answer's factors: zeros where it is refused
-abbrev pub quantizersValuesOf : Quantizers → Factors
-quantizersValuesOf (Q.Ready f) = f
-quantizersValuesOf Q.Refused = noFactors

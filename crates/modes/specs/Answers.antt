@@ -1,4 +1,4 @@
--- What the calls answer: the grammars run over a reader, with the checks of the arguments; and the answers as numbers and values.
+-- What the calls answer: the grammars run over a reader, with the checks of the arguments; and the answers' numbers.
 use Prim.Native.Nat.{ℕ}
 use mathlib.Core.List.{List}
 use mathlib.Core.Bool.{Bool, true, false, _&&_}
@@ -10,7 +10,7 @@ use Rattle.header.specs.Entries.{entryCount}
 use Rattle.header.specs.declared.frame.Announced.{Announced}
 use Rattle.header.specs.Frame.{announcedOf}
 use Rattle.reader.specs.declared.boolean.Reader.{Reader}
-use Rattle.reader.specs.Boolean.{Given, given, missing, validOf, noReader}
+use Rattle.reader.specs.Boolean.{Given, given, missing, validOf}
 use Rattle.reader.specs.Reading.{run}
 pub use Rattle.modes.specs.declared.answers.Kinds.{Kinds}
 use Rattle.modes.specs.declared.answers.Mode.{Mode}
@@ -90,21 +90,11 @@ modesAnswer s a r above left old =
       | false ↦ record { answer = S.Refused; modes = old }
     ]
 
--- ---- the answers as numbers and values: 6 where a byte is missing, 9 where an argument is out of range; then zeros
+-- ---- the answers' numbers: 6 where a byte is missing, 9 where an argument is out of range
 abbrev pub modeNumberOf : Mode → ℕ
 modeNumberOf (M.Read v r) = 0
 modeNumberOf M.Missing = 6
 modeNumberOf M.Refused = 9
-
--- the mode, and the reader after it
-abbrev pub modeValuesOf : Mode → ℕ × Reader
-modeValuesOf (M.Read v r) = (v, r)
-modeValuesOf M.Missing = (0, noReader)
-modeValuesOf M.Refused = (0, noReader)
-
--- what stands for what is read before the modes after a refusal
-abbrev pub noPrefix : Prefix
-noPrefix = record { segment = 0; skip = false; small = false }
 
 -- the number of `prefix`
 abbrev pub headedNumberOf : Headed → ℕ
@@ -112,36 +102,14 @@ headedNumberOf (H.Read p r) = 0
 headedNumberOf H.Missing = 6
 headedNumberOf H.Refused = 9
 
--- what it read, and the reader after it
-abbrev pub headedValuesOf : Headed → Prefix × Reader
-headedValuesOf (H.Read p r) = (p, r)
-headedValuesOf H.Missing = (noPrefix, noReader)
-headedValuesOf H.Refused = (noPrefix, noReader)
-
 -- the number of `small_modes`
 abbrev pub nextNumberOf : Next → ℕ
 nextNumberOf (N.At r) = 0
 nextNumberOf N.Missing = 6
 nextNumberOf N.Refused = 9
 
--- the reader after it
-abbrev pub nextValuesOf : Next → Reader
-nextValuesOf (N.At r) = r
-nextValuesOf N.Missing = noReader
-nextValuesOf N.Refused = noReader
-
--- what stands for a macroblock's modes after a refusal
-abbrev pub noKinds : Kinds
-noKinds = record { segment = 0; skip = false; small = false; chroma = 0 }
-
 -- the number of `read_modes`
 abbrev pub stageNumberOf : Stage → ℕ
 stageNumberOf (S.Read k r) = 0
 stageNumberOf S.Missing = 6
 stageNumberOf S.Refused = 9
-
--- what it read, and the reader after it
-abbrev pub stageValuesOf : Stage → Kinds × Reader
-stageValuesOf (S.Read k r) = (k, r)
-stageValuesOf S.Missing = (noKinds, noReader)
-stageValuesOf S.Refused = (noKinds, noReader)

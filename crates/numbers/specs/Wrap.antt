@@ -24,11 +24,6 @@ abbrev pub wrap16NumberOf : Wrapped → ℕ
 wrap16NumberOf (Value z) = 0
 wrap16NumberOf Refused = 9
 
--- the answer's value: 0 where it is refused
-abbrev pub wrap16ValuesOf : Wrapped → ℤ
-wrap16ValuesOf (Value z) = z
-wrap16ValuesOf Refused = pos 0
-
 -- a number in 0..65535 as one of sixteen bits with a sign: the last step of the source's `wrapped`
 abbrev pub signed16 : ℤ → ℤ
 signed16 u = cond (ltZ u (pos 32768)) u (u -ℤ pos 65536)

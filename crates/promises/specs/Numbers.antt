@@ -1,6 +1,6 @@
 -- The scope's numbers, of every public call that answers with one: which number where, and what stands beside it. After a refusal and where
--- a byte is missing the values are zero, and what is lent is as it was. `numbers-bind`, in NumbersLaws, proves all of it. The picture call and
--- the deblocking call have more of their own, in Refusals, Stops and Deblocked.
+-- a byte is missing that is nothing or zeros, and what is lent is as it was. `numbers-bind`, in NumbersLaws, proves all of it. The picture call
+-- and the deblocking call have more of their own, in Refusals, Stops and Deblocked.
 use Prim.Native.Nat.{ℕ, _+_, _*_, _≤_, _<_}
 use mathlib.Core.Path.{_≡_}
 use mathlib.Core.Bool.{Bool, true, false, _&&_}
@@ -10,37 +10,47 @@ use lib.IntN.{ℤ, pos, negsuc}
 use lib.ListN.{length, getD, replicate}
 use lib.Signed.{leZ}
 use Rattle.numbers.specs.Checked.{checkedNumberOf}
-use Rattle.numbers.specs.Wrap as Wrap
-use Rattle.numbers.specs.Wrap.{wrapZ, wrap16Of}
+use Rattle.numbers.specs.Wrap.{wrapZ, wrap16Of, wrap16NumberOf}
+use Rattle.numbers.specs.declared.Wrapped.the-variants as Wrapped
 use Rattle.reader.specs.declared.boolean.Reader.{Reader}
-use Rattle.reader.specs.Boolean.{Given, given, missing, validOf, noReader, symbolOf, symbolAnswer, symbolNumberOf, symbolValuesOf}
+use Rattle.reader.specs.Boolean.{Given, given, missing, validOf, symbolOf, toSymbol, symbolAnswer, symbolNumberOf}
 use Rattle.reader.specs.Reading.{run}
-use Rattle.reader.specs.Trees.{treeOf, walk, walkAnswer, walkedNumberOf, walkedValuesOf}
-use Rattle.reader.specs.Extra.{extra, extraAnswer, numberNumberOf, numberValuesOf}
-use Rattle.reader.specs.Token.{token, elevenAt, tokenAnswer, tokenNumberOf, tokenValuesOf}
+use Rattle.reader.specs.Trees.{treeOf, walk, toWalked, walkAnswer, walkedNumberOf}
+use Rattle.reader.specs.Extra.{extra, toNumber, extraAnswer, numberNumberOf}
+use Rattle.reader.specs.Token.{token, elevenAt, toToken, tokenAnswer, tokenNumberOf}
+use Rattle.reader.specs.declared.boolean.Symbol.the-variants as Symbol
+use Rattle.reader.specs.declared.trees.Walked.the-variants as Walked
+use Rattle.reader.specs.declared.extra.Number.the-variants as Number
+use Rattle.reader.specs.declared.token.Token.the-variants as Token
 use Rattle.header.specs.Entries.{entryCount}
 use Rattle.header.specs.Header.{headerOf}
-use Rattle.header.specs.Quantizers.{factorsOf, noFactors, quantizersOf, quantizersNumberOf, quantizersValuesOf}
-use Rattle.header.specs.Levels.{levelOf, levelAnswer, levelNumberOf, levelValuesOf}
+use Rattle.header.specs.Quantizers.{factorsOf, quantizersOf, quantizersNumberOf}
+use Rattle.header.specs.declared.quantizers.Quantizers.the-variants as Quantizers
+use Rattle.header.specs.Levels.{levelOf, levelAnswer, levelNumberOf}
+use Rattle.header.specs.declared.levels.Level.the-variants as Level
 use Rattle.header.specs.Frame.{announcedOf, frameOf, noFrame, framedOf, factorsAt}
 use Rattle.header.specs.declared.frame.Announced.{Announced}
 use Rattle.header.specs.declared.frame.Frame.{Frame}
 use Rattle.header.specs.declared.quantizers.Factors.{Factors}
 use Rattle.coefficients.specs.Block as Tokens
-use Rattle.coefficients.specs.Block.{magnitude, signedValue, block, headerTable, numericOf, numberAnswer, signedAnswer, signedNumberOf, signedValuesOf, sixteenBits, blockNumberOf, blockValuesOf, tableOf}
+use Rattle.coefficients.specs.Block.{magnitude, signedValue, block, headerTable, numericOf, numberAnswer, toSigned, signedAnswer, signedNumberOf, sixteenBits, blockNumberOf, tableOf}
+use Rattle.coefficients.specs.declared.block.Signed.the-variants as Signed
 use Rattle.transform.specs.Transform.{blockFits, samplesOf, transformOf}
-use Rattle.filter.specs.Kernel as Kernel
-use Rattle.filter.specs.Kernel.{filterOf, pixelOf}
+use Rattle.filter.specs.Kernel.{filterOf, pixelOf, pixelNumberOf}
+use Rattle.filter.specs.declared.answers.Pixel.the-variants as Pixel
 use Rattle.filter.specs.Strengths.{strengthOf, noStrength, strengthAnswer, strengthsNumberOf, strengthsValuesOf, strengthFine}
 use Rattle.filter.specs.declared.strengths.Strength.{Strength}
 use Rattle.modes.specs.Modes.{prefix, largeMode, blockMode, smallModes, Macroblock, modesOf}
-use Rattle.modes.specs.Answers.{contextsOf, eachBelow, kindsOf, prefixAnswer, mainAnswer, blockAnswer, smallAnswer, modesAnswer, modeNumberOf, modeValuesOf, noPrefix, headedNumberOf, headedValuesOf, nextNumberOf, nextValuesOf, noKinds, stageNumberOf, stageValuesOf}
+use Rattle.modes.specs.Answers.{toMode, toHeaded, toSixteen, toStaged, contextsOf, eachBelow, prefixAnswer, mainAnswer, blockAnswer, smallAnswer, modesAnswer, modeNumberOf, headedNumberOf, nextNumberOf, stageNumberOf}
+use Rattle.modes.specs.declared.answers.Mode.the-variants as Mode
+use Rattle.modes.specs.declared.answers.Headed.the-variants as Headed
+use Rattle.modes.specs.declared.answers.Next.the-variants as Next
+use Rattle.modes.specs.declared.answers.Stage.the-variants as Stage
 use Rattle.modes.specs.Contexts.{emptyContext, contextFine}
 use Rattle.modes.specs.declared.answers.Kinds.{Kinds}
 use Rattle.modes.specs.declared.contexts.Context.{Context}
-use Rattle.transform.specs.Lanes.{macroblockLanes}
 use Rattle.residual.specs.Residual as Residual
-use Rattle.residual.specs.Residual.{Model, Values, residualOf, residualNumberOf, residualValuesOf}
+use Rattle.residual.specs.Residual.{Model, residualOf, residualNumberOf}
 use Rattle.planes.specs.Paint.{squareBlocks, squarePainted, paintFine, paintOf}
 use Rattle.lent.specs.Records.{recordAt, recordsIn, packed, columnWidth, columnAt, columnSet, columnWritten, columnFound, modeWidth, kindsAt, modesAt, modeSet, kindsFine, modeWritten, modeFound, strengthWidth, segmentIn, smallIn, strengthAt, strengthSet, strengthWritten, strengthFound}
 use Rattle.macroblock.specs.declared.arguments.Place.{Place}
@@ -80,17 +90,19 @@ use Rattle.hookbarley.specs.ShowCalls.{shownNumbers, toShowCalled, showCalledOf
 use Rattle.files.specs.WebpCalls.{webpFoundOf, webpWrappedOf}
 use Rattle.webp.specs.Webp.{riffSize, mostSize, fileOf, markedOf, sizedOf, lossyOf, filledOf, findOf, foundNumberOf, foundStartOf, foundLengthOf, wrapOf, wrappedNumberOf, wrappedLengthOf}
 
--- ---- three kinds of call. `values` is all that it gives besides its number, what is lent included; `zeros` are zeros, with what is lent as it was
--- a call that tries its arguments: `bad` and zeros where one is out of range, else 0
+-- ---- three kinds of call
+-- a call that tries its arguments: `bad` and zeros where one is out of range, else 0. `values` is all that it gives besides its number, what is lent
+-- included; `zeros` are zeros, or an answer that holds nothing, with what is lent as it was
 pub record RefusedOr {X : Type 0} (bad : ℕ) (good : Bool) (number : ℕ) (values zeros whole : X) : Type 0 where
   pub refused : good ≡ false → (number ≡ bad) × (values ≡ zeros)
   pub fine : good ≡ true → (number ≡ 0) × (values ≡ whole)
 
--- a call that reads: 9 and zeros where an argument is out of range; else `short` and zeros where a byte is missing; else 0 and what was asked
-pub record Answered {A X : Type 0} (short : ℕ) (good : Bool) (asked : Given A) (number : ℕ) (values zeros : X) (whole : A → Reader → X) : Type 0 where
-  pub refused : good ≡ false → (number ≡ 9) × (values ≡ zeros)
-  pub cut : good ≡ true → asked ≡ missing → (number ≡ short) × (values ≡ zeros)
-  pub read : good ≡ true → {a : A} {r : Reader} → asked ≡ given a r → (number ≡ 0) × (values ≡ whole a r)
+-- a call that reads: 9 and its refusal where an argument is out of range; else `short` where a byte is missing; else 0 and what was asked. `to` is
+-- how its answer says what was asked, what is lent included
+pub record Answered {A X : Type 0} (short : ℕ) (good : Bool) (asked : Given A) (answer : X) (number : X → ℕ) (to : Given A → X) (refusal : X) : Type 0 where
+  pub refused : good ≡ false → (number answer ≡ 9) × (answer ≡ refusal)
+  pub cut : good ≡ true → asked ≡ missing → (number answer ≡ short) × (answer ≡ to missing)
+  pub read : good ≡ true → {a : A} {r : Reader} → asked ≡ given a r → (number answer ≡ 0) × (answer ≡ to (given a r))
 
 -- the call on a macroblock: 9 where an argument is out of range; 6 where its modes run out; 7 where its tokens do; then zeros, and the planes as
 -- they were; else 0
@@ -132,51 +144,45 @@ pub record WrapNumbers (frame out : List ℕ) : Type 0 where
       → (wrappedNumberOf (wrapOf frame out .answer) ≡ 0) × (wrappedLengthOf (wrapOf frame out .answer) ≡ length (fileOf frame))
   pub zero : (wrappedNumberOf (wrapOf frame out .answer) ≡ 0 → ⊥) → wrappedLengthOf (wrapOf frame out .answer) ≡ 0
 
--- the residual's values where it has not ended: zeros
-abbrev pub noValues : Values
-noValues = record { reader = noReader; empty = false; top = replicate 9 0; left = replicate 9 0 }
-
 -- THE PROMISE: a field for each public call, by its path
 pub record Numbers : Type 0 where
   -- numbers::wrap16: beyond a thousand million, either way
-  pub wrap16 : (v : ℤ) → RefusedOr 9 (leZ (negsuc 999999999) v && leZ v (pos 1000000000)) (Wrap.wrap16NumberOf (wrap16Of v)) (Wrap.wrap16ValuesOf (wrap16Of v)) (pos 0) (wrapZ v)
+  pub wrap16 : (v : ℤ) → RefusedOr 9 (leZ (negsuc 999999999) v && leZ v (pos 1000000000)) (wrap16NumberOf (wrap16Of v)) (wrap16Of v) Wrapped.Refused (Wrapped.Value (wrapZ v))
   -- ---- reader: a missing byte is whatever number the layer above gives it
   -- reader::boolean::Reader::symbol
   pub symbol : (short : ℕ) (s : List ℕ) (r : Reader) (prob : ℕ)
-      → Answered short (validOf s r) (symbolOf s r prob) (symbolNumberOf short (symbolAnswer s r prob)) (symbolValuesOf (symbolAnswer s r prob)) (false, noReader) (λ b q. (b, q))
+      → Answered short (validOf s r) (symbolOf s r prob) (symbolAnswer s r prob) (symbolNumberOf short) toSymbol Symbol.Refused
   -- reader::trees::walk_tree
   pub walk-tree : (short : ℕ) (s probs : List ℕ) (tree : List ℤ) (start : ℕ) (r : Reader)
-      → Answered short (validOf s r && treeOf probs tree start) (run (walk 32 probs tree start) s r) (walkedNumberOf short (walkAnswer s probs tree start r)) (walkedValuesOf (walkAnswer s probs tree start r)) (0, noReader) (λ v q. (v, q))
+      → Answered short (validOf s r && treeOf probs tree start) (run (walk 32 probs tree start) s r) (walkAnswer s probs tree start r) (walkedNumberOf short) toWalked Walked.Refused
   -- reader::extra::extra_bits
   pub extra-bits : (short : ℕ) (s probs : List ℕ) (r : Reader)
-      → Answered short (validOf s r && leb (length probs) 16) (run (extra probs) s r) (numberNumberOf short (extraAnswer s probs r)) (numberValuesOf (extraAnswer s probs r)) (0, noReader) (λ v q. (v, q))
+      → Answered short (validOf s r && leb (length probs) 16) (run (extra probs) s r) (extraAnswer s probs r) (numberNumberOf short) toNumber Number.Refused
   -- reader::token::walk_token
   pub walk-token : (short : ℕ) (s table : List ℕ) (at : ℕ) (z : Bool) (r : Reader)
-      → Answered short (validOf s r && leb (at + 11) (length table)) (run (token (elevenAt table at) z) s r) (tokenNumberOf short (tokenAnswer s table at z r)) (tokenValuesOf (tokenAnswer s table at z r)) (0, noReader) (λ t q. (t, q))
+      → Answered short (validOf s r && leb (at + 11) (length table)) (run (token (elevenAt table at) z) s r) (tokenAnswer s table at z r) (tokenNumberOf short) toToken Token.Refused
   -- ---- header: 9
   -- header::quantizers::for_segment
-  pub for-segment : (h : List ℤ) (segment : ℕ) → RefusedOr 9 (headerOf h && ltb segment 4) (quantizersNumberOf (quantizersOf h segment)) (quantizersValuesOf (quantizersOf h segment)) noFactors (factorsOf h segment)
+  pub for-segment : (h : List ℤ) (segment : ℕ) → RefusedOr 9 (headerOf h && ltb segment 4) (quantizersNumberOf (quantizersOf h segment)) (quantizersOf h segment) Quantizers.Refused (Quantizers.Ready (factorsOf h segment))
   -- header::levels::for_macroblock
-  pub for-macroblock : (h : List ℤ) (segment : ℕ) (small : Bool) → RefusedOr 9 (headerOf h && ltb segment 4) (levelNumberOf (levelAnswer h segment small)) (levelValuesOf (levelAnswer h segment small)) 0 (levelOf h segment small)
+  pub for-macroblock : (h : List ℤ) (segment : ℕ) (small : Bool) → RefusedOr 9 (headerOf h && ltb segment 4) (levelNumberOf (levelAnswer h segment small)) (levelAnswer h segment small) Level.Refused (Level.Of (levelOf h segment small))
   -- header::frame::take
   pub header-take : (h : List ℤ) → RefusedOr 9 (headerOf h) (checkedNumberOf (framedOf h .answer)) (framedOf h .frame) noFrame (frameOf h)
   -- ---- coefficients: a missing byte is 7
   -- coefficients::block::number
   pub number : (s : List ℕ) (token : ℕ) (r : Reader)
-      → Answered 7 (validOf s r && numericOf token) (run (magnitude token) s r) (numberNumberOf 7 (numberAnswer s token r)) (numberValuesOf (numberAnswer s token r)) (0, noReader) (λ v q. (v, q))
+      → Answered 7 (validOf s r && numericOf token) (run (magnitude token) s r) (numberAnswer s token r) (numberNumberOf 7) toNumber Number.Refused
   -- coefficients::block::dequant
   pub dequant : (s : List ℕ) (token q : ℕ) (r : Reader)
-      → Answered 7 (validOf s r && numericOf token) (run (signedValue token q) s r) (signedNumberOf (signedAnswer s token q r)) (signedValuesOf (signedAnswer s token q r)) (pos 0, noReader) (λ v p. (v, p))
+      → Answered 7 (validOf s r && numericOf token) (run (signedValue token q) s r) (signedAnswer s token q r) signedNumberOf toSigned Signed.Refused
   -- coefficients::block::decode
   pub block-decode : (s : List ℕ) (r : Reader) (table : List ℕ) (kind ctx first q0 q1 : ℕ) (old : List ℤ)
-      → let c = Tokens.blockCallOf s r table kind ctx first q0 q1 old in
-      Answered {X = (ℕ × Reader) × List ℤ} 7 (validOf s r && (Tokens.blockArguments table kind ctx first && sixteenBits old 16)) (run (block table kind q0 q1 ctx first old) s r)
-      (blockNumberOf (c .answer)) (blockValuesOf (c .answer), c .out) ((0, noReader), old) (λ x q. ((x .end, q), x .values))
+      → Answered 7 (validOf s r && (Tokens.blockArguments table kind ctx first && sixteenBits old 16)) (run (block table kind q0 q1 ctx first old) s r)
+      (Tokens.blockCallOf s r table kind ctx first q0 q1 old) (λ c. blockNumberOf (c .answer)) (Tokens.toBlockCalled old) (Tokens.refusedBlock old)
   -- coefficients::block::decode_header
   pub block-decode-header : (s : List ℕ) (r : Reader) (h : List ℤ) (kind ctx first q0 q1 : ℕ) (old : List ℤ)
-      → let c = Tokens.blockByHeaderOf s r h kind ctx first q0 q1 old in
-      Answered {X = (ℕ × Reader) × List ℤ} 7 (eqb (length h) entryCount && (validOf s r && (Tokens.blockArguments (headerTable h) kind ctx first && sixteenBits old 16))) (run (block (headerTable h) kind q0 q1 ctx first old) s r)
-      (blockNumberOf (c .answer)) (blockValuesOf (c .answer), c .out) ((0, noReader), old) (λ x q. ((x .end, q), x .values))
+      → Answered 7 (eqb (length h) entryCount && (validOf s r && (Tokens.blockArguments (headerTable h) kind ctx first && sixteenBits old 16))) (run (block (headerTable h) kind q0 q1 ctx first old) s r)
+      (Tokens.blockByHeaderOf s r h kind ctx first q0 q1 old) (λ c. blockNumberOf (c .answer)) (Tokens.toBlockCalled old) (Tokens.refusedBlock old)
   -- coefficients::block::probabilities
   pub probabilities : (h : List ℤ) → RefusedOr 9 (eqb (length h) entryCount) (checkedNumberOf (tableOf h .answer)) (tableOf h .bytes) (replicate 1056 0) (headerTable h)
   -- transform::transform: 8
@@ -184,38 +190,34 @@ pub record Numbers : Type 0 where
   -- ---- filter: 9
   -- filter::pixel
   pub pixel : (e : List ℕ) (simple edge : Bool) (limit inner threshold k : ℕ)
-      → RefusedOr 9 (ltb k 8) (Kernel.pixelNumberOf (pixelOf e simple edge limit inner threshold k)) (Kernel.pixelValuesOf (pixelOf e simple edge limit inner threshold k)) 0 (getD (filterOf e simple edge limit inner threshold) k 0)
+      → RefusedOr 9 (ltb k 8) (pixelNumberOf (pixelOf e simple edge limit inner threshold k)) (pixelOf e simple edge limit inner threshold k) Pixel.Refused (Pixel.Value (getD (filterOf e simple edge limit inner threshold) k 0))
   -- filter::strengths::at_level
   pub at-level : (level sharp : ℕ) (inside : Bool) → RefusedOr 9 (leb level 63) (strengthsNumberOf (strengthAnswer level sharp inside)) (strengthsValuesOf (strengthAnswer level sharp inside)) noStrength (strengthOf level sharp inside)
   -- ---- modes: a missing byte is 6
   -- modes::prefix::prefix
   pub modes-prefix : (s : List ℕ) (r : Reader) (h : List ℤ)
-      → Answered 6 (eqb (length h) entryCount && validOf s r) (run (prefix (announcedOf h)) s r) (headedNumberOf (prefixAnswer s r h)) (headedValuesOf (prefixAnswer s r h)) (noPrefix, noReader) (λ p q. (p, q))
+      → Answered 6 (eqb (length h) entryCount && validOf s r) (run (prefix (announcedOf h)) s r) (prefixAnswer s r h) headedNumberOf toHeaded Headed.Refused
   -- modes::large::main_mode
   pub main-mode : (s : List ℕ) (r : Reader) (chroma : Bool)
-      → Answered 6 (validOf s r) (run (largeMode chroma) s r) (modeNumberOf (mainAnswer s r chroma)) (modeValuesOf (mainAnswer s r chroma)) (0, noReader) (λ v q. (v, q))
+      → Answered 6 (validOf s r) (run (largeMode chroma) s r) (mainAnswer s r chroma) modeNumberOf toMode Mode.Refused
   -- modes::small::block_mode
   pub block-mode : (s : List ℕ) (r : Reader) (top left : ℕ)
-      → Answered 6 (validOf s r && (ltb top 10 && ltb left 10)) (run (blockMode top left) s r) (modeNumberOf (blockAnswer s r top left)) (modeValuesOf (blockAnswer s r top left)) (0, noReader) (λ v q. (v, q))
+      → Answered 6 (validOf s r && (ltb top 10 && ltb left 10)) (run (blockMode top left) s r) (blockAnswer s r top left) modeNumberOf toMode Mode.Refused
   -- modes::small::small_modes
   pub small-modes : (s : List ℕ) (r : Reader) (top left old : List ℕ)
-      → let c = smallAnswer s r top left old in
-      Answered {X = Reader × List ℕ} 6 (validOf s r && contextsOf top left) (run (smallModes top left) s r) (nextNumberOf (c .answer)) (nextValuesOf (c .answer), c .modes) (noReader, old) (λ l q. (q, l))
+      → Answered 6 (validOf s r && contextsOf top left) (run (smallModes top left) s r) (smallAnswer s r top left old) (λ c. nextNumberOf (c .answer)) (toSixteen old) (record { answer = Next.Refused; modes = old })
   -- modes::whole::read_modes
   pub read-modes : (s : List ℕ) (a : Announced) (r : Reader) (top left old : List ℕ)
-      → let c = modesAnswer s a r top left old in
-      Answered {X = (Kinds × Reader) × List ℕ} 6 (validOf s r && contextsOf top left) (run (modesOf a top left) s r) (stageNumberOf (c .answer)) (stageValuesOf (c .answer), c .modes) ((noKinds, noReader), old) (λ m q. ((kindsOf m, q), m .modes))
+      → Answered 6 (validOf s r && contextsOf top left) (run (modesOf a top left) s r) (modesAnswer s a r top left old) (λ c. stageNumberOf (c .answer)) (toStaged old) (record { answer = Stage.Refused; modes = old })
   -- ---- residual: a missing byte is 7
   -- residual::decode
   pub residual-decode : (s : List ℕ) (r : Reader) (table : List ℕ) (f : Factors) (small skip : Bool) (top left : List ℕ) (old : List ℤ)
-      → let c = Residual.residualCallOf s r table f small skip top left old in
-      Answered {X = Values × List ℤ} 7 (validOf s r && Residual.residualArguments table top left (length old)) (run (residualOf table f small skip top left) s r) (residualNumberOf (c .answer)) (residualValuesOf (c .answer), c .out)
-      (noValues, old) (λ m q. (record { reader = q; empty = m .empty; top = m .top; left = m .left }, macroblockLanes (m .coefficients)))
+      → Answered 7 (validOf s r && Residual.residualArguments table top left (length old)) (run (residualOf table f small skip top left) s r)
+      (Residual.residualCallOf s r table f small skip top left old) (λ c. residualNumberOf (c .answer .answer)) (Residual.toResidualCalled old) (Residual.refusedResidual old)
   -- residual::decode_header
   pub residual-decode-header : (s : List ℕ) (r : Reader) (h : List ℤ) (segment : ℕ) (small skip : Bool) (top left : List ℕ) (old : List ℤ)
-      → let c = Residual.residualByHeaderOf s r h segment small skip top left old in
-      Answered {X = Values × List ℤ} 7 ((headerOf h && ltb segment 4) && (validOf s r && Residual.residualArguments (headerTable h) top left (length old))) (run (residualOf (headerTable h) (factorsOf h segment) small skip top left) s r)
-      (residualNumberOf (c .answer)) (residualValuesOf (c .answer), c .out) (noValues, old) (λ m q. (record { reader = q; empty = m .empty; top = m .top; left = m .left }, macroblockLanes (m .coefficients)))
+      → Answered 7 ((headerOf h && ltb segment 4) && (validOf s r && Residual.residualArguments (headerTable h) top left (length old))) (run (residualOf (headerTable h) (factorsOf h segment) small skip top left) s r)
+      (Residual.residualByHeaderOf s r h segment small skip top left old) (λ c. residualNumberOf (c .answer .answer)) (Residual.toResidualCalled old) (Residual.refusedResidual old)
   -- planes::paint
   pub paint : (p : List ℕ) (w column row n : ℕ) (small : Bool) (mode : ℕ) (modes : List ℕ) (coefficients : List ℤ) (from : ℕ)
       → let c = squareBlocks n from coefficients in
@@ -230,7 +232,7 @@ pub record Numbers : Type 0 where
   pub write-modes : (mem : List ℕ) (i : ℕ) (k : Kinds) (modes : List ℕ)
       → RefusedOr 9 (ltb i (recordsIn modeWidth mem) && (kindsFine k && eachBelow 10 modes)) (checkedNumberOf (modeWritten mem i k modes .answer)) (modeWritten mem i k modes .mem) mem (modeSet mem i k modes)
   pub modes-read : (mem : List ℕ) (i : ℕ)
-      → RefusedOr {X = Kinds × List ℕ} 9 (ltb i (recordsIn modeWidth mem)) (checkedNumberOf (modeFound mem i .answer)) (modeFound mem i .kinds, modeFound mem i .modes) (noKinds, replicate 16 0) (kindsAt mem i, modesAt mem i)
+      → RefusedOr {X = Kinds × List ℕ} 9 (ltb i (recordsIn modeWidth mem)) (checkedNumberOf (modeFound mem i .answer)) (modeFound mem i .kinds, modeFound mem i .modes) (record { segment = 0; skip = false; small = false; chroma = 0 }, replicate 16 0) (kindsAt mem i, modesAt mem i)
   -- lent::macroblocks::write_strength, read_strength
   pub write-strength : (mem : List ℕ) (i : ℕ) (t : Strength) (k : Kinds)
       → RefusedOr 9 (ltb i (recordsIn strengthWidth mem) && (strengthFine t && ltb (k .segment) 4)) (checkedNumberOf (strengthWritten mem i t k .answer)) (strengthWritten mem i t k .mem) mem (strengthSet mem i t k)

@@ -7,32 +7,30 @@ use lib.Dec.{ltb, leb, eqb}
 use lib.IntN.{ℤ}
 use lib.ListN.{length}
 use Rattle.numbers.specs.Checked.{checkedNumberOf}
-use Rattle.numbers.specs.Wrap as Wrap
-use Rattle.numbers.specs.Wrap.{wrap16Of}
+use Rattle.numbers.specs.Wrap.{wrap16Of, wrap16NumberOf}
 use Rattle.reader.specs.declared.boolean.Reader.{Reader}
-use Rattle.reader.specs.Boolean.{Given, given, missing, validOf, symbolOf, toSymbol, symbolAnswer, symbolNumberOf, symbolValuesOf}
+use Rattle.reader.specs.Boolean.{Given, given, missing, validOf, symbolOf, toSymbol, symbolAnswer, symbolNumberOf}
 use Rattle.reader.specs.Reading.{run}
-use Rattle.reader.specs.Trees.{walk, walkOf, toWalked, walkAnswer, walkedNumberOf, walkedValuesOf}
-use Rattle.reader.specs.Extra.{extra, extraOf, toNumber, extraAnswer, numberNumberOf, numberValuesOf}
-use Rattle.reader.specs.Token.{token, elevenAt, tokenOf, toToken, tokenAnswer, tokenNumberOf, tokenValuesOf}
+use Rattle.reader.specs.Trees.{walk, walkOf, toWalked, walkAnswer, walkedNumberOf}
+use Rattle.reader.specs.Extra.{extra, extraOf, toNumber, extraAnswer, numberNumberOf}
+use Rattle.reader.specs.Token.{token, elevenAt, tokenOf, toToken, tokenAnswer, tokenNumberOf}
 use Rattle.header.specs.Entries.{entryCount}
 use Rattle.header.specs.Header.{headerOf}
-use Rattle.header.specs.Quantizers.{factorsOf, quantizersOf, quantizersNumberOf, quantizersValuesOf}
-use Rattle.header.specs.Levels.{levelAnswer, levelNumberOf, levelValuesOf}
+use Rattle.header.specs.Quantizers.{factorsOf, quantizersOf, quantizersNumberOf}
+use Rattle.header.specs.Levels.{levelAnswer, levelNumberOf}
 use Rattle.header.specs.Frame.{announcedOf, framedOf}
 use Rattle.header.specs.declared.frame.Framed.{Framed}
 use Rattle.coefficients.specs.declared.block.Table.{Table}
 use Rattle.transform.specs.declared.Transformed.{Transformed}
 use Rattle.coefficients.specs.Block as Tokens
-use Rattle.coefficients.specs.Block.{magnitude, signedValue, block, headerTable, magnitudeOf, numberAnswer, signedOf, toSigned, signedAnswer, signedNumberOf, signedValuesOf, sixteenBits, blockNumberOf, blockValuesOf, tableOf}
+use Rattle.coefficients.specs.Block.{magnitude, signedValue, block, headerTable, magnitudeOf, numberAnswer, signedOf, toSigned, signedAnswer, signedNumberOf, sixteenBits, blockNumberOf, tableOf}
 use Rattle.transform.specs.Transform.{transformOf}
-use Rattle.filter.specs.Kernel as Kernel
-use Rattle.filter.specs.Kernel.{pixelOf}
+use Rattle.filter.specs.Kernel.{pixelOf, pixelNumberOf}
 use Rattle.filter.specs.Strengths.{strengthAnswer, strengthsNumberOf, strengthsValuesOf}
 use Rattle.modes.specs.Modes.{prefix, largeMode, blockMode, smallModes, Macroblock, modesOf}
-use Rattle.modes.specs.Answers.{toMode, toHeaded, toSixteen, toStaged, prefixAnswer, mainAnswer, blockAnswer, smallAnswer, modesAnswer, modeNumberOf, modeValuesOf, headedNumberOf, headedValuesOf, nextNumberOf, nextValuesOf, stageNumberOf, stageValuesOf}
+use Rattle.modes.specs.Answers.{toMode, toHeaded, toSixteen, toStaged, prefixAnswer, mainAnswer, blockAnswer, smallAnswer, modesAnswer, modeNumberOf, headedNumberOf, nextNumberOf, stageNumberOf}
 use Rattle.residual.specs.Residual as Residual
-use Rattle.residual.specs.Residual.{Model, residualOf, residualNumberOf, residualValuesOf}
+use Rattle.residual.specs.Residual.{Model, residualOf, residualNumberOf}
 use Rattle.planes.specs.Paint.{PaintedPlane, paintOf}
 use Rattle.lent.specs.Records as Records
 use Rattle.column.specs.Column.{digitsOf}
@@ -86,28 +84,26 @@ checked-cond : {B X : Type 0} {bad : ℕ} (good : Bool) {x y : B} (number : B �
 checked-cond true number values a b c d = checked true number values a b c d
 checked-cond false number values a b c d = checked false number values a b c d
 
-reads : {A B X : Type 0} {short : ℕ} (good : Bool) (asked : Given A) (to : Given A → B) {y : B} (number : B → ℕ) (values : B → X) {zeros : X} {whole : A → Reader → X}
-    → number y ≡ 9 → values y ≡ zeros → number (to missing) ≡ short → values (to missing) ≡ zeros
-    → ((a : A) (r : Reader) → (number (to (given a r)) ≡ 0) × (values (to (given a r)) ≡ whole a r))
-    → Answered short good asked (number (pick good (to asked) y)) (values (pick good (to asked) y)) zeros whole
-reads true asked to number values n z c d w = record {
+reads : {A B : Type 0} {short : ℕ} (good : Bool) (asked : Given A) (number : B → ℕ) (to : Given A → B) {refusal : B}
+    → number refusal ≡ 9 → number (to missing) ≡ short → ((a : A) (r : Reader) → number (to (given a r)) ≡ 0)
+    → Answered short good asked (pick good (to asked) refusal) number to refusal
+reads true asked number to n c w = record {
   refused = λ e. absurd (never refl e);
-  cut = λ e f. (ap (λ g. number (to g)) f ∙ c, ap (λ g. values (to g)) f ∙ d);
-  read = λ e {a} {r} f. (ap (λ g. number (to g)) f ∙ w a r .0, ap (λ g. values (to g)) f ∙ w a r .1);
+  cut = λ e f. (ap (λ g. number (to g)) f ∙ c, ap to f);
+  read = λ e {a} {r} f. (ap (λ g. number (to g)) f ∙ w a r, ap to f);
 }
-reads false asked to number values n z c d w = record {
-  refused = λ e. (n, z);
+reads false asked number to n c w = record {
+  refused = λ e. (n, refl);
   cut = λ e f. absurd (never e refl);
   read = λ e f. absurd (never e refl);
 }
 
 -- two tests, one after the other
-reads-both : {A B X : Type 0} {short : ℕ} (one two : Bool) (asked : Given A) (to : Given A → B) {y : B} (number : B → ℕ) (values : B → X) {zeros : X} {whole : A → Reader → X}
-    → number y ≡ 9 → values y ≡ zeros → number (to missing) ≡ short → values (to missing) ≡ zeros
-    → ((a : A) (r : Reader) → (number (to (given a r)) ≡ 0) × (values (to (given a r)) ≡ whole a r))
-    → Answered short (one && two) asked (number (pick one (pick two (to asked) y) y)) (values (pick one (pick two (to asked) y) y)) zeros whole
-reads-both true two asked to number values n z c d w = reads two asked to number values n z c d w
-reads-both false two asked to number values n z c d w = reads false asked to number values n z c d w
+reads-both : {A B : Type 0} {short : ℕ} (one two : Bool) (asked : Given A) (number : B → ℕ) (to : Given A → B) {refusal : B}
+    → number refusal ≡ 9 → number (to missing) ≡ short → ((a : A) (r : Reader) → number (to (given a r)) ≡ 0)
+    → Answered short (one && two) asked (pick one (pick two (to asked) refusal) refusal) number to refusal
+reads-both true two asked number to n c w = reads two asked number to n c w
+reads-both false two asked number to n c w = reads false asked number to n c w
 
 -- ---- the macroblock: both runs, one after the other
 steps : {good : Bool} {modes : Given Macroblock} {tokens : Macroblock → Given Model} {old : Planes} (end : Macroblock → Reader → Model → Reader → Finished)
@@ -205,29 +201,29 @@ wrap-numbers frame out = record {
 pub numbers-bind : Numbers
 unfolding wrap16Of symbolAnswer walkOf walkAnswer extraOf extraAnswer tokenOf tokenAnswer quantizersOf levelAnswer framedOf magnitudeOf numberAnswer signedOf signedAnswer Tokens.blockOf Tokens.blockCallOf Tokens.blockByHeaderOf tableOf transformOf pixelOf strengthAnswer prefixAnswer mainAnswer blockAnswer smallAnswer modesAnswer Residual.residualAnswer Residual.residualCallOf Residual.residualByHeaderOf paintOf recordWritten recordFound digitsOf Macroblock.macroblockCallOf Macroblock.stepOf ranOf intoOf filteredOf explainCalledOf frameCalledOf rescueCalledOf profileCalledOf surveyCalledOf showCalledOf recodeCalledOf rebuildCallOf rebuiltOf deblockCalledOf webpFoundOf webpWrappedOf
 numbers-bind = record {
-  wrap16 = λ v. checked-cond _ Wrap.wrap16NumberOf Wrap.wrap16ValuesOf refl refl refl refl;
-  symbol = λ short s r prob. reads _ (symbolOf s r prob) toSymbol (symbolNumberOf short) symbolValuesOf refl refl refl refl (λ b q. (refl, refl));
-  walk-tree = λ short s probs tree start r. reads _ (run (walk 32 probs tree start) s r) toWalked (walkedNumberOf short) walkedValuesOf refl refl refl refl (λ v q. (refl, refl));
-  extra-bits = λ short s probs r. reads _ (run (extra probs) s r) toNumber (numberNumberOf short) numberValuesOf refl refl refl refl (λ v q. (refl, refl));
-  walk-token = λ short s table at z r. reads _ (run (token (elevenAt table at) z) s r) toToken (tokenNumberOf short) tokenValuesOf refl refl refl refl (λ t q. (refl, refl));
-  for-segment = λ h segment. checked _ quantizersNumberOf quantizersValuesOf refl refl refl refl;
-  for-macroblock = λ h segment small. checked _ levelNumberOf levelValuesOf refl refl refl refl;
+  wrap16 = λ v. checked-cond _ wrap16NumberOf (λ x. x) refl refl refl refl;
+  symbol = λ short s r prob. reads _ (symbolOf s r prob) (symbolNumberOf short) toSymbol refl refl (λ b q. refl);
+  walk-tree = λ short s probs tree start r. reads _ (run (walk 32 probs tree start) s r) (walkedNumberOf short) toWalked refl refl (λ v q. refl);
+  extra-bits = λ short s probs r. reads _ (run (extra probs) s r) (numberNumberOf short) toNumber refl refl (λ v q. refl);
+  walk-token = λ short s table at z r. reads _ (run (token (elevenAt table at) z) s r) (tokenNumberOf short) toToken refl refl (λ t q. refl);
+  for-segment = λ h segment. checked _ quantizersNumberOf (λ x. x) refl refl refl refl;
+  for-macroblock = λ h segment small. checked _ levelNumberOf (λ x. x) refl refl refl refl;
   header-take = λ h. checked _ (λ (f : Framed). checkedNumberOf (f .answer)) (λ (f : Framed). f .frame) refl refl refl refl;
-  number = λ s token r. reads _ (run (magnitude token) s r) toNumber (numberNumberOf 7) numberValuesOf refl refl refl refl (λ v q. (refl, refl));
-  dequant = λ s token q r. reads _ (run (signedValue token q) s r) toSigned signedNumberOf signedValuesOf refl refl refl refl (λ v p. (refl, refl));
-  block-decode = λ s r table kind ctx first q0 q1 old. reads _ (run (block table kind q0 q1 ctx first old) s r) (Tokens.toBlockCalled old) (λ c. blockNumberOf (c .answer)) (λ c. (blockValuesOf (c .answer), c .out)) refl refl refl refl (λ x q. (refl, refl));
-  block-decode-header = λ s r h kind ctx first q0 q1 old. reads-both (eqb (length h) entryCount) (validOf s r && (Tokens.blockArguments (headerTable h) kind ctx first && sixteenBits old 16)) (run (block (headerTable h) kind q0 q1 ctx first old) s r) (Tokens.toBlockCalled old) {y = Tokens.refusedBlock old} (λ c. blockNumberOf (c .answer)) (λ c. (blockValuesOf (c .answer), c .out)) refl refl refl refl (λ x q. (refl, refl));
+  number = λ s token r. reads _ (run (magnitude token) s r) (numberNumberOf 7) toNumber refl refl (λ v q. refl);
+  dequant = λ s token q r. reads _ (run (signedValue token q) s r) signedNumberOf toSigned refl refl (λ v p. refl);
+  block-decode = λ s r table kind ctx first q0 q1 old. reads _ (run (block table kind q0 q1 ctx first old) s r) (λ c. blockNumberOf (c .answer)) (Tokens.toBlockCalled old) refl refl (λ x q. refl);
+  block-decode-header = λ s r h kind ctx first q0 q1 old. reads-both (eqb (length h) entryCount) (validOf s r && (Tokens.blockArguments (headerTable h) kind ctx first && sixteenBits old 16)) (run (block (headerTable h) kind q0 q1 ctx first old) s r) (λ c. blockNumberOf (c .answer)) (Tokens.toBlockCalled old) {refusal = Tokens.refusedBlock old} refl refl (λ x q. refl);
   probabilities = λ h. checked _ (λ (t : Table). checkedNumberOf (t .answer)) (λ (t : Table). t .bytes) refl refl refl refl;
   transform = λ c walsh. checked-cond _ (λ (t : Transformed). t .number) (λ (t : Transformed). t .samples) refl refl refl refl;
-  pixel = λ e simple edge limit inner threshold k. checked-cond _ Kernel.pixelNumberOf Kernel.pixelValuesOf refl refl refl refl;
+  pixel = λ e simple edge limit inner threshold k. checked-cond _ pixelNumberOf (λ x. x) refl refl refl refl;
   at-level = λ level sharp inside. checked _ strengthsNumberOf strengthsValuesOf refl refl refl refl;
-  modes-prefix = λ s r h. reads _ (run (prefix (announcedOf h)) s r) toHeaded headedNumberOf headedValuesOf refl refl refl refl (λ p q. (refl, refl));
-  main-mode = λ s r chroma. reads _ (run (largeMode chroma) s r) toMode modeNumberOf modeValuesOf refl refl refl refl (λ v q. (refl, refl));
-  block-mode = λ s r top left. reads _ (run (blockMode top left) s r) toMode modeNumberOf modeValuesOf refl refl refl refl (λ v q. (refl, refl));
-  small-modes = λ s r top left old. reads _ (run (smallModes top left) s r) (toSixteen old) (λ c. nextNumberOf (c .answer)) (λ c. (nextValuesOf (c .answer), c .modes)) refl refl refl refl (λ l q. (refl, refl));
-  read-modes = λ s a r top left old. reads _ (run (modesOf a top left) s r) (toStaged old) (λ c. stageNumberOf (c .answer)) (λ c. (stageValuesOf (c .answer), c .modes)) refl refl refl refl (λ m q. (refl, refl));
-  residual-decode = λ s r table f small skip top left old. reads _ (run (residualOf table f small skip top left) s r) (Residual.toResidualCalled old) (λ c. residualNumberOf (c .answer)) (λ c. (residualValuesOf (c .answer), c .out)) refl refl refl refl (λ m q. (refl, refl));
-  residual-decode-header = λ s r h segment small skip top left old. reads-both (headerOf h && ltb segment 4) (validOf s r && Residual.residualArguments (headerTable h) top left (length old)) (run (residualOf (headerTable h) (factorsOf h segment) small skip top left) s r) (Residual.toResidualCalled old) {y = Residual.refusedResidual old} (λ c. residualNumberOf (c .answer)) (λ c. (residualValuesOf (c .answer), c .out)) refl refl refl refl (λ m q. (refl, refl));
+  modes-prefix = λ s r h. reads _ (run (prefix (announcedOf h)) s r) headedNumberOf toHeaded refl refl (λ p q. refl);
+  main-mode = λ s r chroma. reads _ (run (largeMode chroma) s r) modeNumberOf toMode refl refl (λ v q. refl);
+  block-mode = λ s r top left. reads _ (run (blockMode top left) s r) modeNumberOf toMode refl refl (λ v q. refl);
+  small-modes = λ s r top left old. reads _ (run (smallModes top left) s r) (λ c. nextNumberOf (c .answer)) (toSixteen old) refl refl (λ l q. refl);
+  read-modes = λ s a r top left old. reads _ (run (modesOf a top left) s r) (λ c. stageNumberOf (c .answer)) (toStaged old) refl refl (λ m q. refl);
+  residual-decode = λ s r table f small skip top left old. reads _ (run (residualOf table f small skip top left) s r) (λ c. residualNumberOf (c .answer .answer)) (Residual.toResidualCalled old) refl refl (λ m q. refl);
+  residual-decode-header = λ s r h segment small skip top left old. reads-both (headerOf h && ltb segment 4) (validOf s r && Residual.residualArguments (headerTable h) top left (length old)) (run (residualOf (headerTable h) (factorsOf h segment) small skip top left) s r) (λ c. residualNumberOf (c .answer .answer)) (Residual.toResidualCalled old) {refusal = Residual.refusedResidual old} refl refl (λ m q. refl);
   paint = λ p w column row n small mode modes c from. checked-cond _ (λ (x : PaintedPlane). checkedNumberOf (x .answer)) (λ (x : PaintedPlane). x .plane) refl refl refl refl;
   write-column = λ mem x c. checked _ (λ (w : Records.Written). checkedNumberOf (w .answer)) (λ (w : Records.Written). w .mem) refl refl refl refl;
   read-column = λ mem x. checked _ (λ (t : Records.FoundRecord). checkedNumberOf (t .answer)) (λ (t : Records.FoundRecord). contextIn packed (t .bytes)) refl refl refl refl;

@@ -84,22 +84,16 @@ toSymbol missing = S.Missing
 unfoldable pub symbolAnswer : List ℕ → Reader → ℕ → Symbol
 symbolAnswer s r prob = elim (validOf s r) [ true ↦ toSymbol (symbolOf s r prob) | false ↦ S.Refused ]
 
--- ---- the answers as numbers and values. Reading calls say only that a byte is missing: `short` is the number that the layer
--- above gives that, 6 where modes and 7 where tokens run out. A refusal's values are zero.
+-- what stands for a reader where there is none
 abbrev pub noReader : Reader
 noReader = record { at = 0; range = 0; shifts = 0; window = 0 }
 
--- the answer's number
+-- ---- the answer's number. Reading calls say only that a byte is missing: `short` is the number that the layer above gives that, 6 where
+-- modes and 7 where tokens run out.
 abbrev pub symbolNumberOf : ℕ → Symbol → ℕ
 symbolNumberOf short (S.Got b r) = 0
 symbolNumberOf short S.Missing = short
 symbolNumberOf short S.Refused = 9
-
--- the bit, and the reader after it
-abbrev pub symbolValuesOf : Symbol → Bool × Reader
-symbolValuesOf (S.Got b r) = (b, r)
-symbolValuesOf S.Missing = (false, noReader)
-symbolValuesOf S.Refused = (false, noReader)
 
 -- ---- as facts
 -- a reader over s from a range of at least `low`: after the split 1, between symbols 128

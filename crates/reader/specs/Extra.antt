@@ -7,7 +7,7 @@ use lib.Dec.{leb}
 use Rattle.numbers.specs.Flags.{bitOf}
 pub use Rattle.reader.specs.declared.extra.Number.{Number}
 use Rattle.reader.specs.declared.extra.Number.the-variants as N
-use Rattle.reader.specs.Boolean.{Reader, Given, given, missing, validOf, noReader}
+use Rattle.reader.specs.Boolean.{Reader, Given, given, missing, validOf}
 use Rattle.reader.specs.Reading.{Reading, done, symbol, run, _>>=_}
 
 -- v += v + read_bool(d, p), for each probability in turn; v is what the bits so far make
@@ -39,9 +39,3 @@ abbrev pub numberNumberOf : ℕ → Number → ℕ
 numberNumberOf short (N.Value v r) = 0
 numberNumberOf short N.Missing = short
 numberNumberOf short N.Refused = 9
-
--- the number, and the reader after it
-abbrev pub numberValuesOf : Number → ℕ × Reader
-numberValuesOf (N.Value v r) = (v, r)
-numberValuesOf N.Missing = (0, noReader)
-numberValuesOf N.Refused = (0, noReader)

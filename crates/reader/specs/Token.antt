@@ -5,7 +5,7 @@ use mathlib.Core.List.{List, [], _∷_}
 use lib.Dec.{leb}
 use lib.IntN.{ℤ}
 use lib.ListN.{length, take, drop}
-use Rattle.reader.specs.Boolean.{Reader, Given, given, missing, validOf, noReader}
+use Rattle.reader.specs.Boolean.{Reader, Given, given, missing, validOf}
 use Rattle.reader.specs.Reading.{Reading, run}
 use Rattle.reader.specs.Trees.{node, leaf, walk}
 pub use Rattle.reader.specs.declared.token.Token.{Token}
@@ -54,14 +54,8 @@ tokenOf s ps z r = toToken (run (token ps z) s r)
 unfoldable pub tokenAnswer : List ℕ → List ℕ → ℕ → Bool → Reader → Token
 tokenAnswer s table at z r = elim (validOf s r && leb (at + 11) (length table)) [ true ↦ tokenOf s (elevenAt table at) z r | false ↦ T.Refused ]
 
--- the answer as a number and values: `short` is the number that the layer above gives a missing byte
+-- the answer's number; `short` is the number that the layer above gives a missing byte
 abbrev pub tokenNumberOf : ℕ → Token → ℕ
 tokenNumberOf short (T.Read t r) = 0
 tokenNumberOf short T.Missing = short
 tokenNumberOf short T.Refused = 9
-
--- the token, and the reader after it
-abbrev pub tokenValuesOf : Token → ℕ × Reader
-tokenValuesOf (T.Read t r) = (t, r)
-tokenValuesOf T.Missing = (0, noReader)
-tokenValuesOf T.Refused = (0, noReader)

@@ -12,7 +12,7 @@ pub use Rattle.reader.specs.declared.trees.Branch.{Branch}
 use Rattle.reader.specs.declared.trees.Branch.the-variants as B
 use Rattle.reader.specs.declared.trees.Step.{Step}
 use Rattle.reader.specs.declared.trees.Step.the-variants as S
-use Rattle.reader.specs.Boolean.{Reader, Given, given, missing, validOf, noReader}
+use Rattle.reader.specs.Boolean.{Reader, Given, given, missing, validOf}
 use Rattle.reader.specs.Reading.{Reading, done, symbol, run, _>>=_}
 
 -- an entry: positive names a node, zero or less a leaf
@@ -107,12 +107,6 @@ abbrev pub walkedNumberOf : ℕ → Walked → ℕ
 walkedNumberOf short (W.Leaf v r) = 0
 walkedNumberOf short W.Missing = short
 walkedNumberOf short W.Refused = 9
-
--- the leaf, and the reader after it
-abbrev pub walkedValuesOf : Walked → ℕ × Reader
-walkedValuesOf (W.Leaf v r) = (v, r)
-walkedValuesOf W.Missing = (0, noReader)
-walkedValuesOf W.Refused = (0, noReader)
 
 -- ---- a tree as facts, which the inner functions require
 abbrev pub Leads : ℕ → ℕ → Branch → Type 0

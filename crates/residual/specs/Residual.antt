@@ -14,7 +14,7 @@ use Rattle.numbers.specs.Lists.{build}
 use Rattle.numbers.specs.Runs.{placed}
 use Rattle.numbers.specs.Tables.{allBelow}
 use Rattle.reader.specs.declared.boolean.Reader.{Reader}
-use Rattle.reader.specs.Boolean.{Given, given, missing, validOf, noReader}
+use Rattle.reader.specs.Boolean.{Given, given, missing, validOf}
 use Rattle.header.specs.Header.{headerOf}
 use Rattle.reader.specs.Reading.{Reading, done, run, _>>=_}
 use Rattle.reader.specs.Trace.{count}
@@ -226,29 +226,8 @@ module _ (s : List ℕ) (r : Reader) where
         | false ↦ 0
       ]
 
--- ---- the answers as numbers and values: 7 where the tokens run out, 9 for a refusal, whose values are zero
-abbrev endedNumberOf : Ended → ℕ
-endedNumberOf (E.Done r empty) = 0
-endedNumberOf E.Missing = 7
-endedNumberOf E.Refused = 9
-
--- the answer's number
-abbrev pub residualNumberOf : Residual → ℕ
-residualNumberOf a = endedNumberOf (a .answer)
-
--- the answer's values
-pub record Values : Type 0 where
-  pub reader : Reader
-  pub empty : Bool
-  pub top : List ℕ
-  pub left : List ℕ
-
--- the same of how it ended, with the flags that it leaves
-abbrev endedValuesOf : (top left : List ℕ) → Ended → Values
-endedValuesOf top left (E.Done r empty) = record { reader = r; empty = empty; top = top; left = left }
-endedValuesOf top left E.Missing = record { reader = noReader; empty = false; top = top; left = left }
-endedValuesOf top left E.Refused = record { reader = noReader; empty = false; top = top; left = left }
-
--- the reader after it, whether it is empty, and the flags that it leaves
-abbrev pub residualValuesOf : Residual → Values
-residualValuesOf a = endedValuesOf (a .top) (a .left) (a .answer)
+-- ---- the answer's number: 7 where the tokens run out, 9 for a refusal
+abbrev pub residualNumberOf : Ended → ℕ
+residualNumberOf (E.Done r empty) = 0
+residualNumberOf E.Missing = 7
+residualNumberOf E.Refused = 9
