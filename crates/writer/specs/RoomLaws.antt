@@ -105,25 +105,25 @@ module _ (w : Writer) (room : List ℕ) where
         room = (e ∙ ap (λ (x : ℕ). byteIn room (w .at) (high / 2 ^ x)) a) i;
       }
 
-  module _ (prob : ℕ) (b : Bool) {x range k bottom high grown : ℕ} (e : x ≡ splitIn (w .range) prob) (f : range ≡ widthIn (w .range) x b) (g : k ≡ doublingsOf range) (h : bottom ≡ raisedIn (w .bottom) x b) (i : high ≡ bottom * 2 ^ k % 2 ^ 64)
-      (j : grown ≡ range * 2 ^ (k % 32) % 2 ^ 32) where
-    shifted : shiftedIn w room range bottom ≡ writeIn w room prob b
-    unfolding writeIn
-    shifted = (λ n. shiftedIn w room (f n) (h n)) ∙ ap (λ (y : ℕ). shiftedIn w room (widthIn (w .range) y b) (raisedIn (w .bottom) y b)) e
-
-    pub write-loud : w .count ≤ k → {y : Written} → y ≡ loudIn w room grown high k → y ≡ writeIn w room prob b
+  module _ (range bottom : ℕ) {k high grown : ℕ} (g : k ≡ doublingsOf range) (i : high ≡ bottom * 2 ^ k % 2 ^ 64) (j : grown ≡ range * 2 ^ (k % 32) % 2 ^ 32) where
+    pub shifted-loud : w .count ≤ k → {y : Written} → y ≡ loudIn w room grown high k → y ≡ shiftedIn w room range bottom
     unfolding shiftedIn
-    write-loud l p =
+    shifted-loud l p =
         let o : loudIn w room (range * 2 ^ (doublingsOf range % 32) % 2 ^ 32) (bottom * 2 ^ doublingsOf range % 2 ^ 64) (doublingsOf range) ≡ shiftedIn w room range bottom = rw (le-leb (w .count) (doublingsOf range) (subst (λ (y : ℕ). w .count ≤ y) g l), shiftedIn) in
-        p ∙ (λ n. loudIn w room (j n) (i n) k) ∙ ap (λ (y : ℕ). loudIn w room (range * 2 ^ (y % 32) % 2 ^ 32) (bottom * 2 ^ y % 2 ^ 64) y) g ∙ o ∙ shifted
+        p ∙ (λ n. loudIn w room (j n) (i n) k) ∙ ap (λ (y : ℕ). loudIn w room (range * 2 ^ (y % 32) % 2 ^ 32) (bottom * 2 ^ y % 2 ^ 64) y) g ∙ o
 
-    pub write-quiet : k < w .count → writtenOf (record { at = w .at; range = grown; bottom = high % 2 ^ 32; count = w .count - k }) room ≡ writeIn w room prob b
+    pub shifted-quiet : k < w .count → writtenOf (record { at = w .at; range = grown; bottom = high % 2 ^ 32; count = w .count - k }) room ≡ shiftedIn w room range bottom
     unfolding shiftedIn
-    write-quiet l =
+    shifted-quiet l =
         let o : writtenOf (record { at = w .at; range = range * 2 ^ (doublingsOf range % 32) % 2 ^ 32; bottom = bottom * 2 ^ doublingsOf range % 2 ^ 64 % 2 ^ 32; count = w .count - doublingsOf range }) room ≡ shiftedIn w room range bottom =
         rw (lt-leb (w .count) (doublingsOf range) (subst (λ (y : ℕ). y < w .count) g l), shiftedIn) in
         (λ n. writtenOf (record { at = w .at; range = j n; bottom = i n % 2 ^ 32; count = w .count - k }) room)
-        ∙ ap (λ (y : ℕ). writtenOf (record { at = w .at; range = range * 2 ^ (y % 32) % 2 ^ 32; bottom = bottom * 2 ^ y % 2 ^ 64 % 2 ^ 32; count = w .count - y }) room) g ∙ o ∙ shifted
+        ∙ ap (λ (y : ℕ). writtenOf (record { at = w .at; range = range * 2 ^ (y % 32) % 2 ^ 32; bottom = bottom * 2 ^ y % 2 ^ 64 % 2 ^ 32; count = w .count - y }) room) g ∙ o
+
+  pub write-is : (prob : ℕ) {b v : Bool} {x range bottom : ℕ} {y : Written} → b ≡ v → x ≡ splitIn (w .range) prob → range ≡ widthIn (w .range) x v → bottom ≡ raisedIn (w .bottom) x v → y ≡ shiftedIn w room range bottom → y ≡ writeIn w room prob b
+  unfolding writeIn
+  write-is prob {b} {v} a e f h p =
+      p ∙ (λ n. shiftedIn w room (f n) (h n)) ∙ (λ n. shiftedIn w room (widthIn (w .range) (e n) (sym a n)) (raisedIn (w .bottom) (e n) (sym a n)))
 
 -- ---- the calls
 module _ (w : Writer) where

@@ -8,7 +8,7 @@ ghost use Prim.Native.Nat.{_<_, _≤_, _+_, _*_, _%_, _-_, _^_};
 ghost use lib.ListN.{length, set};
 ghost use Rattle.wide.specs.Wide.{doublingsOf};
 ghost use Rattle.writer.specs.Encoder.{addOne};
-ghost use Rattle.writer.specs.Room.{carriedIn, byteIn, writtenOf, freshWriter, writerFine, splitIn, widthIn, raisedIn, loudIn, writeIn};
+ghost use Rattle.writer.specs.Room.{carriedIn, byteIn, writtenOf, freshWriter, writerFine, splitIn, loudIn, shiftedIn, writeIn};
 ghost use Rattle.writer.specs.Room.{flushIn, flushAnswer, endedOf};
 ghost use Rattle.writer.specs.RoomLaws.{Fine};
 
@@ -75,26 +75,6 @@ fn split(range: u32, prob: u8) -> u32
     1 + (((top as u64 * prob as u64 % 4294967296) as u32) >> 8)
 }
 
-// The part of the range that the bit chooses.
-fn width(range: u32, x: u32, bit: bool) -> u32
-    ensures { λ r. ⌜ r ≡ widthIn range x bit ⌝ }
-{
-    if bit {
-        return wrapping_sub_u32(range, x);
-    }
-    x
-}
-
-// Its bottom.
-fn raised(bottom: u32, x: u32, bit: bool) -> u32
-    ensures { λ r. ⌜ r ≡ raisedIn bottom x bit ⌝ }
-{
-    if bit {
-        return wrapping_add_u32(bottom, x);
-    }
-    bottom
-}
-
 // How often a range of eight bits is doubled until it is at least 128, as `wide` counts it.
 fn doublings(range: u32) -> u32
     ensures { λ r. ⌜ (r ≡ doublingsOf range) × (r < 64) ⌝ }
@@ -117,7 +97,7 @@ fn moved(bottom: u32, k: u32) -> u64
     (bottom as u64) << k
 }
 
-// All the shifts of a symbol at once, where a byte is due: it leaves the top of `high`.
+// The shifts of a symbol where a byte is due: it leaves the top of `high`.
 fn loud(w: Writer, range: u32, high: u64, k: u32, out: &mut [u8]) -> Writer
     requires { ⌜ (w .count ≤ k) × (k < 64) × (high < 2 ^ 64) ⌝ }
     ensures { λ r. ⌜ writtenOf r (now (out .exit)) ≡ loudIn w (now (out .entry)) range high k ⌝ }
@@ -133,6 +113,23 @@ fn loud(w: Writer, range: u32, high: u64, k: u32, out: &mut [u8]) -> Writer
         range: range,
         bottom: (rest % 4294967296) as u32,
         count: wrapping_sub_u32(8, over),
+    }
+}
+
+// All the shifts of a symbol at once.
+fn shifted(w: Writer, range: u32, bottom: u32, out: &mut [u8]) -> Writer
+    ensures { λ r. ⌜ writtenOf r (now (out .exit)) ≡ shiftedIn w (now (out .entry)) range bottom ⌝ }
+{
+    let k = doublings(range);
+    let high = moved(bottom, k);
+    if w.count <= k {
+        return loud(w, grown(range, k), high, k, out);
+    }
+    Writer {
+        at: w.at,
+        range: grown(range, k),
+        bottom: (high % 4294967296) as u32,
+        count: w.count - k,
     }
 }
 
@@ -192,23 +189,17 @@ impl Writer {
     }
 
     // write_bool: one symbol of probability prob / 256 for a 0. Nothing is checked, so that it costs little: RoomLaws has what it says of an
-    // encoder.
+    // encoder. Each bit has its own way: where the bit is read just before, the reader's branch then decides here too.
     pub fn write(self, out: &mut [u8], prob: u8, bit: bool) -> Writer
         ensures { λ r. ⌜ writtenOf r (now (out .exit)) ≡ writeIn self (now (out .entry)) prob bit ⌝ }
     {
         let x = split(self.range, prob);
-        let range = width(self.range, x, bit);
-        let k = doublings(range);
-        let high = moved(raised(self.bottom, x, bit), k);
-        if self.count <= k {
-            return loud(self, grown(range, k), high, k, out);
+        if bit {
+            let range = wrapping_sub_u32(self.range, x);
+            let bottom = wrapping_add_u32(self.bottom, x);
+            return shifted(self, range, bottom, out);
         }
-        Writer {
-            at: self.at,
-            range: grown(range, k),
-            bottom: (high % 4294967296) as u32,
-            count: self.count - k,
-        }
+        shifted(self, x, self.bottom, out)
     }
 
     // flush_bool_encoder: how many bytes are written in all.
