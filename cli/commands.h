@@ -23,6 +23,7 @@ int decode(const struct options *options);
 int info(const struct options *options);
 int fits(const struct options *options);
 int wrap(const struct options *options);
+int recode(const struct options *options);
 int explain(const struct options *options);
 int pixel_page(const struct options *options);
 int survey(const struct options *options);

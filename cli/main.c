@@ -6,6 +6,7 @@
 #include <stdlib.h>
 #include <string.h>
 
+/* In two parts: C99 promises no more than 4095 bytes of one string. */
 static const char help[] =
     "hookbarley " HOOKBARLEY_VERSION ": decodes VP8 key frames with a formally verified library\n"
     "\n"
@@ -14,6 +15,7 @@ static const char help[] =
     "  hookbarley info [--json] IN..              show size, partitions, quantizer, segments, filter, answer and modes\n"
     "  hookbarley fits [--json] IN..              check the cockpit profile; name the first rule that fails\n"
     "  hookbarley wrap IN OUT.webp                write a WebP file around a key frame\n"
+    "  hookbarley recode IN OUT                   write IN again with one token partition a frame: the same pictures\n"
     "  hookbarley explain IN X Y                  tell why the loop filter changed this pixel or not, edge by edge\n"
     "  hookbarley explain IN OUT                  colour luma by the rule that changed each sample; OUT.ppm or OUT.svg\n"
     "  hookbarley page IN OUT.html                write a page for a browser: point at a pixel and read what explain tells\n"
@@ -41,13 +43,18 @@ static const char help[] =
     "  --html OUT           survey: also write a page with charts; it needs no network\n"
     "  --add                survey: the names are records that --json wrote; add them up\n"
     "  -j N                 decode to a FOLDER, survey: use N processes; the output is the same\n"
-    "\n"
+    "\n";
+
+static const char more_help[] =
     "The pictures of an IVF file follow one another in OUT. A truncated picture is still written: what was finished, and\n"
     "grey for the rest. OUT is not created if nothing can be decoded. A frame that ends before its last token partition\n"
     "begins is refused, even with --rescue. The files of a folder keep their places in FOLDER.\n"
     "\n"
     "The cockpit profile, in this order: coded as 256 x 256; 1, 2 or 4 token partitions; no segments; sharpness 0; whole;\n"
     "no macroblock both skipped and small.\n"
+    "\n"
+    "recode writes a file of the same kind and says how many bytes it saves or costs. If a frame is refused or cut, nothing is\n"
+    "written.\n"
     "\n"
     "page makes one file that needs no network: the picture before and after the loop filter, tinted by segment, mode, rule\n"
     "or mark. Like explain it takes the first picture of an IVF file; this must have at most 4096 macroblocks.\n"
@@ -77,6 +84,7 @@ static const struct command commands[] = {
     {"info", info, TAKES_JSON},
     {"fits", fits, TAKES_JSON},
     {"wrap", wrap, 0},
+    {"recode", recode, 0},
     {"explain", explain, TAKES_FILTER | TAKES_RESCUE},
     {"page", pixel_page, TAKES_FILTER | TAKES_RESCUE},
     {"survey", survey, TAKES_JSON | TAKES_JOBS | TAKES_SURVEY},
@@ -174,7 +182,7 @@ static int asks_for_help(char **words, int count) {
 
 int main(int argc, char **argv) {
     if (argc < 2) return usage("no command", "");
-    if (asks_for_help(argv + 1, argc - 1)) return fputs(help, stdout) < 0;
+    if (asks_for_help(argv + 1, argc - 1)) return fputs(help, stdout) < 0 || fputs(more_help, stdout) < 0;
     if (!strcmp(argv[1], "--version")) return puts("hookbarley " HOOKBARLEY_VERSION) < 0;
     struct options options = {.filter = FILTER_CODED, .to = FORM_NONE, .tint = TINT_NONE, .jobs = 1, .names = argv + 2};
     for (size_t i = 0; i < sizeof commands / sizeof *commands; i++) {

@@ -39,9 +39,9 @@ enum hookbarley_number {
     HOOKBARLEY_PAST_END = 13,     /* The first partition, the table of partition sizes or a token partition extends past the end. */
     HOOKBARLEY_NO_HEADER = 14,    /* The coded header ran out, or the first partition has fewer than two bytes. */
     HOOKBARLEY_FULL = 15,         /* A count in a record would exceed 2^63-1. */
-    HOOKBARLEY_ROOM = 16,         /* The output room is too small for the WebP file or the recoded tile. */
+    HOOKBARLEY_ROOM = 16,         /* The output room is too small for the WebP file, the recoded tile or the recoded frame. */
     HOOKBARLEY_MARKS = 17,        /* 'RIFF' or 'WEBP' is missing or wrong. */
-    HOOKBARLEY_SIZES = 18,        /* A size disagrees with the bytes, a pad byte is not 0, or the frame to be wrapped is too long. */
+    HOOKBARLEY_SIZES = 18,        /* A size disagrees with the bytes, a pad byte is not 0, or what would be written is too long for its layout. */
     HOOKBARLEY_KIND = 19          /* The first chunk is not 'VP8 ', or there is none. */
 };
 
@@ -301,6 +301,30 @@ uint32_t hookbarley_recode(const uint8_t *bytes, size_t bytes_len,
                            uint8_t *out, size_t room,
                            size_t *result, size_t result_len);
 
+/* Writes a key frame again with a single token partition: the coded header with the partition count 0 and the modes, encoded anew, then the
+ * tokens in raster order, all symbols with the probabilities that they were read with (RFC 6386, sections 7.3, 9.5 and 19.2). The tag has
+ * the new first partition's size; start code, width and height are copied. The frame is written to the start of `out`, *written bytes long.
+ * It shows the same picture, and recoding it writes the same bytes.
+ *
+ * It answers 12 to 14 as hookbarley_frame, 4 where a lent length is not what the frame's size asks, 6 and 7 as hookbarley_decode; then 18,
+ * where the new first partition would pass 2^19-1 bytes, which is all that a tag can say; then 16, exactly if the frame is longer than the
+ * room. After any other number than 0, `out` is unchanged and *written is 0. The bytes of `out` after the frame are unchanged.
+ *
+ * bytes            a key frame, from its tag to its end
+ * y .. strengths   lent: as for hookbarley_decode of the frame's tile, which it leaves as that call does; unchanged after 4 and 12 to 14
+ * out              lent: the new frame. Mostly it is a few bytes shorter than the old one
+ * written          how many bytes the new frame has
+ */
+uint32_t hookbarley_recode_frame(const uint8_t *bytes, size_t bytes_len,
+                                 uint8_t *y, size_t y_len,
+                                 uint8_t *u, size_t u_len,
+                                 uint8_t *v, size_t v_len,
+                                 uint8_t *columns, size_t columns_len,
+                                 uint8_t *modes, size_t modes_len,
+                                 uint8_t *strengths, size_t strengths_len,
+                                 uint8_t *out, size_t room,
+                                 size_t *written);
+
 /* Applies the loop filter to a picture in place (RFC 6386, section 15): macroblocks in raster order, and in each the left edge (except in
  * column 0), the inner vertical edges, the top edge (except in row 0) and the inner horizontal edges. It never refuses what
  * hookbarley_decode or hookbarley_rescue left. Checked in this order, and after a refusal nothing has changed: 1 width or height; 4 a
@@ -519,6 +543,14 @@ static inline uint32_t hookbarley_recode_picture(const uint8_t *bytes, size_t le
     return hookbarley_recode(bytes, length, header, HOOKBARLEY_ENTRIES, (const size_t *)t, HOOKBARLEY_TILE_NUMBERS,
                              m->y, n.y, m->u, n.u, m->v, n.v, m->columns, n.columns, m->modes, n.modes, m->strengths, n.strengths,
                              out, room, (size_t *)result, HOOKBARLEY_TILE_NUMBERS);
+}
+
+/* hookbarley_recode_frame, with memory lent for the frame's tile. */
+static inline uint32_t hookbarley_recode_bytes(const uint8_t *bytes, size_t length, const struct hookbarley_tile *t,
+                                               const struct hookbarley_memory *m, uint8_t *out, size_t room, size_t *written) {
+    struct hookbarley_lengths n = hookbarley_lengths_of(t);
+    return hookbarley_recode_frame(bytes, length, m->y, n.y, m->u, n.u, m->v, n.v, m->columns, n.columns, m->modes, n.modes, m->strengths,
+                                   n.strengths, out, room, written);
 }
 
 /* hookbarley_deblock of what was decoded. */

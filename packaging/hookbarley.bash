@@ -3,7 +3,7 @@ _hookbarley() {
     local word=${COMP_WORDS[COMP_CWORD]} before=${COMP_WORDS[COMP_CWORD - 1]} options=
     if [ "$COMP_CWORD" -eq 1 ]; then
         # shellcheck disable=SC2207
-        COMPREPLY=($(compgen -W 'decode info fits wrap explain page survey --help --version' -- "$word"))
+        COMPREPLY=($(compgen -W 'decode info fits wrap recode explain page survey --help --version' -- "$word"))
         return
     fi
     case $before in

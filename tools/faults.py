@@ -15,7 +15,7 @@ import sys
 from pathlib import Path
 
 ROOT = Path(__file__).resolve().parent.parent
-LEAST = 109
+LEAST = 113
 TABLE = "## Faults that the prover must refuse"
 NEXT = re.compile(r"^\S+?:\d+:\d+: (?:error|note)\b|^note:|^(?:fn|enum|struct|logic|library) ", re.M)
 

@@ -7,7 +7,7 @@ import sys
 
 from sources import ROOT, functions, modules
 
-LEAST = 149
+LEAST = 151
 # What other files rest on: places in the planes, and two runs side by side.
 NO_STATEMENT = {"Lib", "Places", "TwoModes", "TwoRuns"}
 

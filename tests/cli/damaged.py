@@ -1,13 +1,13 @@
 #!/usr/bin/env python3
 """The program on cut and damaged files: damaged.py ROOM N SEED CHECKED PLAIN FILE.. where CHECKED is the program built with sanitizers and
 PLAIN the one that valgrind runs. Every cut of each FILE and N damaged copies go, one by one, through `decode`, `decode --rescue`, `info`,
-`fits`, `page --rescue` and `survey` of CHECKED: the exit status is 0 or 1, standard error says what happened where it is 1 and nothing where it is 0, and
-there is a picture exactly where it is whole, cut or rescued. `info` and `survey` say what `decode` says, `page --rescue` what
-`decode --rescue` says of the first picture, and there is a page exactly where that has one. `fits` refuses what `decode`
-refuses and says a line of every other picture. `decode --rescue` stops where `decode` does, except in a WebP file that `decode` refuses
-for its sizes. The surveys of each, added, are the survey of all; N damaged records are joined or refused. Then all files, a hundred at a
-time, go through `decode` under valgrind, with and without --rescue, and through `survey`, in one process and in two; it must find no
-error and no leak."""
+`fits`, `page --rescue`, `recode` and `survey` of CHECKED: the exit status is 0 or 1, standard error says what happened where it is 1 and
+nothing where it is 0, and there is a picture exactly where it is whole, cut or rescued. `info` and `survey` say what `decode` says, `page
+--rescue` what `decode --rescue` says of the first picture, and there is a page exactly where that has one. `recode` writes a file exactly
+where all is whole, which shows the same. `fits` refuses what `decode` refuses and says a line of every other picture. `decode --rescue`
+stops where `decode` does, except in a WebP file that `decode` refuses for its sizes. The surveys of each, added, are the survey of all; N
+damaged records are joined or refused. Then all files, a hundred at a time, go through `decode` under valgrind, with and without --rescue,
+and through `survey`, in one process and in two; it must find no error and no leak."""
 import json
 import os
 import random
@@ -110,11 +110,31 @@ def paged(path, rescue):
         fail(path, "a page that should not be there, or none", result)
 
 
+def recoded(path, plainly):
+    """What `recode` writes beside what `decode` said: a file exactly where every picture is whole, and it decodes to the same samples."""
+    out, before, after = f"{room}/recoded", f"{room}/before.yuv", f"{room}/after.yuv"
+    for old in (out, before, after):
+        if os.path.exists(old):
+            os.remove(old)
+    result = run(checked, "recode", path, out)
+    if result.returncode != plainly.returncode or bool(result.stderr) != bool(plainly.stderr):
+        fail(path, "recode and decode differ", result)
+    if os.path.exists(out) != (result.returncode == 0):
+        fail(path, "a recoded file that should not be there, or none", result)
+    if result.returncode == 0:
+        run(checked, "decode", path, before)
+        again = run(checked, "decode", out, after)
+        with open(before, "rb") as a, open(after, "rb") as b:
+            if a.read() != b.read():
+                fail(path, "the recoded file shows another picture", again)
+
+
 def one(path):
     """Runs the commands and counts what was said."""
     plainly, rescue, info = decoded(path), decoded(path, "--rescue"), run(checked, "info", path)
     judge(path, plainly)
     paged(path, rescue)
+    recoded(path, plainly)
     if plainly.returncode != info.returncode or plainly.stderr != info.stderr:
         fail(path, "decode and info differ", info)
     survey = run(checked, "survey", "--json", path)

@@ -73,17 +73,17 @@ hb 0 --help
 options=$(sed -n '/^  --unfiltered/,/^  -j N/p' $out/said | grep -oE -- '^  --?[a-z]+(, --[a-z]+)?' | listed)
 in_manual=$(sed -n '/^\.SH OPTIONS/,/^\.SH "LONG/p' $manual | grep -A1 '^\.TP' | grep -E '^\.(B|BR|BI) ' | sed 's/\\-/-/g' | listed)
 [ -n "$options" ] && [ "$options" = "$in_manual" ] || bad "the manual page has the options $in_manual, --help $options"
-for word in decode info fits wrap explain page survey; do
+for word in decode info fits wrap recode explain page survey; do
     said "hookbarley $word" && grep -q "^\.B $word\$" $manual || bad "the manual page does not tell of $word"
 done
 completed() { # completed WORDS..: what bash offers for the last of them
     bash -c '. "$0"; COMP_WORDS=("$@"); COMP_CWORD=$(($# - 1)); _hookbarley; printf "%s " "${COMPREPLY[@]}"' $prefix/share/bash-completion/completions/hookbarley "$@"
 }
-[ "$(completed hookbarley '')" = 'decode info fits wrap explain page survey --help --version ' ] || bad "completion: other commands"
+[ "$(completed hookbarley '')" = 'decode info fits wrap recode explain page survey --help --version ' ] || bad "completion: other commands"
 [ "$(completed hookbarley decode --to p)" = 'pgm ppm ' ] || bad "completion: other forms"
 [ "$(completed hookbarley survey bench/tile-q5)" = 'bench/tile-q50.case bench/tile-q50.webp ' ] || bad "completion: no files"
 known=
-for word in decode info fits wrap explain page survey; do
+for word in decode info fits wrap recode explain page survey; do
     for option in $(completed hookbarley $word -); do # each that is offered is taken
         known="$known $option"
         $X86RUN target/cli/hookbarley $word "$option" 2>&1 | grep -q "$word takes no $option\|what is" && bad "completion: $word takes no $option"

@@ -37,7 +37,7 @@ common() { # common A B RUNS: which macroblocks of 256 by 256 samples both have
 }
 
 # Usage: status 2.
-hb 0 --help && said 'hookbarley decode' && said 'hookbarley info' && said 'hookbarley fits' && said 'hookbarley wrap' && said '--rescue' && said 'Exit status' && quiet
+hb 0 --help && said 'hookbarley decode' && said 'hookbarley info' && said 'hookbarley fits' && said 'hookbarley wrap' && said 'hookbarley recode' && said '--rescue' && said 'Exit status' && quiet
 said 'hookbarley survey' && said '--html OUT' && said 'hookbarley page'
 hb 0 --version && said "hookbarley $(sed -n 's/^#define HOOKBARLEY_VERSION "\(.*\)"$/\1/p' include/hookbarley.h)"
 hb 0 decode --help && said 'hookbarley decode' && quiet
@@ -52,6 +52,7 @@ hb 2 decode bench/tile-q90.webp /dev/full --to yuv && warned 'No space'
 hb 2 info && warned 'info takes an IN'
 hb 2 fits && warned 'fits takes an IN'
 hb 2 wrap bench/tile-q90.webp && warned 'wrap takes'
+hb 2 recode bench/tile-q90.webp && warned 'recode takes'
 none a.ppm
 
 # The three forms. The md5 of the .yuv is of what ffmpeg 5.1.9 gave, that of the .ppm of `dwebp -nofancy -ppm` (1.2.4).
@@ -82,8 +83,24 @@ hb 2 wrap $kept/two-partitions.ivf $out/two.webp && warned 'one frame' && none t
 hb 1 wrap cli/main.c $out/no.webp && warned 'refused: 12' && none no.webp
 hb 1 wrap tests/outside/webp/lossless.webp $out/no.webp && warned 'refused: 19' && none no.webp
 
-# Cut: still written, the finished rows as in the whole picture and grey below, and said so.
+# Recoded: a file of the same kind with one token partition a frame, the same pictures; again it is the same file. What is cut is not written.
+one_partition() { # one_partition IN OUT FRAMES
+    hb 0 recode "$1" "$2" && said "$2: $(wc -c <"$2") bytes, " && quiet
+    hb 0 recode "$2" $out/again && same $out/again "$2"
+    hb 0 decode "$1" $out/before.yuv
+    hb 0 decode "$2" $out/after.yuv && same $out/before.yuv $out/after.yuv
+    hb 0 info "$2" && [ "$(grep -c ' 1 of tokens:' $out/said)" -eq "$3" ] || bad "$what: not $3 frames of one partition"
+}
+one_partition bench/tile-q90.webp $out/one.webp 1
+one_partition $kept/two-partitions.ivf $out/one.ivf 2
+one_partition $out/tile.vp8 $out/one.vp8 1
 head -c 15000 $out/tile.vp8 >$out/cut.vp8
+hb 1 recode $out/cut.vp8 $out/no.vp8 && warned 'cut: 7, ' && none no.vp8
+hb 1 recode cli/main.c $out/no.vp8 && warned 'refused: 12' && none no.vp8
+hb 1 recode tests/outside/webp/lossless.webp $out/no.webp && warned 'refused: 19' && none no.webp
+hb 2 recode $out/absent.webp $out/no.webp && warned 'No such file'
+
+# Cut: still written, the finished rows as in the whole picture and grey below, and said so.
 stop='7, a token partition ran out in macroblock 123 (column 11, row 7), 123 of 256 finished'
 hb 1 decode --unfiltered $out/cut.vp8 $out/c.yuv && said cut && warned "cut: $stop; the rest is grey"
 cmp -s -n $((7 * 16 * 256)) $out/c.yuv $out/u.yuv || bad "$what: the finished rows differ"
@@ -230,6 +247,7 @@ piped 0 bench/tile-q90.webp decode - $out/in && same $out/in/stdin.ppm $out/a.pp
 piped 1 $out/cut.vp8 decode --unfiltered --to yuv - - && same $out/said $out/c.yuv && warned "-: cut: $stop"
 piped 1 $out/inter.vp8 decode - - && warned '-: refused: 12' && [ ! -s $out/said ] || bad "$what: writes something"
 piped 0 $out/tile.vp8 wrap - - && same $out/said bench/tile-q90.webp && warned '-: 29196 bytes'
+piped 0 bench/tile-q90.webp recode - - && same $out/said $out/one.webp && warned '-: '
 piped 0 bench/tile-q90.webp info - && said '-: WebP file, 29196 bytes' && quiet
 piped 1 bench/tile-q90.webp fits - && said '-: rule 3 fails'
 piped 0 bench/tile-q50.webp explain - 15 20 && said 'luma at 15 20'

@@ -117,6 +117,30 @@ static void recode(struct taken *t) {
     give_back(out, most);
 }
 
+/* The recoded frame has one token partition and decodes to the same memory. */
+static void recode_frame(struct taken *t) {
+    static int32_t header[HOOKBARLEY_ENTRIES];
+    struct hookbarley_memory memory, again;
+    struct hookbarley_tile tile;
+    size_t most = 4 * t->length + 1000, written, finished;
+    uint64_t first_reads, token_reads;
+    uint8_t *room = lent(t->room, 11), *other = lent(t->room, 12), *out = lent(most, 13);
+    hookbarley_lend(&t->tile, room, &memory);
+    uint32_t number = hookbarley_recode_bytes(t->bytes, t->length, &t->tile, &memory, out, most, &written);
+    CHECK(number == t->number || number == HOOKBARLEY_ROOM);
+    CHECK(!memcmp(room, t->decoded, t->room) && (number ? !written : written <= most));
+    if (!number) {
+        CHECK(!hookbarley_take(out, written, header, &tile) && tile.count == 1 && hookbarley_room(&tile) == t->room);
+        CHECK(!memcmp(header, t->header, sizeof header));
+        hookbarley_lend(&tile, other, &again);
+        CHECK(!hookbarley_picture(out, written, header, &tile, &again, &finished, &first_reads, &token_reads));
+        CHECK(!memcmp(other, t->decoded, t->room));
+    }
+    give_back(room, t->room);
+    give_back(other, t->room);
+    give_back(out, most);
+}
+
 /* The WebP file around a frame holds that frame. */
 static void wrap(const uint8_t *bytes, size_t length) {
     size_t room = length + 21, written, start, found;
@@ -145,5 +169,6 @@ static void one(const uint8_t *bytes, size_t length) {
     survey(&t);
     profile(&t);
     recode(&t);
+    recode_frame(&t);
     give_back(t.decoded, t.room);
 }

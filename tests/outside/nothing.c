@@ -150,8 +150,9 @@ static void taking(unsigned out) {
 }
 
 /* A frame of one macroblock whose token partition has no bytes: where all is lent it is grey. */
+static const uint8_t tokenless[70] = {[0] = (60 << 5 & 255) | 16, [1] = 60 >> 3, [3] = 0x9d, 0x01, 0x2a, 16, 0, 16, 0};
+
 static void showing(unsigned out) {
-    static const uint8_t frame[70] = {[0] = (60 << 5 & 255) | 16, [1] = 60 >> 3, [3] = 0x9d, 0x01, 0x2a, 16, 0, 16, 0};
     struct hookbarley_lengths n = hookbarley_lengths_of(&tile);
     struct hookbarley_memory m = lent();
     struct hookbarley_tile taken;
@@ -160,10 +161,25 @@ static void showing(unsigned out) {
     uint64_t first_reads, token_reads;
     uint32_t refused = out & 6 ? HOOKBARLEY_ARGUMENT : out & 1 ? HOOKBARLEY_NO_KEY_FRAME : refusal(out);
     trying("key_frame without %#x", out);
-    must_be(hookbarley_key_frame(GIVEN(0, frame, sizeof frame), GIVEN(1, entries, HOOKBARLEY_ENTRIES),
+    must_be(hookbarley_key_frame(GIVEN(0, tokenless, sizeof tokenless), GIVEN(1, entries, HOOKBARLEY_ENTRIES),
                                  GIVEN(2, (size_t *)&taken, HOOKBARLEY_TILE_NUMBERS), GIVEN_MEMORY, &finished, &first_reads, &token_reads),
             refused ? refused : HOOKBARLEY_NO_TOKENS);
     if (finished || token_reads || (refused && first_reads)) fail("something was read");
+    planes_are(&n, refused);
+}
+
+/* The same frame: its tokens are missing. */
+static void recoding_frame(unsigned out) {
+    struct hookbarley_lengths n = hookbarley_lengths_of(&tile);
+    struct hookbarley_memory m = lent();
+    uint8_t into[64];
+    size_t written;
+    uint32_t refused = out & 1 ? HOOKBARLEY_NO_KEY_FRAME : refusal(out & 504);
+    trying("recode_frame without %#x", out);
+    memset(into, 0xA5, sizeof into);
+    must_be(hookbarley_recode_frame(GIVEN(0, tokenless, sizeof tokenless), GIVEN_MEMORY, GIVEN(1, into, sizeof into), &written),
+            refused ? refused : HOOKBARLEY_NO_TOKENS);
+    if (written || !all(into, sizeof into, 0xA5)) fail("something is written");
     planes_are(&n, refused);
 }
 
@@ -195,6 +211,8 @@ int main(void) {
     for (unsigned out = 0; out < 4; out++) adding(out);
     for (unsigned out = 0; out < 512; out++) showing(out);
     for (unsigned out = 0; out < 2048; out++) recoding(out);
+    for (unsigned out = 0; out < 512; out++)
+        if (!(out & 4)) recoding_frame(out);
     for (unsigned out = 0; out < 16; out++) deblocking(out);
     for (unsigned out = 0; out < 8; out++) taking(out);
     for (unsigned out = 0; out < 8; out++) explaining(out);

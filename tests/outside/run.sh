@@ -386,8 +386,8 @@ part_recoded() {
 part_nothing() {
     local which
     run_test nothing tests/outside/nothing.c
-    least nothing "calls" "$(counted $out/nothing.log '^ok: \([0-9]*\) calls')" 5676
-    for which in '' explain_ frame_ profile_ recode_ rescue_ show_ survey_ webp_; do faults nothing tests/outside/nothing.c tests/outside/${which}mutants.c 1 plainly; done
+    least nothing "calls" "$(counted $out/nothing.log '^ok: \([0-9]*\) calls')" 5932
+    for which in '' explain_ frame_ profile_ recode_ recode_frame_ rescue_ show_ survey_ webp_; do faults nothing tests/outside/nothing.c tests/outside/${which}mutants.c 1 plainly; done
 }
 
 # The WebP calls between guard pages, on files of encoders and damaged ones; the faults that the test must find.
@@ -445,12 +445,24 @@ part_show() {
     faults show tests/outside/show.c tests/outside/show_mutants.c "$(upto 20)" plainly 200 1 tests/outside/webp/even.webp $kept
 }
 
+# The call that recodes a frame whole between guard pages, beside the header's and the picture call; the faults that the test must find.
+# shellcheck disable=SC2086
+part_recode_frame() {
+    local kept
+    kept=$(echo tests/second/kept/*.webp tests/second/kept/*.ivf)
+    run_test recode_frame tests/outside/recode_frame.c $((N / 4)) "$SEED" $small bench/*.webp $kept
+    least recode_frame "rooms" "$(counted $out/recode_frame.log '^rooms: \([0-9]*\) rooms')" 1900
+    least recode_frame "cuts" "$(counted $out/recode_frame.log '^cut: \([0-9]*\) cuts')" 1800
+    least recode_frame "random inputs" "$(counted $out/recode_frame.log '^random: \([0-9]*\) inputs')" $((N / 4))
+    faults recode_frame tests/outside/recode_frame.c tests/outside/recode_frame_mutants.c "$(upto 18)" plainly 200 1 tests/outside/webp/even.webp $kept
+}
+
 # The Rust wrapper.
 part_rust() {
     local passed
     if tests/outside/rust.sh "$ARCHIVE" >$out/rust.log 2>&1; then
         passed=$(grep '^test result' $out/rust.log | awk '{s += $4} END {print s + 0}')
-        least rust "tests" "$passed" 31
+        least rust "tests" "$passed" 34
         say rust "$passed tests passed"
     else
         tail -n 20 $out/rust.log
@@ -471,10 +483,10 @@ part_products() {
 
 # As many parts at a time as there are processors, the longest first; what they say is printed in the order above. A part that does not come to
 # its end leaves no status, and has not passed.
-parts="calls example counts readme damaged faults rescue rescued profile survey surveyed recode recoded nothing webp explain frame show rust products"
+parts="calls example counts readme damaged faults rescue rescued profile survey surveyed recode recoded nothing webp explain frame show recode_frame rust products"
 for part in $parts; do rm -f $out/part-$part.txt $out/part-$part.status; done
 running=0
-for part in frame webp damaged show faults recode rescue profile survey counts surveyed example explain rescued recoded rust nothing products readme calls; do
+for part in frame webp damaged show recode_frame faults recode rescue profile survey counts surveyed example explain rescued recoded rust nothing products readme calls; do
     if [ $running -ge "$(nproc)" ]; then
         wait -n
         running=$((running - 1))

@@ -23,7 +23,7 @@ FORMS = [
     ("`Type 0`", "a type, or a statement"),
     ("`-- text`", "a sentence for the reader"),
 ]
-BUILT_IN = {"⊥": "what never holds; `A → ⊥`: A does not hold", "_×_": "both hold; of types, pairs `(a, b)`", "Unit": "what always holds"}
+BUILT_IN = {"⊥": "what never holds; `A → ⊥`: A does not hold", "_×_": "both hold; of types, pairs `(a, b)`", "Unit": "what always holds", "tt": "the one value of `Unit`"}
 KIT = {
     "Prim.Native.Nat": {
         "ℕ": "0, 1, 2, ..", "zero": "0", "suc": "`suc n` is n + 1", "_+_": "sum", "_-_": "difference, 0 where it would be below 0", "_*_": "product",

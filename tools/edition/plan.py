@@ -21,7 +21,7 @@ CHAPTERS = [
     ("What a cut tile still tells", "request M-108", ["macroblock/Rebuilt", "picture/Halt", "rescue"]),
     ("Whether a tile fits the cockpit profile", "request M-111", ["profile"]),
     ("A survey over a delivery", "request M-110", ["survey"]),
-    ("One partition", "section 7.3, the encoder; request M-112", ["writer", "recode"]),
+    ("One partition", "section 7.3, the encoder; request M-112", ["writer", "recode", "recode_frame"]),
     ("The WebP file", "RFC 9649; request M-113", ["webp"]),
     ("The fast way", "section 7.3", ["wide"]),
     ("Case files", "", ["casefile"]),

@@ -66,6 +66,17 @@ extern "C" {
         out: *mut u8, room: usize,
         result: *mut usize, result_len: usize,
     ) -> u32;
+    fn hookbarley_recode_frame(
+        bytes: *const u8, bytes_len: usize,
+        y: *mut u8, y_len: usize,
+        u: *mut u8, u_len: usize,
+        v: *mut u8, v_len: usize,
+        columns: *mut u8, columns_len: usize,
+        modes: *mut u8, modes_len: usize,
+        strengths: *mut u8, strengths_len: usize,
+        out: *mut u8, room: usize,
+        written: *mut usize,
+    ) -> u32;
     fn hookbarley_deblock(
         y: *mut u8, y_len: usize,
         u: *mut u8, u_len: usize,
@@ -507,6 +518,33 @@ pub fn recode(frame: &Frame, mem: &mut Memory, out: &mut [u8]) -> Result<Tile, u
     // Safe: as `on_tile` says; `out` is a slice that overlaps none of the vectors, and the tile, so many numbers (`repr(C)`), stands alone.
     match unsafe { on_tile!(hookbarley_recode, frame, header, given, mem, out.as_mut_ptr(), out.len(), result, TILE_NUMBERS) } {
         answer::WHOLE => Ok(tile),
+        refused => Err(refused),
+    }
+}
+
+/// Writes a key frame again with a single token partition: header and modes encoded anew with the partition count 0, then the tokens in
+/// raster order, at the start of `out`. Gives how many bytes the new frame has. It shows the same picture, and recoding it writes the same
+/// bytes. Or the number of the refusal: 12 to 14 as `Frame::take`, 4 where the memory is of another size, 6 and 7 as `decode`, 18 where the
+/// first partition would be too long for the tag, 16 where `out` is too small; then `out` is as it was. Memory is as `decode` leaves it,
+/// after 4 and 12 to 14 as it was.
+pub fn recode_frame(bytes: &[u8], mem: &mut Memory, out: &mut [u8]) -> Result<usize, u32> {
+    let mut written = 0usize;
+    // Safe: each pointer and length is of a slice, the lent ones are different vectors, `out` overlaps none of them, the number stands alone.
+    let number = unsafe {
+        hookbarley_recode_frame(
+            bytes.as_ptr(), bytes.len(),
+            mem.y.as_mut_ptr(), mem.y.len(),
+            mem.u.as_mut_ptr(), mem.u.len(),
+            mem.v.as_mut_ptr(), mem.v.len(),
+            mem.columns.as_mut_ptr(), mem.columns.len(),
+            mem.modes.as_mut_ptr(), mem.modes.len(),
+            mem.strengths.as_mut_ptr(), mem.strengths.len(),
+            out.as_mut_ptr(), out.len(),
+            &mut written,
+        )
+    };
+    match number {
+        answer::WHOLE => Ok(written),
         refused => Err(refused),
     }
 }

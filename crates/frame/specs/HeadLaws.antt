@@ -4,7 +4,7 @@ use Prim.Native.Nat.{ℕ, zero, suc, _+_, _-_, _*_, _/_, _%_, _≤_, _<_}
 use mathlib.Core.Path.{_≡_, refl, sym, _∙_, ap, ap₂}
 use mathlib.Core.Bool.{true, false, not, _&&_}
 use mathlib.Core.List.{List, []}
-use mathlib.Core.Logic.{_⊎_, ⊎-elim}
+use mathlib.Core.Logic.{⊎-elim}
 use native.Mathlib.Omega.{arith}
 use lib.Pow.{pow-pos}
 use lib.Dec.{ltb, leb, eqb, lit<}
@@ -26,7 +26,7 @@ use Rattle.frame.specs.PlacesLaws.{place-stays, place-after, inside-all}
 use Rattle.frame.specs.Entries.{entries}
 use Rattle.frame.specs.TakeLaws.{take-coded}
 use Rattle.frame.specs.Passes.{unplaced}
-use Rattle.frame.specs.PassesLaws.{Way, refused, whole, way, place-is}
+use Rattle.frame.specs.PassesLaws.{no-refusal, Way, refused, whole, way, place-is}
 
 -- two frames with the same bytes below place n
 pub record SameBelow (n : ℕ) (b c : List ℕ) : Type 0 where
@@ -221,9 +221,6 @@ module _ (b c : List ℕ) where
             ∙ ap (λ (m : ℕ). record { start = partitionStart c m count q; len = lengthOf c m count q (partitionStart c m count q) }) (place-same s ten)
             ∙ sym (place-is c h r q (omega arith) (omega arith))
 
-  no-refusal : {n : ℕ} {C : Type 0} → (n ≡ 12) ⊎ (n ≡ 13) ⊎ (n ≡ 14) → n ≡ 0 → C
-  no-refusal k e = absurd (⊎-elim (λ p. omega (arith, p, e)) (λ q. ⊎-elim (λ p. omega (arith, p, e)) (λ p. omega (arith, p, e)) q) k)
-
   -- THE LAW of one length: the same bytes before the token partitions
   pub taken-head : takenOf b .answer .number ≡ 0 → length b ≡ length c → SameBelow (spanAt (takenOf b .answer .tile) 0 .start) b c → takenOf c ≡ takenOf b
   unfolding nothingTaken wholeOf partitionStart
@@ -258,7 +255,7 @@ module _ (b c : List ℕ) where
   taken-same = go (way b) (way c)
     where
       go : {t u : Taken} → Way b t → Way c u → t .answer .number ≡ 0 → u .answer .number ≡ 0 → SameBelow (t .answer .tile .first .start + t .answer .tile .first .len) b c → unplaced t ≡ unplaced u
-      go (refused n k) w e f s = no-refusal b c k e
-      go (whole h r tag inside two g placed) (refused n k) e f s = no-refusal b c k f
+      go (refused n k) w e f s = no-refusal k e
+      go (whole h r tag inside two g placed) (refused n k) e f s = no-refusal k f
       go (whole h r tag inside two g placed) (whole h₂ r₂ tag₂ inside₂ two₂ g₂ placed₂) e f s =
           answer-same h r s ∙ ap (codedUnplaced c) (sym g ∙ first-same s (omega arith) (omega arith) inside inside₂ ∙ g₂)

@@ -12,3 +12,4 @@ pub mod TakeLaws
 pub mod Passes
 pub mod PassesLaws
 pub mod HeadLaws
+pub mod OneLaws

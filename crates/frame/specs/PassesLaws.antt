@@ -3,7 +3,7 @@
 use Prim.Native.Nat.{ℕ, zero, suc, _+_, _-_, _*_, _≤_, _<_}
 use mathlib.Core.Path.{_≡_, refl, _∙_, ap}
 use mathlib.Core.Logic.{_⊎_, inl, inr, ⊎-elim}
-use mathlib.Core.Bool.{Bool, true, false, _&&_}
+use mathlib.Core.Bool.{Bool, true, false, not, _&&_}
 use mathlib.Core.List.{List}
 use native.Mathlib.Omega.{arith}
 use lib.Dec.{leb, eqb, lit≤}
@@ -15,24 +15,30 @@ use Rattle.numbers.specs.Tables.{all-below}
 use Rattle.reader.specs.declared.boolean.Reader.{Reader}
 use Rattle.reader.specs.Boolean.{Given, given, missing, firstReader}
 use Rattle.reader.specs.BooleanLaws.{Bytes, first-valid}
+use Rattle.reader.specs.Reading.{run}
 use Rattle.reader.specs.ReadingLaws.{ReadTo, run-valid}
 use Rattle.tile.specs.Partitions.{noSpan, spanAt, contentsOf}
 use Rattle.tile.specs.PartitionsLaws.{part-bytes, span-at}
 use Rattle.tile.specs.Checks.{Side, Counted, Inside}
 use Rattle.frame.specs.declared.fields.Header.{Header}
 use Rattle.frame.specs.Fine.{FineTaken}
+use Rattle.frame.specs.Header.{header}
 use Rattle.frame.specs.HeaderLaws.{header-within}
 use Rattle.frame.specs.Tag.{firstSize, widthOf, heightOf, roundedOf, startCodeOf, versionOf, interOf, tagFine}
 use Rattle.frame.specs.Places.{partitionCount, partitionStart, lengthOf, partitionSpan, tokenSpans, tokensInside}
 use Rattle.frame.specs.PlacesLaws.{span-is, place-apart, place-after}
+use Rattle.frame.specs.Entries.{entries}
 use Rattle.frame.specs.EntriesLaws.{entries-length, entries-each}
 use Rattle.frame.specs.Take.{Taken, nothingTaken, firstOf, sizesPlace, tileOf, wholeOf, partitionsPlaced, codedOf, givenHeader, takenOf, intoOf}
 use Rattle.frame.specs.TakeLaws.{take-tag, take-first, take-short, take-coded}
 use Rattle.frame.specs.Passes.{Covers, Passes, InOrder, FrameRefused, FrameKept}
 
 -- ---- every way through the call: a refusal, or the whole with what was tried on the way
-abbrev Number : ℕ → Type 0
+abbrev pub Number : ℕ → Type 0
 Number n = (n ≡ 12) ⊎ (n ≡ 13) ⊎ (n ≡ 14)
+
+pub no-refusal : {n : ℕ} {C : Type 0} → Number n → n ≡ 0 → C
+no-refusal k e = absurd (⊎-elim (λ p. omega (arith, p, e)) (λ q. ⊎-elim (λ p. omega (arith, p, e)) (λ p. omega (arith, p, e)) q) k)
 
 pub data Way (b : List ℕ) : Taken → Type 0 where
   refused : (n : ℕ) → Number n → Way b (nothingTaken n)
@@ -146,15 +152,31 @@ unfolding nothingTaken
 taken-is-fine b y z = go (way b) z
   where
     go : {t : Taken} → Way b t → t .answer .number ≡ 0 → Passes b t
-    go (refused n k) e = absurd (⊎-elim (λ p. omega (arith, p, e)) (λ q. ⊎-elim (λ p. omega (arith, p, e)) (λ p. omega (arith, p, e)) q) k)
+    go (refused n k) e = no-refusal k e
     go (whole h r g l k f i) e = whole-passes b y h r g l f i
+
+-- its coded header was read, to the tile's reader
+pub record TakenRead (b : List ℕ) (t : Taken) : Type 0 where
+  pub coded : Header
+  pub gives : run header (contentsOf b (t .answer .tile .first)) (firstReader (contentsOf b (t .answer .tile .first))) ≡ given coded (t .answer .tile .reader)
+  pub long : 10 ≤ length b
+  pub listed : t .header ≡ entries coded
+  pub simple : t .answer .simple ≡ not (eqb (coded .filter .kind) 0)
+
+pub taken-read : (b : List ℕ) → takenOf b .answer .number ≡ 0 → TakenRead b (takenOf b)
+unfolding nothingTaken wholeOf givenHeader
+taken-read b z = go (way b) z
+  where
+    go : {t : Taken} → Way b t → t .answer .number ≡ 0 → TakenRead b t
+    go (refused n k) e = no-refusal k e
+    go (whole h r g l k f i) e = record { coded = h; gives = f; long = omega arith; listed = refl; simple = refl }
 
 pub taken-in-order : (b : List ℕ) → Bytes b → takenOf b .answer .number ≡ 0 → InOrder (takenOf b .answer .tile)
 unfolding nothingTaken wholeOf
 taken-in-order b y z = go (way b) z (taken-is-fine b y z .counted)
   where
     go : {t : Taken} → Way b t → t .answer .number ≡ 0 → Counted (t .answer .tile .count) → InOrder (t .answer .tile)
-    go (refused n k) e c = absurd (⊎-elim (λ p. omega (arith, p, e)) (λ q. ⊎-elim (λ p. omega (arith, p, e)) (λ p. omega (arith, p, e)) q) k)
+    go (refused n k) e c = no-refusal k e
     go (whole h r g l k f i) e c = whole-ordered b h r c i
 
 pub taken-or-refused : (b : List ℕ) → (takenOf b .answer .number ≡ 0) ⊎ FrameRefused (takenOf b)

@@ -10,6 +10,6 @@ mod places;
 mod probs;
 mod quantizers;
 mod segments;
-mod tables;
+pub mod tables;
 pub mod tag;
 pub mod take;

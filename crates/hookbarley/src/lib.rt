@@ -5,6 +5,7 @@ pub mod decoding;
 pub mod explaining;
 pub mod filtering;
 pub mod frame_header;
+pub mod frame_recoding;
 pub mod profiling;
 pub mod recoding;
 pub mod rescuing;

@@ -2,11 +2,9 @@
 -- B_VE_PRED, B_HE_PRED, B_LD_PRED, B_RD_PRED, B_VR_PRED, B_VL_PRED, B_HD_PRED, B_HU_PRED, by the mode above, then by the mode to
 -- the left, one line for each pair.
 use Prim.Native.Nat.{ℕ, _+_, _*_, _/_, _%_}
-use mathlib.Core.Bool.{true}
 use mathlib.Core.List.{List, [], _∷_}
-use mathlib.Core.Path.{_≡_}
-use lib.ListN.{length, getD, take, drop}
-use Rattle.numbers.specs.Tables.{permuted}
+use lib.ListN.{getD, take, drop}
+use Rattle.numbers.specs.Lists.{build}
 
 -- The RFC's numbers of the modes (intra_bmode, section 11.2, 2417-2438). Here modes are 0 DC, 1 TM, 2 VE, 3 HE, 4 RD, 5 VR, 6 LD, 7 VL, 8
 -- HD, 9 HU; the RFC has LD as 4, RD as 5 and VR as 6.
@@ -139,7 +137,6 @@ rfcTable =
 unfoldable pub probabilities : ℕ → ℕ → List ℕ
 probabilities above left = take 9 (drop ((rfcOf above * 10 + rfcOf left) * 9) rfcTable)
 
--- the test of a whole table: each of its 900 numbers is the RFC's, with both modes renumbered
-pub record Renumbered (t : List ℕ) : Type 0 where
-  pub same : permuted t rfcTable rfcPlace ≡ true
-  pub long : length t ≡ 900
+-- the whole table by the numbers used here
+unfoldable pub renumberedTable : List ℕ
+renumberedTable = build 900 (λ i. getD rfcTable (rfcPlace i) 0)

@@ -19,7 +19,7 @@ ghost use Rattle.reader.specs.Trees.{walk};
 ghost use Rattle.wide.specs.WideRuns.{WideReads};
 ghost use Rattle.modes.specs.Modes.{Modes, bTree, tree, segment, skip, prefix, largeMode, blockMode, smallModes, luma, modesOf};
 ghost use Rattle.modes.specs.Answers.{macroblockOf};
-ghost use Rattle.modes.specs.Table.{Renumbered};
+ghost use Rattle.modes.specs.Table.{renumberedTable};
 ghost use Rattle.modes.specs.Quick.{lastOf, forkOf};
 
 // A mode or a segment, and the reader after it.
@@ -212,7 +212,7 @@ fn small_mode(s: &[u8], w: Wide, probs: &[u8]) -> Coded
 
 fn block(s: &[u8], w: Wide, top: u8, left: u8, all: &[u8]) -> Coded
     requires { ⌜ (top < 10) × (left < 10) ⌝ }
-    requires { ⌜ Renumbered (now all) ⌝ }
+    requires { ⌜ now all ≡ renumberedTable ⌝ }
     ensures { λ q. ⌜ WideReads (now (s .entry)) 0 8 (blockMode top left) w (q .mode) (q .next) × (q .mode < 10) ⌝ }
 {
     let at = place(top, left);

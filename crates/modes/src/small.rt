@@ -15,7 +15,7 @@ ghost use Rattle.reader.specs.BooleanLaws.{Valid};
 ghost use Rattle.modes.specs.Modes.{Modes, blockMode, modeAbove, modeLeft, zeros, smallModes};
 ghost use Rattle.modes.specs.Answers.{toMode, toSixteen, contextsOf, blockAnswer, smallAnswer};
 ghost use Rattle.modes.specs.Counts.{Told};
-ghost use Rattle.modes.specs.Table.{Renumbered};
+ghost use Rattle.modes.specs.Table.{renumberedTable};
 
 // The tree of small modes.
 const B_TREE: [i16; 18] = [
@@ -48,8 +48,8 @@ pub(crate) fn place(top: u8, left: u8) -> usize
 }
 
 // The table as a value: it is made once for a macroblock, since a constant is written out wherever it is used.
-pub(crate) fn all_probabilities() -> [u8; 900]
-    ensures { λ r. ⌜ Renumbered r ⌝ }
+pub fn all_probabilities() -> [u8; 900]
+    ensures { λ r. ⌜ r ≡ renumberedTable ⌝ }
 {
     let rows = BMODE;
     let mut all = [0u8; 900];
@@ -65,7 +65,7 @@ pub(crate) fn all_probabilities() -> [u8; 900]
 fn block(s: &[u8], r: Reader, top: u8, left: u8, all: &[u8]) -> ModeRead
     requires { ⌜ Valid (now s) r ⌝ }
     requires { ⌜ (top < 10) × (left < 10) ⌝ }
-    requires { ⌜ Renumbered (now all) ⌝ }
+    requires { ⌜ now all ≡ renumberedTable ⌝ }
     ensures { λ q. ⌜ Told toMode 7 (blockMode top left) (now (s .entry)) r (q .answer) (q .reads) ⌝ }
 {
     let at = place(top, left);

@@ -33,6 +33,7 @@ use Rattle.modes.specs.Answers.{eachBelow, macroblockOf, prefixAnswer, mainAnsw
 use Rattle.filter.specs.Explain.{explainOf}
 use Rattle.modes.specs.Modes as Modes
 use Rattle.modes.specs.Modes.{bottomOf}
+use Rattle.modes.specs.Table.{renumberedTable}
 use Rattle.modes.specs.Counts.{modesReads}
 use Rattle.modes.specs.Contexts.{emptyContext, contextFine}
 use Rattle.column.specs.Column.{packedBytes, contextUnpacked}
@@ -94,6 +95,7 @@ use Rattle.files.specs.WebpCalls.{webpFoundOf, webpWrappedOf}
 use Rattle.frame.specs.declared.take.Answer.{Answer}
 use Rattle.frame.specs.declared.take.ShownSize.{ShownSize}
 use Rattle.frame.specs.Header.{header}
+use Rattle.frame.specs.Tables.{updateProbs}
 use Rattle.frame.specs.Tag.{firstSize, tagFine}
 use Rattle.frame.specs.Take.{refusedAnswer, nothingTaken, codedOf, takenOf, storedOf, intoOf}
 use Rattle.key_frame.specs.KeyFrame.{keyFrameOf}
@@ -101,7 +103,10 @@ use Rattle.hookbarley.specs.ShowCalls.{showCalledOf}
 use Rattle.webp.specs.Webp.{findOf, wrapOf}
 use Rattle.writer.specs.declared.Writer.{Writer}
 use Rattle.writer.specs.Room.{freshWriter, writeIn, flushAnswer}
-use Rattle.recode.specs.Recode.{recodeOf}
+use Rattle.recode.specs.declared.pipe.Pipe.{Pipe}
+use Rattle.recode.specs.Ask.{askOf}
+use Rattle.recode.specs.Recode.{tokensOf, recodeOf}
+use Rattle.recode_frame.specs.RecodeFrame.{recodeFrameOf}
 
 -- one answer meets the promise, and no other
 pub record One {A : Type 0} (Promise : A → Type 0) : Type 0 where
@@ -332,6 +337,10 @@ modes-prefix s r h = determined (prefixAnswer s r h)
 -- modes::large::main_mode
 pub modes-main-mode : (s : List ℕ) (r : Reader) (chroma : Bool) → One (λ o. o ≡ mainAnswer s r chroma)
 modes-main-mode s r chroma = determined (mainAnswer s r chroma)
+
+-- modes::small::all_probabilities
+pub modes-all-probabilities : One (λ o. o ≡ renumberedTable)
+modes-all-probabilities = determined renumberedTable
 
 -- modes::small::block_mode
 pub modes-block-mode : (s : List ℕ) (r : Reader) (top left : ℕ) → One (λ o. o ≡ blockAnswer s r top left)
@@ -625,6 +634,10 @@ pub casefile-run : (file : List ℕ) → One (λ o. o ≡ ranOf file)
 casefile-run file = determined (ranOf file)
 
 -- ---- frame
+-- frame::tables::updates
+pub frame-updates : One (λ o. o ≡ updateProbs)
+frame-updates = determined updateProbs
+
 -- frame::tag::first_size
 pub frame-first-size : (b : List ℕ) → One (λ o. o ≡ firstSize b)
 frame-first-size b = determined (firstSize b)
@@ -686,10 +699,24 @@ pub writer-flush : (self : Writer) (out : List ℕ) → One (λ o. o ≡ flushAn
 writer-flush self out = determined (flushAnswer self out)
 
 -- ---- recode
+-- recode::pipe::ask
+pub recode-ask : (s : List ℕ) (p : Pipe) (out : List ℕ) (prob : ℕ) → One (λ o. o ≡ askOf s p out prob)
+recode-ask s p out prob = determined (askOf s p out prob)
+
+-- recode::tokens::recode_tokens
+pub recode-tokens : (bytes : List ℕ) (tile : Tile) (header : List ℤ) (y u v columns modes strengths out : List ℕ)
+    → One (λ o. o ≡ tokensOf (callOf bytes tile header) (memoryOf y u v columns modes strengths) out)
+recode-tokens bytes tile header y u v columns modes strengths out = determined (tokensOf (callOf bytes tile header) (memoryOf y u v columns modes strengths) out)
+
 -- recode::recode
 pub recode-recode : (bytes : List ℕ) (tile : Tile) (header : List ℤ) (y u v columns modes strengths out : List ℕ)
     → One (λ o. o ≡ recodeOf (callOf bytes tile header) (memoryOf y u v columns modes strengths) out)
 recode-recode bytes tile header y u v columns modes strengths out = determined (recodeOf (callOf bytes tile header) (memoryOf y u v columns modes strengths) out)
+
+-- ---- recode_frame
+-- recode_frame::recode_frame
+pub recode-frame : (bytes y u v columns modes strengths out : List ℕ) → One (λ o. o ≡ recodeFrameOf bytes (memoryOf y u v columns modes strengths) out)
+recode-frame bytes y u v columns modes strengths out = determined (recodeFrameOf bytes (memoryOf y u v columns modes strengths) out)
 
 -- ---- boundary
 -- boundary::tile_numbers::tile_of
@@ -777,6 +804,10 @@ hookbarley-key-frame bytes header tile y u v columns modes strengths = determine
 -- hookbarley::recoding::hookbarley_recode
 pub hookbarley-recode : (bytes : List ℕ) (header : List ℤ) (tile y u v columns modes strengths out result : List ℕ) → One (λ o. o ≡ recodeCalledOf bytes header tile (memoryOf y u v columns modes strengths) out result)
 hookbarley-recode bytes header tile y u v columns modes strengths out result = determined (recodeCalledOf bytes header tile (memoryOf y u v columns modes strengths) out result)
+
+-- hookbarley::frame_recoding::hookbarley_recode_frame
+pub hookbarley-recode-frame : (bytes y u v columns modes strengths out : List ℕ) → One (λ o. o ≡ recodeFrameOf bytes (memoryOf y u v columns modes strengths) out)
+hookbarley-recode-frame bytes y u v columns modes strengths out = determined (recodeFrameOf bytes (memoryOf y u v columns modes strengths) out)
 
 -- hookbarley::deblocking::hookbarley_deblock
 pub hookbarley-deblock : (y u v strengths : List ℕ) (width height simple : ℕ) → One (λ o. o ≡ deblockCalledOf (planesOf y u v) strengths width height simple)

@@ -22,7 +22,7 @@ use Rattle.recode.specs.Recode.{modesAsked, readBy, tokensFrom, tokensRead, fir
 use Rattle.promises.specs.Stops.{macroblocks}
 use Rattle.promises.specs.Cost.{tokenSymbols, symbolsFrom}
 use Rattle.promises.specs.CostLaws.{cost-is}
-use Rattle.promises.specs.Recoded.{not-refused, token-bytes}
+use Rattle.promises.specs.RecodedLaws.{not-refused, token-bytes}
 
 -- ---- what was written is read back
 -- each symbol has a byte for its probability

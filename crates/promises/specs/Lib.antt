@@ -18,7 +18,9 @@ pub mod Valid
 pub mod Determined
 pub mod Frame
 pub mod Webp
+pub mod RecodedLaws
 pub mod Recoded
+pub mod RecodedFrame
 pub mod Encoded
 pub mod RecodeCalled
 pub mod Deblocked

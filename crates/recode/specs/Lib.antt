@@ -1,3 +1,4 @@
+pub mod Ask
 pub mod Copies
 pub mod TokenCopies
 pub mod BlockCopies

@@ -5,12 +5,12 @@ use mathlib.Core.Path.{_≡_, refl, sym, _∙_, ap, subst}
 use mathlib.Core.Bool.{true, false}
 use mathlib.Core.List.{List, [], _∷_, _++_, append-nil, append-assoc}
 use mathlib.Core.Logic.{⊎-elim}
-use lib.Dec.{leb}
+use lib.Dec.{leb, lit<}
 use lib.IntN.{ℤ}
-use lib.ListN.{length, getD, take, drop, replicate, length-append, length-take, length-drop, drop-of-length-le}
-use lib.Seq.{take-all, take-append-seam, drop-append-seam, take-append-le, drop-drop, length-take-le}
+use lib.ListN.{length, getD, take, drop, replicate, length-append, length-take, length-drop, drop-of-length-le, take-append-drop}
+use lib.Seq.{take-all, drop-append-seam, drop-drop, length-take-le}
 use borrow.Author.Tests.{le-leb, lt-leb}
-use Rattle.numbers.specs.Tests.{eq-or}
+use Rattle.numbers.specs.Tests.{eq-or, lt-or}
 use Rattle.reader.specs.BooleanLaws.{Bytes}
 use Rattle.coefficients.specs.declared.block.Table.{Table}
 use Rattle.coefficients.specs.Block.{headerTable, tableOf}
@@ -27,7 +27,7 @@ use Rattle.macroblock.specs.Macroblock.{Step, finished, no-modes, no-tokens}
 use Rattle.choices.specs.declared.answer.Decoded.{Decoded}
 use Rattle.choices.specs.declared.answer.Decoded.the-variants as D
 use Rattle.choices.specs.Checks.{Call, callOf, callIn, refusalOf}
-use Rattle.choices.specs.ChecksLaws.{fine-side, fine-count}
+use Rattle.choices.specs.ChecksLaws.{refusal-most, fine-side, fine-count}
 use Rattle.picture.specs.CallLaws.{picture-bad, picture-good, picture-found, shared-start, live-start, shared-found, live-found, run-found}
 use Rattle.picture.specs.Counts.{costOf}
 use Rattle.picture.specs.CountsLaws.{cost-good}
@@ -41,7 +41,8 @@ use Rattle.writer.specs.Room.{endedOf, flushAnswer}
 use Rattle.writer.specs.KeptLaws.{Finished, kept-flush}
 use Rattle.writer.specs.WriteLaws.{write-few, encode-long}
 use Rattle.recode.specs.declared.Recoded.{Recoded}
-use Rattle.recode.specs.Recode.{tokensFrom, tokensRead, firstOf, onePartition, recodedBytes, oneTile, recodedTile, recodedDone, recodedRefused, RecodeEnded, recodeEnded, recodedInto, recodeOf}
+use Rattle.recode.specs.declared.tokens.TokensRecoded.{TokensRecoded}
+use Rattle.recode.specs.Recode.{tokensFrom, tokensRead, onePartition, TokensEnded, tokensEnded, tokensInto, tokensOf, firstOf, recodedBytes, oneTile, recodedTile, recodedDone, recodedRefused, RecodeEnded, recodeEnded, recodedInto, recodeOf}
 use Rattle.recode.specs.RecodeLaws.{Sound, tokens-few, tokens-count, whole-not-refused}
 use Rattle.recode.specs.WalkCopies.{Walkable, Walked, WalkCopies, blocks-most}
 
@@ -55,23 +56,50 @@ pub record IsWhole (e : Ended) : Type 0 where
   pub count : ℕ
   pub same : e ≡ record { answer = D.Whole count; mem = e .mem }
 
-run-whole : (n : ℕ) (P : Picture) (k : ℕ) (S : State) → numberOf (runOf n P k S .answer) ≡ 0 → IsWhole (runOf n P k S)
-run-whole zero P k S e = subst IsWhole (sym (run-none P k S)) (record { count = k; same = refl })
-run-whole (suc n) P k S e = go (λ T. run-whole n P (k + 1) T) (stepAt P k S) refl
+pub sound-start : (c : Call) (m : Memory) → refusalOf c (sizesOf m) ≡ 0 → Bytes (c .bytes) → Sound (picturedOf c)
+sound-start c m e y = record { shared = shared-start c m e; first = part-bytes (c .bytes) (c .tile .first) y; tokens = λ q h. part-bytes (c .bytes) (spanAt (c .tile) q) y }
+
+-- its answers: all macroblocks, modes or tokens that ran out, or an argument refused
+data Answered : Ended → Type 0 where
+  all : (k : ℕ) (m : Memory) → Answered (record { answer = D.Whole k; mem = m })
+  modes-out : (k : ℕ) (m : Memory) → Answered (record { answer = D.NoModes k; mem = m })
+  tokens-out : (k : ℕ) (m : Memory) → Answered (record { answer = D.NoTokens k; mem = m })
+  bad : (n : ℕ) (m : Memory) → n ≤ 5 → (n ≡ 0 → ⊥) → Answered (record { answer = D.Refused n; mem = m })
+
+run-answered : (n : ℕ) (P : Picture) (k : ℕ) (S : State) → Answered (runOf n P k S)
+run-answered zero P k S = subst Answered (sym (run-none P k S)) (all k (S .mem))
+run-answered (suc n) P k S = go (λ T. run-answered n P (k + 1) T) (stepAt P k S) refl
   where
-    go : ((T : State) → numberOf (runOf n P (k + 1) T .answer) ≡ 0 → IsWhole (runOf n P (k + 1) T)) → (x : Step) → stepAt P k S ≡ x → IsWhole (runOf (suc n) P k S)
-    go ih (finished x) f = subst IsWhole (sym (run-finished n P k S x f)) (ih (nextOf P k S x) (ap (λ (y : Ended). numberOf (y .answer)) (sym (run-finished n P k S x f)) ∙ e))
-    go ih no-modes f = absurd (let z : 6 ≡ 0 = ap (λ (y : Ended). numberOf (y .answer)) (sym (run-no-modes n P k S f)) ∙ e in omega arith)
-    go ih no-tokens f = absurd (let z : 7 ≡ 0 = ap (λ (y : Ended). numberOf (y .answer)) (sym (run-no-tokens n P k S f)) ∙ e in omega arith)
+    go : ((T : State) → Answered (runOf n P (k + 1) T)) → (x : Step) → stepAt P k S ≡ x → Answered (runOf (suc n) P k S)
+    go ih (finished x) f = subst Answered (sym (run-finished n P k S x f)) (ih (nextOf P k S x))
+    go ih no-modes f = subst Answered (sym (run-no-modes n P k S f)) (modes-out k (S .mem))
+    go ih no-tokens f = subst Answered (sym (run-no-tokens n P k S f)) (tokens-out k (S .mem))
+
+answered : (c : Call) (m : Memory) → Answered (pictureOf c m)
+answered c m =
+    ⊎-elim
+    (λ (f : refusalOf c (sizesOf m) ≡ 0). subst Answered (sym (picture-good c m refl f)) (run-answered _ (picturedOf c) 0 (begunOf c m)))
+    (λ (f : refusalOf c (sizesOf m) ≡ 0 → ⊥). subst Answered (picture-bad c m refl f) (bad (refusalOf c (sizesOf m)) m (refusal-most c (sizesOf m)) f))
+    (eq-or (refusalOf c (sizesOf m)) 0)
 
 pub picture-whole : (c : Call) (m : Memory) → numberOf (pictureOf c m .answer) ≡ 0 → IsWhole (pictureOf c m)
-picture-whole c m e =
-    ⊎-elim
-    (λ (f : refusalOf c (sizesOf m) ≡ 0).
-    let g = picture-good c m refl f in
-    subst IsWhole (sym g) (run-whole _ (picturedOf c) 0 (begunOf c m) (ap (λ (y : Ended). numberOf (y .answer)) (sym g) ∙ e)))
-    (λ (f : refusalOf c (sizesOf m) ≡ 0 → ⊥). absurd (f (ap (λ (y : Ended). numberOf (y .answer)) (picture-bad c m refl f) ∙ e)))
-    (eq-or (refusalOf c (sizesOf m)) 0)
+picture-whole c m = go (answered c m)
+  where
+    go : {E : Ended} → Answered E → numberOf (E .answer) ≡ 0 → IsWhole E
+    go (all k m) e = record { count = k; same = refl }
+    go (modes-out k m) e = absurd (let z : 6 ≡ 0 = e in omega arith)
+    go (tokens-out k m) e = absurd (let z : 7 ≡ 0 = e in omega arith)
+    go (bad n m l f) e = absurd (f e)
+
+-- its numbers are below 8
+pub picture-below : (c : Call) (m : Memory) → numberOf (pictureOf c m .answer) < 8
+picture-below c m = go (answered c m)
+  where
+    go : {E : Ended} → Answered E → numberOf (E .answer) < 8
+    go (all k m) = lit< tt
+    go (modes-out k m) = lit< tt
+    go (tokens-out k m) = lit< tt
+    go (bad n m l f) = omega arith
 
 dropped : (i : ℕ) (l : List ℕ) → length (drop i l) ≡ length l - i
 dropped i l = rw length-drop
@@ -129,147 +157,199 @@ Measures bytes tile header columns n after =
 pub pass-measures : (bytes : List ℕ) (tile : Tile) (header : List ℤ) (columns room : List ℕ) {n : ℕ} {after new : List ℕ} → Passes bytes tile header columns room n after new → Measures bytes tile header columns n after
 pass-measures bytes tile header columns room p m M end l e = let z = p m M end l e in (z .columns, z .long)
 
--- one into the room from a place on
-pub record Laid (c : Call) (m end : Memory) (old : List ℕ) (at n : ℕ) (after new : List ℕ) : Type 0 where
-  pub long : n ≡ length (onePartition c m)
-  pub columns : after ≡ end .columns
-  pub size : length new ≡ length old
-  pub same : at + length (onePartition c m) ≤ length old → new ≡ take at old ++ (onePartition c m ++ drop (at + length (onePartition c m)) old)
-
-abbrev pub Behind : List ℕ → Tile → List ℤ → (columns old : List ℕ) → (at : ℕ) → ℕ → (after new : List ℕ) → Type 0
-Behind bytes tile header columns old at n after new =
-    (m : Memory) (M : ℕ) (end : Memory) → length (m .columns) ≡ length columns → pictureOf (callOf bytes tile header) m ≡ record { answer = D.Whole M; mem = end } → Laid (callOf bytes tile header) m end old at n after new
-
-pub pass-behind : (bytes : List ℕ) (tile : Tile) (header : List ℤ) (columns : List ℕ) {n : ℕ} {after part new : List ℕ} (old : List ℕ) (at : ℕ) → at ≤ length old
-    → Passes bytes tile header columns (take (length old - at) (drop at old)) n after part → new ≡ take at old ++ (part ++ drop (length old - at) (drop at old)) → Behind bytes tile header columns old at n after new
-pass-behind bytes tile header columns {part = part} {new} old at h p e m M end l w =
-    let c : Call = callOf bytes tile header in
-    let z = p m M end l w in
-    let d : take (length old - at) (drop at old) ≡ drop at old = take-all (length old - at) (drop at old) (rw length-drop (omega arith)) in
-    let k : drop (length old - at) (drop at old) ≡ [] = drop-of-length-le (drop at old) {i = length old - at} (rw length-drop (omega arith)) in
-    let f : new ≡ take at old ++ part = e ∙ ap (λ (x : List ℕ). take at old ++ (part ++ x)) k ∙ ap (λ (x : List ℕ). take at old ++ x) (append-nil part) in
-    let s : length part ≡ length old - at = z .size ∙ ap length d ∙ dropped at old in
-    record {
-      long = z .long;
-      columns = z .columns;
-      size = ap length f ∙ length-append (take at old) part ∙ (let t = length-take-le at old h in omega arith);
-      same = λ g.
-          f ∙ ap (λ (x : List ℕ). take at old ++ x)
-          (z .same (subst (λ (x : List ℕ). length (onePartition c m) ≤ length x) (sym d) (rw length-drop (omega arith)))
-          ∙ (λ i. onePartition c m ++ drop (length (onePartition c m)) (d i)) ∙ ap (λ (x : List ℕ). onePartition c m ++ x) (drop-drop (length (onePartition c m)) at old));
-    }
-
 -- ---- the room
 module _ (c : Call) (m end : Memory) (out : List ℕ) where
-  long : length (recodedBytes c m) ≡ length (firstOf c) + length (onePartition c m)
-  long = length-append (firstOf c) (onePartition c m)
+  into-short : length out < length (onePartition c m) → tokensEnded (record { number = 16; len = 0 }) end out ≡ tokensInto c m end out
+  unfolding tokensInto
+  into-short h = rw (lt-leb (length (onePartition c m)) (length out) h, tokensInto)
 
-  pub into-small : length out < length (firstOf c) + length (onePartition c m) → recodeEnded (recodedRefused 16) end out ≡ recodedInto c m end out
-  unfolding recodedInto
-  into-small h = rw (lt-leb (length (recodedBytes c m)) (length out) (omega (arith, long)), recodedInto)
+  into-fits : length (onePartition c m) ≤ length out → {n : ℕ} {new : List ℕ} → n ≡ length (onePartition c m) → new ≡ onePartition c m ++ drop (length (onePartition c m)) out
+      → tokensEnded (record { number = 0; len = n }) end new ≡ tokensInto c m end out
+  unfolding tokensInto
+  into-fits h e f = rw (le-leb (length (onePartition c m)) (length out) h, tokensInto) (λ i. tokensEnded (record { number = 0; len = e i }) end (f i))
 
-  pub into-room : length (firstOf c) + length (onePartition c m) ≤ length out → {t : Tile} {new : List ℕ} → t ≡ recodedTile c m → new ≡ firstOf c ++ (onePartition c m ++ drop (length (firstOf c) + length (onePartition c m)) out)
-      → recodeEnded (recodedDone t) end new ≡ recodedInto c m end out
-  unfolding recodedInto
-  into-room h e f =
-      rw (le-leb (length (recodedBytes c m)) (length out) (omega (arith, long)), recodedInto)
-      (λ i. recodeEnded (recodedDone (e i)) end ((f ∙ ap (λ (k : ℕ). firstOf c ++ (onePartition c m ++ drop k out)) (sym long) ∙ sym (append-assoc (firstOf c) (onePartition c m) (drop (length (recodedBytes c m)) out))) i))
-
--- both partitions laid into a room that holds them
-abbrev pub Lays : (bytes first : List ℕ) → Tile → List ℤ → (columns out : List ℕ) → Recoded → (after new : List ℕ) → Type 0
-Lays bytes first tile header columns out q after new =
-    (m : Memory) (M : ℕ) (end : Memory) → length (m .columns) ≡ length columns → pictureOf (callOf bytes tile header) m ≡ record { answer = D.Whole M; mem = end }
-    → first ≡ contentsOf bytes (tile .first) → length first + length (onePartition (callOf bytes tile header) m) ≤ length out
-    → (after ≡ end .columns) × (recodeEnded q end new ≡ recodedInto (callOf bytes tile header) m end out)
-
-pub lays-done : (bytes first : List ℕ) (tile : Tile) (header : List ℤ) (columns out : List ℕ) {mid last new : List ℕ} (k : ℕ) {t : Tile} → mid ≡ take (length first) first ++ drop (length first) out
-    → Behind bytes tile header columns mid (length first) k last new → t ≡ oneTile tile (length first) k → Lays bytes first tile header columns out (recodedDone t) last new
-lays-done bytes first tile header columns out {mid} {last} {new} k e b f m M end l w a h =
-    let c : Call = callOf bytes tile header in
-    let y = b m M end l w in
-    let n : length first ≡ length (firstOf c) = ap length a in
-    let g : mid ≡ firstOf c ++ drop (length (firstOf c)) out = e ∙ (λ i. take-all (length first) first (omega arith) i ++ drop (length first) out) ∙ (λ i. a i ++ drop (n i) out) in
-    let u : length mid ≡ length out = ap length g ∙ length-append (firstOf c) (drop (length (firstOf c)) out) ∙ (let t = dropped (length (firstOf c)) out in omega arith) in
-    let o : new ≡ take (length first) mid ++ (onePartition c m ++ drop (length first + length (onePartition c m)) mid) = y .same (omega arith) in
-    let t1 : take (length first) mid ≡ firstOf c = (λ i. take (n i) (g i)) ∙ take-append-seam (firstOf c) (drop (length (firstOf c)) out) in
-    let d1 : drop (length first + length (onePartition c m)) mid ≡ drop (length (firstOf c) + length (onePartition c m)) out =
-    ap (λ (i : ℕ). drop (i + length (onePartition c m)) mid) n
-    ∙ sym (drop-drop (length (onePartition c m)) (length (firstOf c)) mid)
-    ∙ ap (λ (x : List ℕ). drop (length (onePartition c m)) (drop (length (firstOf c)) x)) g
-    ∙ ap (drop (length (onePartition c m))) (drop-append-seam (firstOf c) (drop (length (firstOf c)) out))
-    ∙ drop-drop (length (onePartition c m)) (length (firstOf c)) out in
-    (y .columns, into-room c m end out (omega (arith, n)) (f ∙ (λ i. oneTile tile (n i) (y .long i))) (o ∙ (λ i. t1 i ++ (onePartition c m ++ d1 i))))
-
--- a partition is at most a byte a symbol, and four
-partition-most : (c : Call) (m : Memory) {M : ℕ} {end : Memory} → Bytes (c .bytes) → pictureOf c m ≡ record { answer = D.Whole M; mem = end } → length (onePartition c m) ≤ length (tokensRead c m) + 4
+-- a partition is four bytes and at most one a symbol
+pub partition-most : (c : Call) (m : Memory) {M : ℕ} {end : Memory} → Bytes (c .bytes) → pictureOf c m ≡ record { answer = D.Whole M; mem = end } → (4 ≤ length (onePartition c m)) × (length (onePartition c m) ≤ length (tokensRead c m) + 4)
 unfolding tokensRead
 partition-most c m y w =
     let e : refusalOf c (sizesOf m) ≡ 0 = whole-fine c m w in
     let N : ℕ = blocksOf (c .tile .width) (c .tile .height) in
     let P : Picture = picturedOf c in
-    let z : Sound P = record { shared = shared-start c m e; first = part-bytes (c .bytes) (c .tile .first) y; tokens = λ q h. part-bytes (c .bytes) (spanAt (c .tile) q) y } in
-    let few = tokens-few z N 0 (begunOf c m) (live-start c m e y) (omega arith) in
-    omega (arith, write-few (tokensFrom N P 0 (begunOf c m)) (few .bytes), encode-long (tokensFrom N P 0 (begunOf c m)) (few .bytes))
+    let few = tokens-few (sound-start c m e y) N 0 (begunOf c m) (live-start c m e y) (omega arith) in
+    let long = encode-long (tokensFrom N P 0 (begunOf c m)) (few .bytes) in
+    (omega (arith, long), omega (arith, write-few (tokensFrom N P 0 (begunOf c m)) (few .bytes), long))
 
 -- what is written of a tile that is answered 0, of at most so many token symbols
-abbrev pub Writes : List ℕ → Tile → List ℤ → (most : ℕ) → (columns out : List ℕ) → Recoded → (after new : List ℕ) → Type 0
+abbrev pub Writes : List ℕ → Tile → List ℤ → (most : ℕ) → (columns out : List ℕ) → TokensRecoded → (after new : List ℕ) → Type 0
 Writes bytes tile header most columns out q after new =
     (m : Memory) (M : ℕ) (end : Memory) → length (m .columns) ≡ length columns → pictureOf (callOf bytes tile header) m ≡ record { answer = D.Whole M; mem = end } → length (tokensRead (callOf bytes tile header) m) ≤ most
-    → (after ≡ end .columns) × (recodeEnded q end new ≡ recodedInto (callOf bytes tile header) m end out)
+    → (after ≡ end .columns) × (tokensEnded q end new ≡ tokensInto (callOf bytes tile header) m end out)
 
-module _ (bytes : List ℕ) (tile : Tile) (header : List ℤ) (most : ℕ) (columns out : List ℕ) {first : List ℕ} (a : first ≡ contentsOf bytes (tile .first)) where
-  pub writes-ample : Bytes bytes → length first + most + 4 ≤ length out → {q : Recoded} {after new : List ℕ} → Lays bytes first tile header columns out q after new → Writes bytes tile header most columns out q after new
-  writes-ample y h b m M end l w v = b m M end l w a (omega (arith, partition-most (callOf bytes tile header) m y w))
+module _ (bytes : List ℕ) (tile : Tile) (header : List ℤ) (most : ℕ) (columns out : List ℕ) where
+  pub writes-ample : Bytes bytes → most + 4 ≤ length out → {n : ℕ} {after new : List ℕ} → Passes bytes tile header columns out n after new → Writes bytes tile header most columns out (record { number = 0; len = n }) after new
+  writes-ample y h p m M end l w v =
+      let c : Call = callOf bytes tile header in
+      let z = p m M end l w in
+      let f : length (onePartition c m) ≤ length out = omega (arith, partition-most c m y w .1) in
+      (z .columns, into-fits c m end out f (z .long) (z .same f))
 
   module _ {after : List ℕ} {k : ℕ} (p : Measures bytes tile header columns k after) where
-    pub writes-none : length out < length first + k → {q : Recoded} → q ≡ recodedRefused 16 → Writes bytes tile header most columns out q after out
-    writes-none h e m M end l w v =
+    pub writes-none : length out < k → Writes bytes tile header most columns out (record { number = 16; len = 0 }) after out
+    writes-none h m M end l w v =
         let z = p m M end l w in
-        (z .0, ap (λ (x : Recoded). recodeEnded x end out) e ∙ into-small (callOf bytes tile header) m end out (omega (arith, ap length a, z .1)))
+        (z .0, into-short (callOf bytes tile header) m end out (omega (arith, z .1)))
 
-    pub writes-all : length first + k ≤ length out → length after ≡ length columns → {q : Recoded} {last new : List ℕ} → Lays bytes first tile header after out q last new → Writes bytes tile header most columns out q last new
-    writes-all h s b m M end l w v = b m M end (l ∙ sym s) w a (omega (arith, p m M end l w .1))
+    pub writes-all : k ≤ length out → length after ≡ length columns → {n : ℕ} {last new : List ℕ} → Passes bytes tile header after out n last new → Writes bytes tile header most columns out (record { number = 0; len = n }) last new
+    writes-all h s q m M end l w v =
+        let c : Call = callOf bytes tile header in
+        let z = q m M end (l ∙ sym s) w in
+        let f : length (onePartition c m) ≤ length out = omega (arith, p m M end l w .1) in
+        (z .columns, into-fits c m end out f (z .long) (z .same f))
 
--- ---- the call
+-- ---- the call on the tokens
 module _ (c : Call) (m : Memory) (out : List ℕ) {q : Decoded} {mem : Memory} (e : record { answer = q; mem = mem } ≡ pictureOf c m) {n : ℕ} (f : n ≡ numberOf q) where
   told : n ≡ numberOf (pictureOf c m .answer)
   told = f ∙ ap (λ (x : Ended). numberOf (x .answer)) e
 
-  refused : (n ≡ 0 → ⊥) → recodeEnded (recodedRefused n) mem out ≡ recodeOf c m out
-  unfolding recodeOf
-  refused h = go n told h
+  pub tokens-refused : (n ≡ 0 → ⊥) → tokensEnded (record { number = n; len = 0 }) mem out ≡ tokensOf c m out
+  unfolding tokensOf
+  tokens-refused h = go n told h
     where
-      go : (k : ℕ) → k ≡ numberOf (pictureOf c m .answer) → (k ≡ 0 → ⊥) → recodeEnded (recodedRefused k) mem out ≡ recodeOf c m out
+      go : (k : ℕ) → k ≡ numberOf (pictureOf c m .answer) → (k ≡ 0 → ⊥) → tokensEnded (record { number = k; len = 0 }) mem out ≡ tokensOf c m out
       go zero g h = absurd (h refl)
-      go (suc k) g h = rw (← g, recodeOf) (λ i. recodeEnded (recodedRefused (suc k)) (e i .mem) out)
+      go (suc k) g h = rw (← g, tokensOf) (λ i. tokensEnded (record { number = suc k; len = 0 }) (e i .mem) out)
 
-  pub recode-refused : (n ≡ 0 → ⊥) → {x : Recoded} → x ≡ recodedRefused n → recodeEnded x mem out ≡ recodeOf c m out
-  recode-refused h g = ap (λ (x : Recoded). recodeEnded x mem out) g ∙ refused h
+  pub tokens-whole : n ≡ 0 → IsWhole (pictureOf c m)
+  tokens-whole h = picture-whole c m (sym told ∙ h)
 
-  pub recode-whole : n ≡ 0 → IsWhole (pictureOf c m)
-  recode-whole h = picture-whole c m (sym told ∙ h)
+  tokens-done : n ≡ 0 → {x : TokensEnded} → x ≡ tokensInto c m (pictureOf c m .mem) out → x ≡ tokensOf c m out
+  unfolding tokensOf
+  tokens-done h g = let z : numberOf (pictureOf c m .answer) ≡ 0 = sym told ∙ h in rw (z, tokensOf) g
 
-  pub recode-done : n ≡ 0 → {x : RecodeEnded} → x ≡ recodedInto c m (pictureOf c m .mem) out → x ≡ recodeOf c m out
-  unfolding recodeOf
-  recode-done h g = let z : numberOf (pictureOf c m .answer) ≡ 0 = sym told ∙ h in rw (z, recodeOf) g
-
-  pub recode-small : n ≡ 0 → Small (c .tile)
-  recode-small h =
-      let w = recode-whole h in
+  pub tokens-small : n ≡ 0 → Small (c .tile)
+  tokens-small h =
+      let w = tokens-whole h in
       let g = whole-fine c m (w .same) in
       let s = fine-side c (sizesOf m) g in
       record { width = s .width .most; height = s .height .most; count = fine-count c (sizesOf m) g .most }
 
-  -- the tile rewritten, the other memory as the picture call left it
-  pub recode-rewritten : c .form ≡ packed → n ≡ 0 → {reads : SymbolCounts} → reads ≡ costOf c m → length (mem .columns) ≡ length (m .columns) → {x : Recoded} {after new : List ℕ} → Writes (c .bytes) (c .tile) (c .header) (reads .tokens) (mem .columns) out x after new
-      → recodeEnded x (memoryOf (mem .y) (mem .u) (mem .v) after (mem .modes) (mem .strengths)) new ≡ recodeOf c m out
+  -- the tokens rewritten, the other memory as the picture call left it
+  pub tokens-rewritten : c .form ≡ packed → n ≡ 0 → {reads : SymbolCounts} → reads ≡ costOf c m → length (mem .columns) ≡ length (m .columns) → {x : TokensRecoded} {after new : List ℕ} → Writes (c .bytes) (c .tile) (c .header) (reads .tokens) (mem .columns) out x after new
+      → tokensEnded x (memoryOf (mem .y) (mem .u) (mem .v) after (mem .modes) (mem .strengths)) new ≡ tokensOf c m out
   unfolding tokensRead
-  recode-rewritten p h {reads} r l {x} {after} {new} w =
-      let z = recode-whole h in
+  tokens-rewritten p h {reads} r l {x} {after} {new} w =
+      let z = tokens-whole h in
       let counted : reads .tokens ≡ length (tokensRead c m) =
       ap (λ (y : SymbolCounts). y .tokens) (r ∙ cost-good c m (sym (whole-fine c m (z .same))) refl) ∙ tokens-count (blocksOf (c .tile .width) (c .tile .height)) (picturedOf c) 0 (begunOf c m) in
       let same : callOf (c .bytes) (c .tile) (c .header) ≡ c = λ i. callIn (sym p i) c in
       let k : mem ≡ pictureOf c m .mem = ap (λ (y : Ended). y .mem) e in
       let v = w m (z .count) (pictureOf c m .mem) (sym l) (ap (λ (t : Call). pictureOf t m) same ∙ z .same) (omega (arith, counted, ap (λ (t : Call). length (tokensRead t m)) same)) in
       let o : memoryOf (mem .y) (mem .u) (mem .v) after (mem .modes) (mem .strengths) ≡ pictureOf c m .mem = (λ i. memoryOf (mem .y) (mem .u) (mem .v) ((v .0 ∙ ap (λ (y : Memory). y .columns) (sym k)) i) (mem .modes) (mem .strengths)) ∙ k in
-      ap (λ (y : Memory). recodeEnded x y new) o ∙ recode-done h (v .1 ∙ ap (λ (t : Call). recodedInto t m (pictureOf c m .mem) out) same)
+      ap (λ (y : Memory). tokensEnded x y new) o ∙ tokens-done h (v .1 ∙ ap (λ (t : Call). tokensInto t m (pictureOf c m .mem) out) same)
+
+-- ---- what the two calls leave, by the picture call's number and the room
+module _ (c : Call) (m : Memory) (out : List ℕ) where
+  abbrev number : ℕ
+  number = numberOf (pictureOf c m .answer)
+
+  abbrev left : Memory
+  left = pictureOf c m .mem
+
+  tokens-told : (number ≡ 0 → ⊥) → tokensOf c m out ≡ tokensEnded (record { number = number; len = 0 }) left out
+  tokens-told h = sym (tokens-refused c m out refl refl h)
+
+  tokens-fits : number ≡ 0 → length (onePartition c m) ≤ length out → tokensOf c m out ≡ tokensEnded (record { number = 0; len = length (onePartition c m) }) left (onePartition c m ++ drop (length (onePartition c m)) out)
+  tokens-fits h f = sym (tokens-done c m out refl refl h (into-fits c m left out f refl refl))
+
+  tokens-full : number ≡ 0 → length out < length (onePartition c m) → tokensOf c m out ≡ tokensEnded (record { number = 16; len = 0 }) left out
+  tokens-full h f = sym (tokens-done c m out refl refl h (into-short c m left out f))
+
+  long : length (recodedBytes c m) ≡ length (firstOf c) + length (onePartition c m)
+  long = length-append (firstOf c) (onePartition c m)
+
+  recode-told : (number ≡ 0 → ⊥) → recodeOf c m out ≡ recodeEnded (recodedRefused number) left out
+  unfolding recodeOf
+  recode-told h = go number refl h
+    where
+      go : (k : ℕ) → number ≡ k → (k ≡ 0 → ⊥) → recodeOf c m out ≡ recodeEnded (recodedRefused k) left out
+      go zero g h = absurd (h refl)
+      go (suc k) g h = rw (g, recodeOf)
+
+  recode-fits : number ≡ 0 → length (firstOf c) + length (onePartition c m) ≤ length out → recodeOf c m out ≡ recodeEnded (recodedDone (recodedTile c m)) left (firstOf c ++ (onePartition c m ++ drop (length (firstOf c) + length (onePartition c m)) out))
+  unfolding recodeOf recodedInto
+  recode-fits h f =
+      rw (h, recodeOf, le-leb (length (recodedBytes c m)) (length out) (omega (arith, long)), recodedInto)
+      (λ i. recodeEnded (recodedDone (recodedTile c m)) left ((append-assoc (firstOf c) (onePartition c m) (drop (length (recodedBytes c m)) out) ∙ ap (λ (k : ℕ). firstOf c ++ (onePartition c m ++ drop k out)) long) i))
+
+  recode-full : number ≡ 0 → length out < length (firstOf c) + length (onePartition c m) → recodeOf c m out ≡ recodeEnded (recodedRefused 16) left out
+  unfolding recodeOf recodedInto
+  recode-full h f = rw (h, recodeOf, lt-leb (length (recodedBytes c m)) (length out) (omega (arith, long)), recodedInto)
+
+-- ---- tokens that stand in the room from `at` on: the picture is refused, the room too small, or all of them are there
+pub data TokensAt (c : Call) (m : Memory) (out : List ℕ) (at : ℕ) : TokensEnded → Type 0 where
+  refused : (numberOf (pictureOf c m .answer) ≡ 0 → ⊥) → TokensAt c m out at (tokensEnded (record { number = numberOf (pictureOf c m .answer); len = 0 }) (pictureOf c m .mem) out)
+  full : numberOf (pictureOf c m .answer) ≡ 0 → length out < at + length (onePartition c m) → TokensAt c m out at (tokensEnded (record { number = 16; len = 0 }) (pictureOf c m .mem) out)
+  there : numberOf (pictureOf c m .answer) ≡ 0 → at + length (onePartition c m) ≤ length out
+      → TokensAt c m out at (tokensEnded (record { number = 0; len = length (onePartition c m) }) (pictureOf c m .mem) (take at out ++ (onePartition c m ++ drop (at + length (onePartition c m)) out)))
+
+-- a call whose tokens do
+module _ (c : Call) (m : Memory) (out : List ℕ) (at : ℕ) (inside : at ≤ length out) {q : TokensRecoded} {mem : Memory} {part new : List ℕ} (e : tokensEnded q mem part ≡ tokensOf c m (take (length out - at) (drop at out)))
+    (g : new ≡ take at out ++ (part ++ drop (length out - at) (drop at out))) where
+  cut : take (length out - at) (drop at out) ≡ drop at out
+  cut = take-all (length out - at) (drop at out) (rw length-drop (omega arith))
+
+  here : tokensEnded q mem part ≡ tokensOf c m (drop at out)
+  here = e ∙ ap (tokensOf c m) cut
+
+  new-is : new ≡ take at out ++ part
+  new-is = g ∙ ap (λ (x : List ℕ). take at out ++ (part ++ x)) (drop-of-length-le (drop at out) {i = length out - at} (rw length-drop (omega arith))) ∙ ap (λ (x : List ℕ). take at out ++ x) (append-nil part)
+
+  pub tokens-at : TokensAt c m out at (tokensEnded q mem new)
+  tokens-at =
+      ⊎-elim
+      (λ (w : numberOf (pictureOf c m .answer) ≡ 0).
+      ⊎-elim
+      (λ (l : length (drop at out) < length (onePartition c m)). so (tokens-full c m (drop at out) w l) (take-append-drop at out) (full w (omega (arith, l, dropped at out))))
+      (λ (l : length (onePartition c m) ≤ length (drop at out)).
+      so (tokens-fits c m (drop at out) w l) (ap (λ (x : List ℕ). take at out ++ (onePartition c m ++ x)) (drop-drop (length (onePartition c m)) at out)) (there w (omega (arith, l, dropped at out))))
+      (lt-or (length (drop at out)) (length (onePartition c m))))
+      (λ (w : numberOf (pictureOf c m .answer) ≡ 0 → ⊥). so (tokens-told c m (drop at out) w) (take-append-drop at out) (refused w))
+      (eq-or (numberOf (pictureOf c m .answer)) 0)
+    where
+      so : {x : TokensEnded} {z : List ℕ} → tokensOf c m (drop at out) ≡ x → take at out ++ x .out ≡ z → TokensAt c m out at (tokensEnded (x .answer) (x .mem) z) → TokensAt c m out at (tokensEnded q mem new)
+      so a b t = let d = here ∙ a in let f = new-is ∙ (λ i. take at out ++ d i .out) ∙ b in subst (TokensAt c m out at) (λ i. tokensEnded (sym d i .answer) (sym d i .mem) (sym f i)) t
+
+  pub recode-refused : at ≤ length (firstOf c) → (q .number ≡ 0 → ⊥) → {x : Recoded} → x ≡ recodedRefused (q .number) → recodeEnded x mem new ≡ recodeOf c m out
+  recode-refused h k f = ap (λ (x : Recoded). recodeEnded x mem new) f ∙ go tokens-at k
+    where
+      go : {y : TokensEnded} → TokensAt c m out at y → (y .answer .number ≡ 0 → ⊥) → recodeEnded (recodedRefused (y .answer .number)) (y .mem) (y .out) ≡ recodeOf c m out
+      go (refused w) k = sym (recode-told c m out w)
+      go (full w l) k = sym (recode-full c m out w (omega (arith, l, h)))
+      go (there w l) k = absurd (k refl)
+
+  -- all of it was: then the first partition fits before it
+  pub record Fits (y : TokensEnded) : Type 0 where
+    pub whole : numberOf (pictureOf c m .answer) ≡ 0
+    pub fits : at + length (onePartition c m) ≤ length out
+    pub first : at ≡ length (firstOf c)
+    pub is : y ≡ tokensEnded (record { number = 0; len = length (onePartition c m) }) (pictureOf c m .mem) (take at out ++ (onePartition c m ++ drop (at + length (onePartition c m)) out))
+
+  pub recode-fitted : Bytes (c .bytes) → (at < length out → at ≡ length (firstOf c)) → q .number ≡ 0 → Fits (tokensEnded q mem new)
+  recode-fitted y h k = go tokens-at k
+    where
+      go : {y : TokensEnded} → TokensAt c m out at y → y .answer .number ≡ 0 → Fits y
+      go (refused w) k = absurd (w k)
+      go (full w l) k = absurd (let z : 16 ≡ 0 = k in omega arith)
+      go (there w l) k = record { whole = w; fits = l; first = h (omega (arith, l, partition-most c m y (picture-whole c m w .same) .0)); is = refl }
+
+  pub recode-laid : Fits (tokensEnded q mem new) → {first last : List ℕ} {t : Tile} → first ≡ firstOf c → last ≡ take (length first) first ++ drop (length first) new → t ≡ oneTile (c .tile) (length first) (q .len) → recodeEnded (recodedDone t) mem last ≡ recodeOf c m out
+  recode-laid z {first} {last} {t} a b d =
+      let n : ℕ = length (firstOf c) in
+      let k : ℕ = length (onePartition c m) in
+      let f : length first ≡ n = ap length a in
+      let u : length (take at out) ≡ at = length-take-le at out inside in
+      let s : drop n new ≡ onePartition c m ++ drop (n + k) out =
+      (λ i. drop (sym (u ∙ z .first) i) (z .is i .out)) ∙ drop-append-seam (take at out) (onePartition c m ++ drop (at + k) out) ∙ ap (λ (i : ℕ). onePartition c m ++ drop (i + k) out) (z .first) in
+      let v : last ≡ firstOf c ++ (onePartition c m ++ drop (n + k) out) = b ∙ (λ i. take-all (length first) first (omega arith) i ++ drop (length first) new) ∙ (λ i. a i ++ drop (f i) new) ∙ ap (λ (x : List ℕ). firstOf c ++ x) s in
+      let w : t ≡ recodedTile c m = d ∙ (λ i. oneTile (c .tile) (f i) (z .is i .answer .len)) in
+      (λ i. recodeEnded (recodedDone (w i)) (z .is i .mem) (v i)) ∙ sym (recode-fits c m out (z .whole) (omega (arith, z .fits, z .first)))

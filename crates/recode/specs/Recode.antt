@@ -22,6 +22,7 @@ use Rattle.choices.specs.Answer.{numberOf}
 use Rattle.picture.specs.Picture.{Picture, State, Ended, columnOf, partitionOf, aroundAt, stepAt, nextOf, picturedOf, begunOf, pictureOf}
 use Rattle.writer.specs.Encoder.{encodeOf}
 use Rattle.recode.specs.declared.Recoded.{Recoded}
+use Rattle.recode.specs.declared.tokens.TokensRecoded.{TokensRecoded}
 
 -- ---- the symbols
 -- what macroblock k asks of the first partition: its modes (RFC 6386, section 19.3)
@@ -56,13 +57,39 @@ tokensFrom (suc n) P k S =
 unfoldable pub tokensRead : Call → Memory → List CodedSymbol
 tokensRead c m = tokensFrom (blocksOf (c .tile .width) (c .tile .height)) (picturedOf c) 0 (begunOf c m)
 
--- ---- the bytes: the first partition copied, then the one token partition
-abbrev pub firstOf : Call → List ℕ
-firstOf c = contentsOf (c .bytes) (c .tile .first)
-
 -- the one token partition
 abbrev pub onePartition : Call → Memory → List ℕ
 onePartition c m = encodeOf (tokensRead c m)
+
+-- ---- the tokens alone: their answer, the memory of the picture call, and the room
+pub record TokensEnded : Type 0 where
+  pub answer : TokensRecoded
+  pub mem : Memory
+  pub out : List ℕ
+
+-- the three as one: a number and how many bytes were written
+abbrev pub tokensEnded : TokensRecoded → Memory → List ℕ → TokensEnded
+tokensEnded answer mem out = record { answer = answer; mem = mem; out = out }
+
+-- the partition at the start of the room, what lies behind it unchanged; 16 where it exceeds the room
+unfoldable pub tokensInto : Call → Memory → Memory → List ℕ → TokensEnded
+tokensInto c m mem out =
+    elim (leb (length (onePartition c m)) (length out)) [
+      | true ↦ tokensEnded (record { number = 0; len = length (onePartition c m) }) mem (onePartition c m ++ drop (length (onePartition c m)) out)
+      | false ↦ tokensEnded (record { number = 16; len = 0 }) mem out
+    ]
+
+-- the picture call, whose number comes back where it is not 0, the room unchanged; else its tokens
+unfoldable pub tokensOf : Call → Memory → List ℕ → TokensEnded
+tokensOf c m out =
+    elim (numberOf (pictureOf c m .answer)) [
+      | zero ↦ tokensInto c m (pictureOf c m .mem) out
+      | suc n ↦ tokensEnded (record { number = suc n; len = 0 }) (pictureOf c m .mem) out
+    ]
+
+-- ---- the bytes: the first partition copied, then the one token partition
+abbrev pub firstOf : Call → List ℕ
+firstOf c = contentsOf (c .bytes) (c .tile .first)
 
 -- both
 abbrev pub recodedBytes : Call → Memory → List ℕ

@@ -103,7 +103,7 @@ tokens-done tokens table t a kinds next modes columns room y long {q} {new} r {b
     let m = macroblockOf kinds modes in
     let x = z .tokens′ in
     let v = r (factorsAt (t .frame) (kinds .segment)) (z .ready .top) (z .ready .left) d r2 F old
-    (record { e = x .e; r = t .token; sim = sim-widen tokens (t .token) (z .ready .token); valid = z .ready .token; gives = x .gives; paid = x .paid; small = x .small; ready = x .ready; kept = x .kept }) in
+    (record { e = x .e; r = t .token; bytes = y; long = long; sim = sim-widen tokens (t .token) (z .ready .token); valid = z .ready .token; gives = x .gives; paid = x .paid; small = x .small; ready = x .ready; kept = x .kept }) in
     let near = sim-near tokens (q .pipe .reader) r2 (v .sim) in
     let up : record { modes = bottom; flags = q .top } ≡ below m (d .top) = λ j. record { modes = b j; flags = v .value j .0 } in
     record {

@@ -1,28 +1,23 @@
 // A tile's tokens in one partition (M-112): a symbol read and written again (pipe), a token (token), the blocks of a macroblock (block), one
-// macroblock in its place (turn), all of them in order (walk), and the call.
+// macroblock in its place (turn), all of them in order (walk), what they make (tokens), and the call.
 pub mod block;
 pub mod pipe;
 mod token;
+pub mod tokens;
 pub mod turn;
 mod walk;
 
-use crate::walk::walk;
-use blank::fill;
-use coefficients::block::probabilities;
-use header::frame::take;
+use crate::tokens::recode_tokens;
 use picture::decode;
 use reader::boolean::Reader;
 use tile::Span;
 use tile::Tile;
 use tile::partitions::part;
 ghost use mathlib.Core.Path.{_≡_};
-ghost use mathlib.Core.Bool.{true};
-ghost use Prim.Native.Nat.{_+_, _≤_};
-ghost use lib.ListN.{length};
+ghost use Prim.Native.Nat.{_≤_, _<_};
 ghost use Rattle.lent.specs.Memory.{memoryOf};
 ghost use Rattle.choices.specs.Checks.{callOf};
 ghost use Rattle.recode.specs.Recode.{recodedRefused, recodeEnded, recodeOf, oneTile};
-ghost use Rattle.recode.specs.PassLaws.{Small, Passes, Measures, Behind, Lays, Writes};
 
 // 0 and the tile that was written; or the number of a refusal, that of the picture call or 16 where the room is too small, and zeros.
 pub struct Recoded {
@@ -51,47 +46,6 @@ fn refused(number: u32) -> Recoded
     }
 }
 
-// Every token once more, from the first macroblock on, written to the room; what lies past its end only counts. How many bytes there are.
-fn pass(bytes: &[u8], tile: Tile, header: &[i32], columns: &mut [u8], out: &mut [u8]) -> usize
-    requires { ⌜ Small tile ⌝ }
-    ensures { λ n. ⌜ Passes (now (bytes .entry)) tile (now (header .entry)) (now (columns .entry)) (now (out .entry))
-        n (now (columns .exit)) (now (out .exit)) ⌝ }
-{
-    fill(&mut columns[..], 0);
-    let table = probabilities(header);
-    let numbers = table.bytes;
-    let framed = take(header);
-    let frame = framed.frame;
-    let w = walk(bytes, tile, frame, &numbers, &mut columns[..], &mut out[..]);
-    w.flush(&mut out[..])
-}
-
-// How many bytes there will be.
-fn measure(bytes: &[u8], tile: Tile, header: &[i32], columns: &mut [u8]) -> usize
-    requires { ⌜ Small tile ⌝ }
-    ensures { λ n. ⌜ Measures (now (bytes .entry)) tile (now (header .entry)) (now (columns .entry)) n (now (columns .exit)) ⌝ }
-{
-    let mut none = [0u8; 1];
-    pass(bytes, tile, header, columns, &mut none[..])
-}
-
-// The same into the room from a place on.
-fn behind(
-    bytes: &[u8],
-    tile: Tile,
-    header: &[i32],
-    columns: &mut [u8],
-    out: &mut [u8],
-    at: usize,
-) -> usize
-    requires { ⌜ Small tile ⌝ }
-    requires { ⌜ at ≤ length (now out) ⌝ }
-    ensures { λ n. ⌜ Behind (now (bytes .entry)) tile (now (header .entry)) (now (columns .entry)) (now (out .entry)) at
-        n (now (columns .exit)) (now (out .exit)) ⌝ }
-{
-    pass(bytes, tile, header, columns, &mut out[at..])
-}
-
 // A tile whose first partition is n bytes at the start of its bytes, and whose one token partition is the k bytes behind it.
 fn one_tile(tile: Tile, n: usize, k: usize) -> Tile
     ensures { λ t. ⌜ t ≡ oneTile tile n k ⌝ }
@@ -109,69 +63,14 @@ fn one_tile(tile: Tile, n: usize, k: usize) -> Tile
     }
 }
 
-// Whether a room is sure to hold n bytes and what `most` symbols make: at most a byte each, and four at the end.
-fn ample(room: usize, n: usize, most: u64) -> bool
-    ensures { λ b. ⌜ (b ≡ true → n + most + 4 ≤ room) ⌝ }
+// The lesser of two.
+fn least(a: usize, b: usize) -> usize
+    ensures { λ r. ⌜ (r ≤ a) × (r ≤ b) × (r < b → r ≡ a) ⌝ }
 {
-    if room < n {
-        return false;
+    if a < b {
+        return a;
     }
-    if room - n < 4 {
-        return false;
-    }
-    most <= (room - n - 4) as u64
-}
-
-// The first partition, and the token partition behind it, in a room that holds both.
-fn lay(
-    bytes: &[u8],
-    first: &[u8],
-    tile: Tile,
-    header: &[i32],
-    columns: &mut [u8],
-    out: &mut [u8],
-) -> Recoded
-    requires { ⌜ Small tile ⌝ }
-    requires { ⌜ length (now first) ≤ length (now out) ⌝ }
-    ensures { λ q. ⌜ Lays (now (bytes .entry)) (now (first .entry)) tile (now (header .entry)) (now (columns .entry)) (now (out .entry))
-        q (now (columns .exit)) (now (out .exit)) ⌝ }
-{
-    let n = first.len();
-    bytes::copy(first, &mut out[..]);
-    let k = behind(bytes, tile, header, &mut columns[..], &mut out[..], n);
-    let after = one_tile(tile, n, k);
-    Recoded {
-        number: 0,
-        tile: after,
-    }
-}
-
-// A tile that was decoded whole, of at most so many token symbols. Its bytes are counted before one is written, unless the room is ample.
-fn rewrite(
-    bytes: &[u8],
-    tile: Tile,
-    header: &[i32],
-    most: u64,
-    columns: &mut [u8],
-    out: &mut [u8],
-) -> Recoded
-    requires { ⌜ Small tile ⌝ }
-    ensures { λ q. ⌜ Writes (now (bytes .entry)) tile (now (header .entry)) most (now (columns .entry)) (now (out .entry))
-        q (now (columns .exit)) (now (out .exit)) ⌝ }
-{
-    let first = part(bytes, tile.first);
-    let n = first.len();
-    if ample(out.len(), n, most) {
-        return lay(bytes, first, tile, header, &mut columns[..], &mut out[..]);
-    }
-    let k = measure(bytes, tile, header, &mut columns[..]);
-    if out.len() < n {
-        return refused(16);
-    }
-    if out.len() - n < k {
-        return refused(16);
-    }
-    lay(bytes, first, tile, header, &mut columns[..], &mut out[..])
+    b
 }
 
 // The picture call, then its tile with one token partition, at the start of `out`; what lies behind it in `out` is left alone.
@@ -194,7 +93,10 @@ pub fn recode(
         (memoryOf (now (y .entry)) (now (u .entry)) (now (v .entry))
         (now (columns .entry)) (now (modes .entry)) (now (strengths .entry))) (now (out .entry)) ⌝ }
 {
-    let read = decode(
+    let first = part(bytes, tile.first);
+    let n = first.len();
+    let at = least(n, out.len());
+    let written = recode_tokens(
         bytes,
         tile,
         header,
@@ -204,19 +106,15 @@ pub fn recode(
         &mut columns[..],
         &mut modes[..],
         &mut strengths[..],
+        &mut out[at..],
     );
-    let answer = read.answer;
-    let reads = read.reads;
-    let number = answer.number();
-    if number != 0 {
-        return refused(number);
+    if written.number != 0 {
+        return refused(written.number);
     }
-    rewrite(
-        bytes,
-        tile,
-        header,
-        reads.tokens,
-        &mut columns[..],
-        &mut out[..],
-    )
+    bytes::copy(first, &mut out[..]);
+    let after = one_tile(tile, n, written.len);
+    Recoded {
+        number: 0,
+        tile: after,
+    }
 }

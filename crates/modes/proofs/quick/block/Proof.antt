@@ -1,10 +1,11 @@
 use Prim.Native.Nat.{ℕ, _+_}
+use native.Mathlib.Omega.{arith}
 use mathlib.Core.List.{List}
 use mathlib.Core.Path.{refl, ap}
 use borrow.Author.Needs.{needs}
 use Rattle.wide.specs.WideRuns.{reads-as}
 use Rattle.modes.specs.Modes.{bTree, tree}
-use Rattle.modes.specs.TableLaws.{part-is}
+use Rattle.modes.specs.TableLaws.{table-long, part-is}
 use Rattle.modes.proofs.quick.block.Statement.{statement}
 use Rattle.modes.proofs.quick.block.Tie as tie
 
@@ -21,7 +22,7 @@ part-small-mode-start : tie.Need-part-small-mode-start
 part-small-mode-start c = search needs
 
 part-small-mode-end : tie.Need-part-small-mode-end
-part-small-mode-end c = search needs
+part-small-mode-end c = omega (arith, table-long (c .before .before .before .pre .1))
 
 small-mode-requires : tie.Need-small-mode-requires
 small-mode-requires c κs = search needs

@@ -1,10 +1,11 @@
 -- `all_probabilities` meets its contract: in `returns` the first `refl` is the test of the code's whole table.
 use Prim.Native.Nat.{_-_}
 use native.Mathlib.Omega.{arith}
-use mathlib.Core.Path.{refl, subst⁻¹}
+use mathlib.Core.Path.{refl, _∙_}
 use lib.Dec.{lit<}
 use Rattle.numbers.specs.Tables.{Laid, laid-none, laid-next, laid-all}
-use Rattle.modes.specs.Table.{rfcTable, Renumbered}
+use Rattle.modes.specs.Table.{rfcTable}
+use Rattle.modes.specs.TableLaws.{table-is}
 use Rattle.modes.proofs.small.all_probabilities.Statement.{statement}
 use Rattle.modes.proofs.small.all_probabilities.Tie as tie
 
@@ -40,7 +41,7 @@ loop-again c = laid-next (c .before .before .loop .inv) (c .before .loop-test .t
 
 returns : tie.Need-returns Inv-loop μ-loop
 unfolding rfcTable
-returns c = subst⁻¹ Renumbered (laid-all (c .before .loop .inv) (c .loop-test .left)) (record { same = refl; long = refl })
+returns c = laid-all (c .before .loop .inv) (c .loop-test .left) ∙ table-is _ refl refl
 
 pub all-probabilities-spec : {M : Type 1} → statement M
 all-probabilities-spec =

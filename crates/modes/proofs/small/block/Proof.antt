@@ -1,4 +1,5 @@
 use Prim.Native.Nat.{ℕ, _+_}
+use native.Mathlib.Omega.{arith}
 use lib.Dec.{lit≤}
 use mathlib.Core.List.{List}
 use mathlib.Core.Path.{refl, ap, _∙_}
@@ -9,7 +10,7 @@ use Rattle.modes.specs.Modes.{tree, bTree}
 use Rattle.modes.specs.ModesLaws.{byte-leaves, block-within}
 use Rattle.modes.specs.Answers.{toMode}
 use Rattle.modes.specs.Table.{probabilities}
-use Rattle.modes.specs.TableLaws.{probabilities-length, part-is}
+use Rattle.modes.specs.TableLaws.{probabilities-length, table-long, part-is}
 use Rattle.modes.proofs.Careful.{told-as}
 use Rattle.modes.proofs.small.block.Statement.{statement}
 use Rattle.modes.proofs.small.block.Tie as tie
@@ -27,7 +28,7 @@ part-coded-start : tie.Need-part-coded-start
 part-coded-start c = search needs
 
 part-coded-end : tie.Need-part-coded-end
-part-coded-end c = search needs
+part-coded-end c = omega (arith, table-long (c .before .before .before .pre .1 .1))
 
 slice-aggregate-coded : tie.Need-slice-aggregate-coded
 slice-aggregate-coded c = search needs

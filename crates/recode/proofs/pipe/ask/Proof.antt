@@ -1,5 +1,4 @@
-use native.Mathlib.Omega.{arith}
-use Rattle.recode.specs.Copies.{asked}
+use Rattle.recode.specs.Copies.{ask-is}
 use borrow.Author.Needs.{needs}
 use Rattle.recode.proofs.pipe.ask.Statement.{statement}
 use Rattle.recode.proofs.pipe.ask.Tie as tie
@@ -17,7 +16,7 @@ same-length : tie.Need-same-length
 same-length c = search needs
 
 returns : tie.Need-returns
-returns c = asked _ (c .before .before .before .before .before .before .before .before .before .before .before .args .p) _ (c .before .before .before .before .before .before .before .before .before .before .before .args .prob) (λ i. c .before .before .before .before .before .before .before .before .before .before .shared-slice-known .given i .fits) (omega (arith, c .before .before .before .before .before .before .before .before .before .before .before .good .0)) (omega arith) (c .before .before .before .before .before .before .fill .ensures) (c .before .before .before .before .before .bit .ensures) (c .before .before .write .ensures)
+returns c = ask-is _ (c .before .before .before .before .before .before .before .before .before .before .before .args .p) _ (c .before .before .before .before .before .before .before .before .before .before .before .args .prob) (c .before .before .before .before .before .before .fill .ensures) (c .before .before .before .before .before .bit .ensures) (c .before .before .write .ensures)
 
 pub ask-spec : {M : Type 1} → statement M
 ask-spec = tie.close (tie.spec fill-requires bit-requires write-requires same-length returns)

@@ -1,6 +1,7 @@
 use Prim.Native.Nat.{_-_}
 use native.Mathlib.Omega.{arith}
 use lib.ListN.{length}
+use Rattle.recode.specs.Copies.{ask-copies}
 use Rattle.recode.specs.TokenCopies.{Taking, taking-start, taking-next, taking-end}
 use Rattle.recode.proofs.token.copy_extra.Statement.{statement}
 use Rattle.recode.proofs.token.copy_extra.Tie as tie
@@ -27,7 +28,7 @@ loop-less : tie.Need-loop-less Inv-loop μ-loop
 loop-less c = omega arith
 
 loop-again : tie.Need-loop-again Inv-loop μ-loop
-loop-again c = taking-next (c .before .before .before .before .before .before .before .loop .inv) (c .before .before .before .before .before .before .loop-test .taken) (c .before .before .before .ask .ensures) (c .before .before .before .ask .kept .1 .1 .0)
+loop-again c = taking-next (c .before .before .before .before .before .before .before .loop .inv) (c .before .before .before .before .before .before .loop-test .taken) (ask-copies (c .before .before .before .before .before .before .before .before .shared-slice-known2 .given _ .fits) (c .before .before .before .ask .ensures)) (c .before .before .before .ask .kept .1 .1 .0)
 
 same-length : tie.Need-same-length Inv-loop μ-loop
 same-length c = c .before .loop .inv .long

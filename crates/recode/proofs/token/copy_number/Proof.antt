@@ -3,6 +3,7 @@ use native.Mathlib.Omega.{arith}
 use mathlib.Core.Path.{sym}
 use Rattle.reader.specs.Token.{elevenAt}
 use Rattle.reader.specs.TokenLaws.{eleven-at}
+use Rattle.recode.specs.Copies.{ask-copies}
 use Rattle.recode.specs.TokenCopies.{Walking, walking-start, walking-next, walking-end}
 use Rattle.recode.proofs.token.copy_number.Statement.{statement}
 use Rattle.recode.proofs.token.copy_number.Tie as tie
@@ -32,7 +33,7 @@ loop-less : tie.Need-loop-less Inv-loop μ-loop
 loop-less c = omega (arith, c .before .lead .ensures .1, c .before .lead .ensures .2)
 
 loop-again : tie.Need-loop-again Inv-loop μ-loop
-loop-again c = walking-next (c .before .before .before .before .before .before .before .before .loop .inv) (c .before .before .before .before .before .before .before .loop-test .taken) (sym (eleven-at _ _ _ (c .before .before .before .before .before .before .before .loop-test .taken))) (c .before .before .before .before .ask .ensures) (c .before .lead .ensures .0) (c .before .lead .ensures .2) (c .before .lead .ensures .1) (c .before .before .before .before .ask .kept .1 .1 .0)
+loop-again c = walking-next (c .before .before .before .before .before .before .before .before .loop .inv) (c .before .before .before .before .before .before .before .loop-test .taken) (sym (eleven-at _ _ _ (c .before .before .before .before .before .before .before .loop-test .taken))) (ask-copies (c .before .before .before .before .before .before .before .before .before .shared-slice-known2 .given _ .fits) (c .before .before .before .before .ask .ensures)) (c .before .lead .ensures .0) (c .before .lead .ensures .2) (c .before .lead .ensures .1) (c .before .before .before .before .ask .kept .1 .1 .0)
 
 cast-t17 : tie.Need-cast-t17 Inv-loop μ-loop
 cast-t17 c = omega (arith, c .before .loop .inv .low)

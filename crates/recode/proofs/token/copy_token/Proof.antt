@@ -7,6 +7,7 @@ use borrow.Author.Needs.{needs}
 use borrow.Author.Tests.{not-true, not-false}
 use Rattle.reader.specs.Token.{elevenAt}
 use Rattle.reader.specs.TokenLaws.{eleven-at}
+use Rattle.recode.specs.Copies.{ask-copies}
 use Rattle.recode.specs.TokenCopies.{from-leaf, from-node, token-from}
 use Rattle.recode.proofs.token.copy_token.Statement.{statement}
 use Rattle.recode.proofs.token.copy_token.Tie as tie
@@ -37,7 +38,7 @@ same-length-2 c = search needs
 returns-2 : tie.Need-returns-2
 returns-2 c =
     let a = c .before .before .before .before .before .before .before .before .before .before .before .before .args in
-    (token-from (elevenAt (a .table .now) (a .at)) (c .before .before .before .before .before .before .before .before .if1 .left) (from-leaf (elevenAt (a .table .now) (a .at)) 0 (omega arith) (first (a .table .now) (a .at)) (c .before .before .before .before .before .ask .ensures) (not-true _ (c .if2 .taken)) refl), omega arith)
+    (token-from (elevenAt (a .table .now) (a .at)) (c .before .before .before .before .before .before .before .before .if1 .left) (from-leaf (elevenAt (a .table .now) (a .at)) 0 (omega arith) (first (a .table .now) (a .at)) (ask-copies (c .before .before .before .before .before .before .before .before .before .shared-slice-known2 .given _ .fits) (c .before .before .before .before .before .ask .ensures)) (not-true _ (c .if2 .taken)) refl), omega arith)
 
 copy-value-requires-2 : tie.Need-copy-value-requires-2
 copy-value-requires-2 c κs = c .before .before .before .before .before .before .before .before .before .before .before .before .before .pre
@@ -48,7 +49,7 @@ same-length-3 c = search needs
 returns-3 : tie.Need-returns-3
 returns-3 c =
     let a = c .before .before .before .before .before .before .before .before .before .before .before .before .before .before .before .before .args in
-    (token-from (elevenAt (a .table .now) (a .at)) (c .before .before .before .before .before .before .before .before .before .before .before .before .if1 .left) (from-node (elevenAt (a .table .now) (a .at)) 0 (omega arith) (first (a .table .now) (a .at)) (c .before .before .before .before .before .before .before .before .before .ask .ensures) (not-false _ (c .before .before .before .before .if2 .left)) refl (c .before .before .copy-value2 .ensures .0)), c .before .before .copy-value2 .ensures .1)
+    (token-from (elevenAt (a .table .now) (a .at)) (c .before .before .before .before .before .before .before .before .before .before .before .before .if1 .left) (from-node (elevenAt (a .table .now) (a .at)) 0 (omega arith) (first (a .table .now) (a .at)) (ask-copies (c .before .before .before .before .before .before .before .before .before .before .before .before .before .shared-slice-known2 .given _ .fits) (c .before .before .before .before .before .before .before .before .before .ask .ensures)) (not-false _ (c .before .before .before .before .if2 .left)) refl (c .before .before .copy-value2 .ensures .0)), c .before .before .copy-value2 .ensures .1)
 
 pub copy-token-spec : {M : Type 1} → statement M
 copy-token-spec =

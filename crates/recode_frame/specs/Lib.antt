@@ -1,0 +1,10 @@
+pub mod RecodeFrame
+pub mod SplitLaws
+pub mod HeaderCopies
+pub mod ModeCopies
+pub mod TreeLaws
+pub mod FirstLaws
+pub mod MovedLaws
+pub mod AgainLaws
+pub mod FrameLaws
+pub mod RecodeFrameLaws
