@@ -15,7 +15,7 @@ static const char help[] =
     "  hookbarley info [--json] IN..              show size, partitions, quantizer, segments, filter, answer and modes\n"
     "  hookbarley fits [--json] IN..              check the cockpit profile; name the first rule that fails\n"
     "  hookbarley wrap IN OUT.webp                write a WebP file around a key frame\n"
-    "  hookbarley recode IN OUT                   write IN again with one token partition a frame: the same pictures\n"
+    "  hookbarley recode IN OUT                   rewrite IN with one token partition per frame; the pictures stay the same\n"
     "  hookbarley explain IN X Y                  tell why the loop filter changed this pixel or not, edge by edge\n"
     "  hookbarley explain IN OUT                  colour luma by the rule that changed each sample; OUT.ppm or OUT.svg\n"
     "  hookbarley page IN OUT.html                write a page for a browser: point at a pixel and read what explain tells\n"

@@ -302,13 +302,13 @@ uint32_t hookbarley_recode(const uint8_t *bytes, size_t bytes_len,
                            size_t *result, size_t result_len);
 
 /* Writes a key frame again with a single token partition: the coded header with the partition count 0 and the modes, encoded anew, then the
- * tokens in raster order, all symbols with the probabilities that they were read with (RFC 6386, sections 7.3, 9.5 and 19.2). The tag has
+ * tokens in raster order, each symbol with the probability that it was read with (RFC 6386, sections 7.3, 9.5 and 19.2). The tag has
  * the new first partition's size; start code, width and height are copied. The frame is written to the start of `out`, *written bytes long.
  * It shows the same picture, and recoding it writes the same bytes.
  *
- * It answers 12 to 14 as hookbarley_frame, 4 where a lent length is not what the frame's size asks, 6 and 7 as hookbarley_decode; then 18,
- * where the new first partition would pass 2^19-1 bytes, which is all that a tag can say; then 16, exactly if the frame is longer than the
- * room. After any other number than 0, `out` is unchanged and *written is 0. The bytes of `out` after the frame are unchanged.
+ * It answers 12 to 14 like hookbarley_frame, 4 if a lent length does not match the frame's size, 6 and 7 like hookbarley_decode; then 18
+ * if the new first partition would be longer than 2^19-1 bytes, the most that a tag can hold; then 16, exactly if the frame is longer than
+ * the room. After any other number than 0, `out` is unchanged and *written is 0. The bytes of `out` after the frame are unchanged.
  *
  * bytes            a key frame, from its tag to its end
  * y .. strengths   lent: as for hookbarley_decode of the frame's tile, which it leaves as that call does; unchanged after 4 and 12 to 14

@@ -5,7 +5,6 @@ use Prim.Native.Nat.{ℕ, zero, suc, _+_, _*_, _/_, _%_}
 use mathlib.Core.Bool.{true, false}
 use mathlib.Core.List.{List, [], _∷_, _++_}
 use lib.Dec.{leb}
-use lib.IntN.{ℤ}
 use lib.ListN.{length, getD, set, take, drop, replicate}
 use Rattle.header.specs.declared.frame.Announced.{Announced}
 use Rattle.header.specs.Frame.{announcedOf}
@@ -15,7 +14,7 @@ use Rattle.choices.specs.Checks.{Call, callOf}
 use Rattle.picture.specs.Picture.{pictureOf}
 use Rattle.choices.specs.Answer.{numberOf}
 use Rattle.reader.specs.declared.boolean.Reader.{Reader}
-use Rattle.reader.specs.Boolean.{Given, given, missing, firstReader, noReader}
+use Rattle.reader.specs.Boolean.{given, missing, firstReader, noReader}
 use Rattle.reader.specs.Reading.{Reading, done, _>>=_, run}
 use Rattle.reader.specs.Trace.{CodedSymbol, trace}
 use Rattle.tile.specs.Checks.{blocksOf}
@@ -24,7 +23,6 @@ use Rattle.recode.specs.Recode.{firstOf, onePartition}
 use Rattle.frame.specs.declared.fields.Segments.{Segments}
 use Rattle.frame.specs.declared.fields.Filter.{Filter}
 use Rattle.frame.specs.declared.fields.QuantIndices.{QuantIndices}
-use Rattle.frame.specs.declared.fields.Header.{Header}
 use Rattle.frame.specs.Header.{literal, when, segments, filter, quantizers, probs}
 use Rattle.frame.specs.Tag.{tagOf}
 use Rattle.frame.specs.Take.{takenOf}
@@ -37,7 +35,7 @@ pub record BeforeCount : Type 0 where
   pub segments : Segments
   pub filter : Filter
 
--- what stands before log2_nbr_of_dct_partitions
+-- what stands before log2_nbr_of_dct_partitions (19.2, 6809-6818)
 unfoldable pub beforeCount : Reading BeforeCount
 beforeCount = do
   colour ← literal 1
@@ -54,7 +52,7 @@ pub record AfterCount : Type 0 where
   pub skip : ℕ
   pub chance : ℕ
 
--- what stands behind it
+-- what stands behind it: quant_indices() to prob_skip_false (19.2, 6820-6822 and 6851-6854)
 unfoldable pub afterCount : Reading AfterCount
 afterCount = do
   quantizers ← quantizers
@@ -69,11 +67,11 @@ afterCount = do
 unfoldable pub readerAfter : {A : Type 0} → Reading A → List ℕ → Reader → Reader
 readerAfter m s r = elim (run m s r) [ given a q ↦ q | missing ↦ noReader ]
 
--- the count's two bits, 0: one partition (section 9.5, 1995-2005)
+-- log2_nbr_of_dct_partitions, two bits of probability 128, both 0: one partition (19.2, 6819; 9.5, 1991-2000)
 abbrev pub noCount : List CodedSymbol
 noCount = record { prob = 128; bit = false } ∷ record { prob = 128; bit = false } ∷ []
 
--- those of the coded header, with the count 0
+-- those of the coded header (19.2, 6806-6854), with the count 0
 unfoldable pub headerSymbols : List ℕ → List CodedSymbol
 headerSymbols s =
     let r = readerAfter beforeCount s (firstReader s) in
@@ -84,7 +82,7 @@ abbrev pub leftOf : ℕ → List ℕ → List ℕ
 leftOf zero left = replicate 4 0
 leftOf (suc column) left = left
 
--- the modes of n macroblocks from number k on, in raster order, `wide` in a row (section 19.3); `tops` has the lowest modes above each column,
+-- the modes of n macroblocks from number k on, in raster order, `wide` in a row (section 19.3, 7239-7272); `tops` has the lowest modes above each column,
 -- `left` the rightmost of the macroblock before
 unfoldable pub modesFrom : Announced → (wide n k : ℕ) → List (List ℕ) → List ℕ → Reading (Unit {0})
 modesFrom a wide zero k tops left = done tt
@@ -109,7 +107,8 @@ newFirst c = encodeOf (headerSymbols (firstOf c) ++ trace (allModes c) (firstOf 
 abbrev pub threeBytes : ℕ → List ℕ
 threeBytes n = n % 256 ∷ n / 256 % 256 ∷ n / 65536 % 256 ∷ []
 
--- the ten bytes before the first partition, n bytes long: the tag's lowest five bits stay, its size is new; start code and sizes (9.1)
+-- the ten bytes before the first partition, n bytes long: the tag's lowest five bits stay, its 19-bit size is new (9.1, 1666-1691); then start
+-- code and sizes (9.1, 1719-1729)
 abbrev pub newHead : List ℕ → ℕ → List ℕ
 newHead b n = threeBytes (tagOf b % 32 + 32 * n) ++ take 7 (drop 3 b)
 
@@ -139,7 +138,7 @@ noFrame n = record { number = n; len = 0 }
 abbrev pub frameRefused : ℕ → Memory → List ℕ → FrameEnded
 frameRefused n mem out = frameEnded (noFrame n) mem out
 
--- 18 where the tag cannot tell the first partition's size, 19 bits; 16 where the frame exceeds the room; else the frame at its start
+-- 18 where the tag cannot tell the first partition's size (9.1, 1690-1691: 19 bits); 16 where the frame exceeds the room; else the frame at its start
 unfoldable pub frameInto : List ℕ → Memory → Memory → List ℕ → FrameEnded
 frameInto b m mem out =
     elim (leb (length (newFirst (takenCall b))) 524287) [

@@ -7,7 +7,7 @@ use mathlib.Core.List.{List, [], _∷_, _++_, append-nil, append-assoc}
 use mathlib.Core.Logic.{⊎-elim}
 use lib.Dec.{lit<}
 use lib.IntN.{ℤ}
-use lib.ListN.{length, getD, set, take, drop, replicate, length-append, length-take, length-drop, drop-of-length-le}
+use lib.ListN.{length, getD, set, take, drop, length-append, length-take, length-drop, drop-of-length-le}
 use lib.Seq.{take-all, take-append-seam, drop-append-seam, drop-append-le, drop-drop, length-take-le}
 use borrow.Author.Tests.{le-leb, lt-leb}
 use Rattle.numbers.specs.Tests.{lt-or}
@@ -21,7 +21,6 @@ use Rattle.tile.specs.Partitions.{contentsOf}
 use Rattle.choices.specs.Checks.{Call, callOf}
 use Rattle.choices.specs.Answer.{numberOf}
 use Rattle.picture.specs.Picture.{pictureOf}
-use Rattle.writer.specs.Encoder.{encodeOf}
 use Rattle.recode.specs.declared.tokens.TokensRecoded.{TokensRecoded}
 use Rattle.recode.specs.Recode.{firstOf, onePartition, TokensEnded, tokensEnded, tokensOf}
 use Rattle.recode.specs.PassLaws.{picture-whole, picture-below, partition-most, TokensAt, refused, full, there, tokens-at}
