@@ -10,7 +10,9 @@ use crate::table::BMODE;
 use reader::boolean::Reader;
 use reader::boolean::valid;
 ghost use mathlib.Core.Path.{_≡_};
+ghost use mathlib.Core.Bool.{true};
 ghost use Prim.Native.Nat.{_<_, _≤_, _+_, _*_};
+ghost use Rattle.numbers.specs.Tables.{inRows, flat};
 ghost use Rattle.reader.specs.BooleanLaws.{Valid};
 ghost use Rattle.modes.specs.Modes.{Modes, blockMode, modeAbove, modeLeft, zeros, smallModes};
 ghost use Rattle.modes.specs.Answers.{toMode, toSixteen, contextsOf, blockAnswer, smallAnswer};
@@ -47,11 +49,18 @@ pub(crate) fn place(top: u8, left: u8) -> usize
     (top as usize * 10 + left as usize) * 9
 }
 
+// The rows by themselves, so that the loop over them is proved without their numbers.
+fn table_rows() -> [[u8; 9]; 100]
+    ensures { λ r. ⌜ (inRows 9 r ≡ true) × (flat r ≡ renumberedTable) ⌝ }
+{
+    BMODE
+}
+
 // The table as a value: it is made once for a macroblock, since a constant is written out wherever it is used.
 pub fn all_probabilities() -> [u8; 900]
     ensures { λ r. ⌜ r ≡ renumberedTable ⌝ }
 {
-    let rows = BMODE;
+    let rows = table_rows();
     let mut all = [0u8; 900];
     let mut i = 0;
     while i < 900 {

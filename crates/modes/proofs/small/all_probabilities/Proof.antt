@@ -1,11 +1,10 @@
--- `all_probabilities` meets its contract: in `returns` the first `refl` is the test of the code's whole table.
 use Prim.Native.Nat.{_-_}
 use native.Mathlib.Omega.{arith}
 use mathlib.Core.Path.{refl, _∙_}
+use borrow.Author.Needs.{needs}
 use lib.Dec.{lit<}
 use Rattle.numbers.specs.Tables.{Laid, laid-none, laid-next, laid-all}
-use Rattle.modes.specs.Table.{rfcTable}
-use Rattle.modes.specs.TableLaws.{table-is}
+use Rattle.modes.specs.TableLaws.{table-long}
 use Rattle.modes.proofs.small.all_probabilities.Statement.{statement}
 use Rattle.modes.proofs.small.all_probabilities.Tie as tie
 
@@ -16,7 +15,7 @@ abbrev μ-loop : tie.MeasureT-loop
 μ-loop rows all₀ i₀ all i = 900 - i
 
 loop-holds : tie.Need-loop-holds Inv-loop μ-loop
-loop-holds c = laid-none 9 _ 900 _ (lit< tt) refl refl refl
+loop-holds c = laid-none 9 _ 900 _ (lit< tt) (c .table-rows .ensures .0) (table-long (c .table-rows .ensures .1)) refl
 
 mul-all : tie.Need-mul-all Inv-loop μ-loop
 mul-all c = omega arith
@@ -40,8 +39,7 @@ loop-again : tie.Need-loop-again Inv-loop μ-loop
 loop-again c = laid-next (c .before .before .loop .inv) (c .before .loop-test .taken)
 
 returns : tie.Need-returns Inv-loop μ-loop
-unfolding rfcTable
-returns c = laid-all (c .before .loop .inv) (c .loop-test .left) ∙ table-is _ refl refl
+returns c = laid-all (c .before .loop .inv) (c .loop-test .left) ∙ c .before .before .table-rows .ensures .1
 
 pub all-probabilities-spec : {M : Type 1} → statement M
 all-probabilities-spec =
@@ -49,6 +47,7 @@ all-probabilities-spec =
     (tie.spec
     Inv-loop
     μ-loop
+    (λ c κs. search needs)
     loop-holds
     mul-all
     index-1-all

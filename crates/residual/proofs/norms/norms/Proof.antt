@@ -1,11 +1,11 @@
-use Prim.Native.Nat.{_-_}
+use Prim.Native.Nat.{ℕ, _-_}
 use native.Mathlib.Omega.{arith}
-use mathlib.Core.Path.{refl}
-use lib.Count.{leadingZeros}
+use mathlib.Core.Path.{refl, _∙_, ap}
+use borrow.Author.Needs.{needs}
 use lib.Dec.{lit<}
-use Rattle.numbers.specs.Lists.{build}
+use lib.ListN.{length}
+use Rattle.numbers.specs.Lists.{length-build}
 use Rattle.numbers.specs.Tables.{Laid, laid-none, laid-next, laid-all}
-use Rattle.wide.specs.Wide.{doublingsOf}
 use Rattle.residual.specs.Symbols.{normsOf}
 use Rattle.residual.proofs.norms.norms.Statement.{statement}
 use Rattle.residual.proofs.norms.norms.Tie as tie
@@ -17,7 +17,8 @@ abbrev μ-loop : tie.MeasureT-loop
 μ-loop rows all₀ i₀ all i = 510 - i
 
 loop-holds : tie.Need-loop-holds Inv-loop μ-loop
-loop-holds c = laid-none 10 _ 510 _ (lit< tt) refl refl refl
+unfolding normsOf
+loop-holds c = laid-none 10 _ 510 _ (lit< tt) (c .norm-rows .ensures .0) (ap length (c .norm-rows .ensures .1) ∙ length-build {A = ℕ} 510 _) refl
 
 mul-all : tie.Need-mul-all Inv-loop μ-loop
 mul-all c = omega arith
@@ -41,8 +42,7 @@ loop-again : tie.Need-loop-again Inv-loop μ-loop
 loop-again c = laid-next (c .before .before .loop .inv) (c .before .loop-test .taken)
 
 returns : tie.Need-returns Inv-loop μ-loop
-unfolding normsOf build doublingsOf leadingZeros
-returns c = laid-all (c .before .loop .inv) (c .loop-test .left)
+returns c = laid-all (c .before .loop .inv) (c .loop-test .left) ∙ c .before .before .norm-rows .ensures .1
 
 pub norms-spec : {M : Type 1} → statement M
 norms-spec =
@@ -50,6 +50,7 @@ norms-spec =
     (tie.spec
     Inv-loop
     μ-loop
+    (λ c κs. search needs)
     loop-holds
     mul-all
     index-1-all
