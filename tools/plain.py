@@ -5,6 +5,7 @@ In the sources (crates/*/src):
 - no block comment, and in a library no text in quotes but that of `extern "C"`;
 - no lifetime, so that what is lent stands in a function's arguments as `&mut`;
 - `ghost` stands in `ghost use` lines alone: no ghost value, and no ghost field, which would be a `requires` that nobody sees;
+- a contract names definitions: no `ghost use` line brings anything from a file of laws;
 - a crate is a library or a program; each file is in a module; and what another crate can call is in a public one: no `pub fn` anywhere else;
 - what C can call is `#[no_mangle] pub extern "C" fn hookbarley_..` in crate hookbarley, and nothing else is marked.
 In the sources and in the specs (crates/*/specs):
@@ -57,6 +58,11 @@ def lifetimes(_, text):
 def ghosts(_, text):
     for m in re.finditer(r"\bghost\b(?! use )|(?<!^)\bghost\b", text, re.M):
         yield f"{line_of(text, m.start())}: ghost, and not a `ghost use` line"
+
+
+def laws(_, text):
+    for m in re.finditer(r"ghost use (Rattle·[^;]*Laws)\.", text):
+        yield f"{line_of(text, m.start())}: a contract names what stands in a file of laws, {m.group(1)}"
 
 
 def exported(file, text):
@@ -154,7 +160,7 @@ def main():
     except Fault as fault:
         faults = [str(fault)]
     everywhere = [antt_comments, brought, whole_paths]
-    for files, looks in ((SOURCES, [block_comments, quoted, lifetimes, ghosts, exported, *everywhere]), (SPECS, [hidden, below, *everywhere])):
+    for files, looks in ((SOURCES, [block_comments, quoted, lifetimes, ghosts, laws, exported, *everywhere]), (SPECS, [hidden, below, *everywhere])):
         for file in files:
             raw = file.read_text()
             text = blanked(raw) if file.suffix == ".rt" else raw

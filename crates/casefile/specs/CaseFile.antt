@@ -1,6 +1,6 @@
 -- The layout of a case file, big-endian: version (1 byte); length of the rest (4); width, height (2 each); count (1); 1096 header
 -- entries (2 each, signed); the lengths of the first partition and of `count` token partitions (4 each); their bytes.
-use Prim.Native.Nat.{ℕ, zero, suc, _+_, _*_}
+use Prim.Native.Nat.{ℕ, zero, suc, _+_, _*_, _≤_}
 use mathlib.Core.Bool.{Bool, true, false, _&&_}
 use mathlib.Core.List.{List}
 use lib.Dec.{leb, ltb, eqb}
@@ -100,3 +100,10 @@ caseTile s = record {
 -- the bytes, the tile and the header: the picture call's arguments
 abbrev pub givenOf : List ℕ → Call
 givenOf s = callOf s (caseTile s) (caseHeader s)
+
+-- a file long enough for its own counts, of at most 64 by 64 samples
+pub record Formed (s : List ℕ) : Type 0 where
+  pub long : 2206 ≤ length s
+  pub width : caseWidth s ≤ 64
+  pub height : caseHeight s ≤ 64
+  pub room : 2206 + 4 * caseCount s ≤ length s

@@ -21,12 +21,7 @@ use Rattle.tile.specs.declared.Span.{Span}
 use Rattle.tile.specs.declared.Tile.{Tile}
 use Rattle.tile.specs.Partitions.{contentsOf, noSpan}
 use Rattle.casefile.specs.CaseFile.{halfAt, wordAt, caseSigned, caseWidth, caseHeight, caseCount, caseVersion, restOf, entryAt, lengthAt, startAt, partitionAt, slotOf, caseSpans, caseWhole, wellFormed, caseTile}
-
-pub record Formed (s : List ℕ) : Type 0 where
-  pub long : 2206 ≤ length s
-  pub width : caseWidth s ≤ 64
-  pub height : caseHeight s ≤ 64
-  pub room : 2206 + 4 * caseCount s ≤ length s
+pub use Rattle.casefile.specs.CaseFile.{Formed}
 
 -- ---- where partitions start
 module _ (s : List ℕ) where

@@ -17,7 +17,7 @@ ghost use lib.ListN.{length, replicate};
 ghost use Rattle.lent.specs.Memory.{memoryOf};
 ghost use Rattle.picture.specs.Picture.{endedOf, pictureOf};
 ghost use Rattle.casefile.specs.CaseFile.{caseWidth, caseHeight, givenOf};
-ghost use Rattle.casefile.specs.CaseFileLaws.{Formed};
+ghost use Rattle.casefile.specs.CaseFile.{Formed};
 ghost use Rattle.casefile.specs.Run.{lentOf, sumAfter, reportOf, malformedRan, ranOf};
 
 pub struct Sums {

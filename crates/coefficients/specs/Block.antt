@@ -18,12 +18,13 @@ use Rattle.reader.specs.Reading.{Reading, done, symbol, run, _>>=_}
 use Rattle.reader.specs.Token.{token, elevenAt}
 use Rattle.reader.specs.Trace.{count}
 use Rattle.reader.specs.declared.extra.Number.the-variants as N
+use Rattle.numbers.specs.declared.Checked.the-variants as H
+use Rattle.numbers.specs.In.{In}
 use Rattle.coefficients.specs.declared.block.Block.{Block}
 use Rattle.coefficients.specs.declared.block.Block.the-variants as B
 pub use Rattle.coefficients.specs.declared.block.Signed.{Signed}
 use Rattle.coefficients.specs.declared.block.Signed.the-variants as S
 pub use Rattle.coefficients.specs.declared.block.Table.{Table}
-use Rattle.numbers.specs.declared.Checked.the-variants as H
 
 -- ---- the number of a token (section 13.2, 3448-3494, DCTextra)
 -- the probabilities of a category's extra bits, Pcat1 to Pcat6 (3488-3494), and its least number
@@ -227,3 +228,7 @@ abbrev pub signedNumberOf : Signed → ℕ
 signedNumberOf (S.Value v r) = 0
 signedNumberOf S.Missing = 7
 signedNumberOf S.Refused = 9
+
+-- a number of 16 bits
+abbrev pub SixteenBits : ℤ → Type 0
+SixteenBits z = In (negsuc 32767) (pos 32767) z

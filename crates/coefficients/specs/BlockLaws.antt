@@ -37,6 +37,7 @@ use Rattle.coefficients.specs.declared.block.Block.{Block}
 use Rattle.coefficients.specs.declared.block.Block.the-variants as K
 use Rattle.coefficients.specs.declared.block.Signed.the-variants as G
 use Rattle.numbers.specs.declared.Checked.the-variants as H
+pub use Rattle.coefficients.specs.Block.{SixteenBits}
 
 -- ---- what each grammar gives, and how much it asks
 -- the categories' tables: bytes, few of them, and every number from 1 to 2114
@@ -68,9 +69,6 @@ magnitude-within t l h =
     (λ (k : t < 6). rw (lt-ltb t 6 k, magnitude) (ends {a = t - 1} (omega arith, omega arith)))
     (λ (k : 6 ≤ t). rw (le-ltb t 6 k, magnitude) (category-within _ _ (all-below (λ c. fineOf (getD bases c 0) (getD categories c [])) 6 categories-fine (t - 6) (omega arith))))
     (lt-or t 6)
-
-abbrev pub SixteenBits : ℤ → Type 0
-SixteenBits z = In (negsuc 32767) (pos 32767) z
 
 pub signed-within : (t q : ℕ) → 2 ≤ t → t ≤ 11 → Within SixteenBits 12 (signedValue t q)
 unfolding signedValue

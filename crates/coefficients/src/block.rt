@@ -22,7 +22,7 @@ ghost use lib.IntN.{pos, negsuc};
 ghost use Rattle.header.specs.Entries.{probabilityCount};
 ghost use Rattle.numbers.specs.In.{In};
 ghost use Rattle.numbers.specs.Wrap.{wrapZ};
-ghost use Rattle.reader.specs.BooleanLaws.{Valid};
+ghost use Rattle.reader.specs.Boolean.{Valid};
 ghost use Rattle.reader.specs.Reading.{run};
 ghost use Rattle.reader.specs.Extra.{toNumber};
 ghost use Rattle.reader.specs.Trace.{count};

@@ -1,10 +1,11 @@
 -- What all macroblocks of a picture share, from the header (RFC 6386, sections 9.3, 9.4, 9.6, 9.11, 10 and 14.1: the files of each have the lines).
-use Prim.Native.Nat.{ℕ, _+_}
+use Prim.Native.Nat.{ℕ, _+_, _<_}
 use mathlib.Core.Bool.{Bool, true, false}
 use mathlib.Core.List.{List, [], _∷_}
 use lib.IntN.{ℤ}
 use lib.ListN.{getD, replicate}
 use Rattle.numbers.specs.Clamp.{upTo}
+use Rattle.numbers.specs.declared.Checked.the-variants as T
 use Rattle.header.specs.Entries.{mapOn, mapProbability, sharpness, skipsOn, skipProbability}
 use Rattle.header.specs.Header.{entry, presentAt, probabilityAt, headerOf}
 use Rattle.header.specs.Quantizers.{Factors, factorsOf, noFactors}
@@ -12,7 +13,6 @@ use Rattle.header.specs.Levels.{levelOf}
 pub use Rattle.header.specs.declared.frame.Announced.{Announced}
 pub use Rattle.header.specs.declared.frame.Frame.{Frame}
 pub use Rattle.header.specs.declared.frame.Framed.{Framed}
-use Rattle.numbers.specs.declared.Checked.the-variants as T
 
 -- the filter levels of the four segments, for small modes or large
 abbrev pub levelsOf : List ℤ → Bool → List ℕ
@@ -67,3 +67,8 @@ framedOf h =
       | true ↦ record { answer = T.Done; frame = frameOf h }
       | false ↦ record { answer = T.Refused; frame = noFrame }
     ]
+
+-- probabilities are bytes
+pub record Probabilities (a : Announced) : Type 0 where
+  pub map : (i : ℕ) → getD (a .«map_probabilities») i 0 < 256
+  pub skip : a .«skip_probability» < 256

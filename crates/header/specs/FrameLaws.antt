@@ -15,6 +15,7 @@ use Rattle.header.specs.Levels.{levelOf}
 use Rattle.header.specs.LevelsLaws.{level-in}
 use Rattle.numbers.specs.declared.Checked.the-variants as T
 use Rattle.header.specs.Frame.{Announced, Frame, levelsOf, announcedOf, noAnnounced, frameOf, noFrame, factorsAt, levelAt, framedOf}
+pub use Rattle.header.specs.Frame.{Probabilities}
 
 -- ---- the parts together
 pub no-frame : {a b c d : Factors} {n : Announced} → a ≡ noFactors → b ≡ noFactors → c ≡ noFactors → d ≡ noFactors → n ≡ noAnnounced
@@ -36,10 +37,6 @@ unfolding frameOf
 frame-is h e₁ e₂ e₃ e₄ e₅ e₆ e₇ e₈ = rw (e₁, e₂, e₃, e₄, e₅, e₆, e₇, e₈)
 
 -- ---- a frame in range: probabilities are bytes, levels are at most 63
-pub record Probabilities (a : Announced) : Type 0 where
-  pub map : (i : ℕ) → getD (a .«map_probabilities») i 0 < 256
-  pub skip : a .«skip_probability» < 256
-
 pub record Sound (f : Frame) : Type 0 where
   pub levels : (small : Bool) (i : ℕ) → levelAt f small i ≤ 63
   pub announced : Probabilities (f .announced)

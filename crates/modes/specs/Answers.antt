@@ -1,10 +1,11 @@
 -- What the calls answer: the grammars run over a reader, with the checks of the arguments; and the answers' numbers.
-use Prim.Native.Nat.{ℕ}
+use Prim.Native.Nat.{ℕ, _<_}
 use mathlib.Core.List.{List}
 use mathlib.Core.Bool.{Bool, true, false, _&&_}
-use lib.ListN.{length}
+use lib.ListN.{length, getD, replicate}
 use lib.IntN.{ℤ}
 use lib.Dec.{ltb, eqb}
+use mathlib.Core.Path.{_≡_}
 use Rattle.numbers.specs.Tables.{allOf}
 use Rattle.header.specs.Entries.{entryCount}
 use Rattle.header.specs.declared.frame.Announced.{Announced}
@@ -12,6 +13,7 @@ use Rattle.header.specs.Frame.{announcedOf}
 use Rattle.reader.specs.declared.boolean.Reader.{Reader}
 use Rattle.reader.specs.Boolean.{Given, given, missing, validOf}
 use Rattle.reader.specs.Reading.{run}
+use Rattle.reader.specs.TreesLaws.{leavesReached}
 pub use Rattle.modes.specs.declared.answers.Kinds.{Kinds}
 use Rattle.modes.specs.declared.answers.Mode.{Mode}
 use Rattle.modes.specs.declared.answers.Headed.{Headed}
@@ -19,7 +21,7 @@ use Rattle.modes.specs.declared.answers.Next.{Next}
 use Rattle.modes.specs.declared.answers.Stage.{Stage}
 use Rattle.modes.specs.declared.answers.Sixteen.{Sixteen}
 use Rattle.modes.specs.declared.answers.Staged.{Staged}
-use Rattle.modes.specs.Modes.{Prefix, prefix, largeMode, blockMode, smallModes, Macroblock, modesOf}
+use Rattle.modes.specs.Modes.{Prefix, prefix, largeMode, blockMode, smallModes, Macroblock, modesOf, Modes}
 use Rattle.modes.specs.declared.answers.Mode.the-variants as M
 use Rattle.modes.specs.declared.answers.Headed.the-variants as H
 use Rattle.modes.specs.declared.answers.Next.the-variants as N
@@ -113,3 +115,19 @@ abbrev pub stageNumberOf : Stage → ℕ
 stageNumberOf (S.Read k r) = 0
 stageNumberOf S.Missing = 6
 stageNumberOf S.Refused = 9
+
+-- every leaf fits a byte
+unfoldable pub byteLeaves : List ℤ → Bool
+byteLeaves t = leavesReached 32 (λ v. ltb v 256) t 0
+
+-- sixteen modes; where they are not small, one large mode for all
+pub record Luma (small : Bool) (l : List ℕ) : Type 0 where
+  pub sixteen : length l ≡ 16
+  pub each : Modes l
+  pub large : small ≡ false → (l ≡ replicate 16 (getD l 0 0)) × (getD l 0 0 < 4)
+
+-- a macroblock with every value in range
+pub record InRange (m : Macroblock) : Type 0 where
+  pub segment : m .segment < 4
+  pub luma : Luma (m .small) (m .modes)
+  pub chroma : m .chroma < 4

@@ -21,6 +21,8 @@ use Rattle.modes.specs.Table.{probabilities}
 use Rattle.modes.specs.TableLaws.{probabilities-bytes}
 use Rattle.modes.specs.Modes.{Prefix, Modes, segTree, yTree, uvTree, bTree, tree, optional, segment, skip, prefix, largeMode, blockMode, modeAbove, modeLeft, smallFrom, zeros, smallModes, luma, Macroblock, modesOf, bottomOf, rightOf}
 use Rattle.modes.specs.Answers.{eachBelow, contextsOf}
+unfoldable pub use Rattle.modes.specs.Answers.{byteLeaves}
+pub use Rattle.modes.specs.Answers.{Luma, InRange}
 
 pub each-fact : (m : ℕ) (l : List ℕ) → 0 < m → eachBelow m l ≡ true → (j : ℕ) → getD l j 0 < m
 each-fact m l h e j = ltb-true (getD l j 0) m (all-of-any (λ x. ltb x m) l 0 (lt-ltb 0 m h) e j)
@@ -50,10 +52,6 @@ pub left-fact : (above left : List ℕ) → contextsOf above left ≡ true → M
 left-fact above left e = modes-fact left (both-right (eachBelow 10 above) _ e)
 
 -- ---- trees: all may be walked with enough probabilities, and every path ends in time at a mode
--- every leaf fits a byte
-unfoldable pub byteLeaves : List ℤ → Bool
-byteLeaves t = leavesReached 32 (λ v. ltb v 256) t 0
-
 -- of a constant tree `refl` answers the test
 pub byte-leaves : (t : List ℤ) → leavesReached 32 (λ v. ltb v 256) t 0 ≡ true → byteLeaves t ≡ true
 unfolding byteLeaves
@@ -125,12 +123,6 @@ set-modes l i v h m = set-keeps (λ x. x < 10) l i v 0 h m
 pub zeros-modes : Modes zeros
 zeros-modes = each-fact 10 zeros (lit< tt) refl
 
--- sixteen modes; where they are not small, one large mode for all
-pub record Luma (small : Bool) (l : List ℕ) : Type 0 where
-  pub sixteen : length l ≡ 16
-  pub each : Modes l
-  pub large : small ≡ false → (l ≡ replicate 16 (getD l 0 0)) × (getD l 0 0 < 4)
-
 small-within : (n i : ℕ) (above left modes : List ℕ) → length modes ≡ 16 → Modes modes → Within (Luma true) (n * 7) (smallFrom n i above left modes)
 unfolding smallFrom
 small-within zero i above left modes e m = ends (record { sixteen = e; each = m; large = λ f. absurd (never refl f) })
@@ -148,11 +140,6 @@ luma-within false above left =
     (within-bind {k = 0} (large-within false) (λ m h. ends (record { sixteen = refl; each = each-fact 10 (replicate 16 m) (lit< tt) (rw (lt-ltb m 10 (omega arith))); large = λ f. (refl, h) })))
 
 -- ---- a macroblock: every value in range, and at most 119 symbols
-pub record InRange (m : Macroblock) : Type 0 where
-  pub segment : m .segment < 4
-  pub luma : Luma (m .small) (m .modes)
-  pub chroma : m .chroma < 4
-
 pub modes-within : (a : Announced) → Probabilities a → (above left : List ℕ) → Within InRange 119 (modesOf a above left)
 unfolding modesOf
 modes-within a y above left =

@@ -14,7 +14,7 @@ ghost use mathlib.Core.Bool.{true, false};
 ghost use mathlib.Core.List.{List};
 ghost use Prim.Native.Nat.{ℕ, _<_};
 ghost use lib.ListN.{length};
-ghost use Rattle.reader.specs.BooleanLaws.{Bytes};
+ghost use Rattle.numbers.specs.Lists.{Bytes};
 ghost use Rattle.reader.specs.Trees.{walk};
 ghost use Rattle.wide.specs.WideRuns.{WideReads};
 ghost use Rattle.modes.specs.Modes.{Modes, bTree, tree, segment, skip, prefix, largeMode, blockMode, smallModes, luma, modesOf};

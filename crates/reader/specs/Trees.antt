@@ -14,6 +14,7 @@ use Rattle.reader.specs.declared.trees.Step.{Step}
 use Rattle.reader.specs.declared.trees.Step.the-variants as S
 use Rattle.reader.specs.Boolean.{Reader, Given, given, missing, validOf}
 use Rattle.reader.specs.Reading.{Reading, done, symbol, run, _>>=_}
+use Rattle.reader.specs.declared.trees.Branch.the-variants as B
 
 -- an entry: positive names a node, zero or less a leaf
 abbrev pub node : ℕ → ℤ
@@ -118,3 +119,13 @@ pub record Tree (ps : List ℕ) (t : List ℤ) : Type 0 where
   pub size : length t ≡ nodesOf t + nodesOf t
   pub probs : nodesOf t ≤ length ps
   pub leads : (i : ℕ) (b : Bool) → i < nodesOf t → Leads (nodesOf t) i (branchAt t i b)
+
+-- a branch whose leaf passes the test q, or whose node passes the other
+abbrev pub passes : (ℕ → Bool) → (ℕ → Bool) → Branch → Bool
+passes q on (B.Leaf v) = q v
+passes q on (B.Node j) = on j
+
+-- every path from node i ends within d symbols, at a leaf that passes the test q
+abbrev pub leavesReached : ℕ → (ℕ → Bool) → List ℤ → ℕ → Bool
+leavesReached zero q t i = false
+leavesReached (suc d) q t i = passes q (leavesReached d q t) (branchAt t i true) && passes q (leavesReached d q t) (branchAt t i false)

@@ -21,6 +21,7 @@ use Rattle.reader.specs.BooleanLaws.{Bytes, Valid, valid-test}
 use Rattle.reader.specs.Reading.{done, ask, symbol, run, Within, ends, asks}
 use Rattle.reader.specs.ReadingLaws.{run-done, run-then, run-stops, within-weaken}
 use Rattle.reader.specs.Trees.{Walked, Branch, branchOf, atOf, branchAt, nodesOf, step, follow, walk, leadsOf, treeEntries, treeOf, toStep, toWalked, treeStepOf, walkOf, walkAnswer, Leads, Tree}
+pub use Rattle.reader.specs.Trees.{passes, leavesReached}
 
 -- ---- a walk of a known tree, one node at a time: an `if` chain over `symbol` equals the walk by these three. In a constant
 -- tree the equation of a branch is `refl`.
@@ -217,15 +218,6 @@ tree-fixed ps t start h e =
     sym
     (tree-all ps t start (nodesOf t + nodesOf t) (ltb-true _ _ (both-left _ _ e)) size h (ltb-true _ _ (both-left _ _ e2)) refl
     (entries-all (nodesOf t) t (nodesOf t + nodesOf t) (λ k l. each k (omega arith))))
-
--- every path from node i ends within d symbols, at a leaf that passes the test q
-abbrev pub passes : (ℕ → Bool) → (ℕ → Bool) → Branch → Bool
-passes q on (B.Leaf v) = q v
-passes q on (B.Node j) = on j
-
-abbrev pub leavesReached : ℕ → (ℕ → Bool) → List ℤ → ℕ → Bool
-leavesReached zero q t i = false
-leavesReached (suc d) q t i = passes q (leavesReached d q t) (branchAt t i true) && passes q (leavesReached d q t) (branchAt t i false)
 
 pub reach-within : (d n : ℕ) (q : ℕ → Bool) (ps : List ℕ) (t : List ℤ) (i : ℕ) → d ≤ n → Bytes ps → leavesReached d q t i ≡ true → Within (λ v. q v ≡ true) d (walk n ps t i)
 unfolding walk step

@@ -6,7 +6,7 @@ ghost use lib.Dec.{eqb, leb};
 ghost use lib.ListN.{length, getD};
 ghost use Rattle.reader.specs.Boolean.{given, splitOf, chosenOf, grow, decidedOf, symbolOf, toSymbol, validOf, symbolAnswer};
 ghost use Rattle.reader.specs.Boolean.{firstReader};
-ghost use Rattle.reader.specs.BooleanLaws.{From, Valid};
+ghost use Rattle.reader.specs.Boolean.{From, Valid};
 
 // The RFC's bool_decoder: `at` its input, `range`, `shifts` its bit_count, `window` its value.
 pub struct Reader {

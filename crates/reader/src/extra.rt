@@ -6,7 +6,7 @@ use crate::boolean::valid;
 ghost use mathlib.Core.Path.{_≡_};
 ghost use Prim.Native.Nat.{_<_, _≤_, _+_};
 ghost use lib.ListN.{length};
-ghost use Rattle.reader.specs.BooleanLaws.{Valid};
+ghost use Rattle.reader.specs.Boolean.{Valid};
 ghost use Rattle.numbers.specs.Flags.{bitOf};
 ghost use Rattle.reader.specs.Extra.{extra, extraOf, extraAnswer};
 ghost use Rattle.reader.specs.Trace.{count};

@@ -6,7 +6,7 @@ ghost use mathlib.Core.Path.{_≡_};
 ghost use Prim.Native.Nat.{_<_};
 ghost use lib.IntN.{pos};
 ghost use lib.ListN.{length, getD};
-ghost use Rattle.reader.specs.BooleanLaws.{Valid};
+ghost use Rattle.reader.specs.Boolean.{Valid};
 ghost use Rattle.reader.specs.Trees.{branchOf, atOf, nodesOf, treeStepOf, walk, walkOf, leadsOf, treeOf, walkAnswer, Tree};
 ghost use Rattle.reader.specs.Trace.{count};
 ghost use Rattle.reader.specs.Counts.{treeCount};

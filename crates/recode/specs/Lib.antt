@@ -6,4 +6,5 @@ pub mod TurnCopies
 pub mod Recode
 pub mod RecodeLaws
 pub mod WalkCopies
+pub mod Pass
 pub mod PassLaws

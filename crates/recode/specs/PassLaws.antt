@@ -45,6 +45,7 @@ use Rattle.recode.specs.declared.tokens.TokensRecoded.{TokensRecoded}
 use Rattle.recode.specs.Recode.{tokensFrom, tokensRead, onePartition, TokensEnded, tokensEnded, tokensInto, tokensOf, firstOf, recodedBytes, oneTile, recodedTile, recodedDone, recodedRefused, RecodeEnded, recodeEnded, recodedInto, recodeOf}
 use Rattle.recode.specs.RecodeLaws.{Sound, tokens-few, tokens-count, whole-not-refused}
 use Rattle.recode.specs.WalkCopies.{Walkable, Walked, WalkCopies, blocks-most}
+pub use Rattle.recode.specs.Pass.{Small, Passed, Passes, Measures, Writes}
 
 -- ---- a picture call answered 0
 -- its arguments passed the checks
@@ -105,22 +106,6 @@ dropped : (i : ℕ) (l : List ℕ) → length (drop i l) ≡ length l - i
 dropped i l = rw length-drop
 
 -- ---- a pass
-pub record Small (t : Tile) : Type 0 where
-  pub width : t .width ≤ 16384
-  pub height : t .height ≤ 16384
-  pub count : t .count ≤ 8
-
-pub record Passed (c : Call) (m end : Memory) (room : List ℕ) (n : ℕ) (after new : List ℕ) : Type 0 where
-  pub columns : after ≡ end .columns
-  pub long : n ≡ length (onePartition c m)
-  pub size : length new ≡ length room
-  pub same : length (onePartition c m) ≤ length room → new ≡ onePartition c m ++ drop (length (onePartition c m)) room
-
--- its contract, for a tile that is answered 0
-abbrev pub Passes : List ℕ → Tile → List ℤ → (columns room : List ℕ) → ℕ → (after new : List ℕ) → Type 0
-Passes bytes tile header columns room n after new =
-    (m : Memory) (M : ℕ) (end : Memory) → length (m .columns) ≡ length columns → pictureOf (callOf bytes tile header) m ≡ record { answer = D.Whole M; mem = end } → Passed (callOf bytes tile header) m end room n after new
-
 pub pass-done : (bytes : List ℕ) (tile : Tile) (header : List ℤ) (columns room : List ℕ) {cols after room1 new : List ℕ} {x : Table} {f : Framed} {w : Writer} {n : ℕ} → Bytes bytes
     → cols ≡ filled columns 0 → x ≡ tableOf header → f ≡ framedOf header → WalkCopies bytes tile (f .frame) (x .bytes) cols room w after room1 → endedOf n new ≡ flushAnswer w room1 → Passes bytes tile header columns room n after new
 unfolding encodeOf tokensRead
@@ -149,11 +134,6 @@ pass-done bytes tile header columns room {cols} {after} {room1} {new} {x} {f} {w
       same = λ h. z .same (subst (λ (k : List ℕ). length k ≤ length room) (sym s) h) ∙ (λ i. s i ++ drop (length (s i)) room);
     }
 
--- one that only counts
-abbrev pub Measures : List ℕ → Tile → List ℤ → (columns : List ℕ) → ℕ → (after : List ℕ) → Type 0
-Measures bytes tile header columns n after =
-    (m : Memory) (M : ℕ) (end : Memory) → length (m .columns) ≡ length columns → pictureOf (callOf bytes tile header) m ≡ record { answer = D.Whole M; mem = end } → (after ≡ end .columns) × (n ≡ length (onePartition (callOf bytes tile header) m))
-
 pub pass-measures : (bytes : List ℕ) (tile : Tile) (header : List ℤ) (columns room : List ℕ) {n : ℕ} {after new : List ℕ} → Passes bytes tile header columns room n after new → Measures bytes tile header columns n after
 pass-measures bytes tile header columns room p m M end l e = let z = p m M end l e in (z .columns, z .long)
 
@@ -178,12 +158,6 @@ partition-most c m y w =
     let few = tokens-few (sound-start c m e y) N 0 (begunOf c m) (live-start c m e y) (omega arith) in
     let long = encode-long (tokensFrom N P 0 (begunOf c m)) (few .bytes) in
     (omega (arith, long), omega (arith, write-few (tokensFrom N P 0 (begunOf c m)) (few .bytes), long))
-
--- what is written of a tile that is answered 0, of at most so many token symbols
-abbrev pub Writes : List ℕ → Tile → List ℤ → (most : ℕ) → (columns out : List ℕ) → TokensRecoded → (after new : List ℕ) → Type 0
-Writes bytes tile header most columns out q after new =
-    (m : Memory) (M : ℕ) (end : Memory) → length (m .columns) ≡ length columns → pictureOf (callOf bytes tile header) m ≡ record { answer = D.Whole M; mem = end } → length (tokensRead (callOf bytes tile header) m) ≤ most
-    → (after ≡ end .columns) × (tokensEnded q end new ≡ tokensInto (callOf bytes tile header) m end out)
 
 module _ (bytes : List ℕ) (tile : Tile) (header : List ℤ) (most : ℕ) (columns out : List ℕ) where
   pub writes-ample : Bytes bytes → most + 4 ≤ length out → {n : ℕ} {after new : List ℕ} → Passes bytes tile header columns out n after new → Writes bytes tile header most columns out (record { number = 0; len = n }) after new

@@ -13,7 +13,7 @@ ghost use lib.ListN.{length};
 ghost use Rattle.lent.specs.Memory.{memoryOf};
 ghost use Rattle.choices.specs.Checks.{callOf};
 ghost use Rattle.recode.specs.Recode.{tokensEnded, tokensOf};
-ghost use Rattle.recode.specs.PassLaws.{Small, Passes, Measures, Writes};
+ghost use Rattle.recode.specs.Pass.{Small, Passes, Measures, Writes};
 
 // 0 and how many bytes were written; or the number of a refusal, that of the picture call or 16 where the room is too small, and 0.
 pub struct TokensRecoded {

@@ -37,6 +37,7 @@ use Rattle.frame.specs.HeaderLaws.{header-within}
 use Rattle.recode_frame.specs.RecodeFrame.{beforeCount, afterCount, noCount, headerSymbols, modesFrom, noTops}
 use Rattle.recode_frame.specs.SplitLaws.{Cut, cut-apart, symbols-are, recounted}
 use Rattle.recode_frame.specs.HeaderCopies.{Copied, Swapped}
+pub use Rattle.recode_frame.specs.First.{cutSymbols, HeaderRecounted, Sized, tileModes, firstSymbols, FirstWritten, Rewrites}
 
 -- ---- the symbols are bytes, and few
 follows-bytes : {A : Type 0} {P : A → Type 0} {n : ℕ} {m : Reading A} {xs : List CodedSymbol} {a : A} → Within P n m → Follows m xs a → Each Byte xs
@@ -54,14 +55,6 @@ modes-few a p wide (suc n) k tops left =
     within-more (omega arith) (within-bind {n = 119} {k = n * 119} (modes-within a p _ _) (λ m h. modes-few a p wide n (k + 1) (set tops _ (bottomOf (m .modes))) (rightOf (m .modes))))
 
 -- ---- the header, with the count 0
-abbrev pub cutSymbols : {s : List ℕ} {r : Reader} {h : Header} {q : Reader} → Cut s r h q → List CodedSymbol
-cutSymbols {s} {r} c = trace beforeCount s r ++ (noCount ++ trace afterCount s (c .r2))
-
-abbrev pub HeaderRecounted : List ℕ → Pipe → List ℕ → Pipe → List ℕ → Type 0
-HeaderRecounted s p room q new =
-    (h : Header) (r r2 : Reader) (c : Cut s r h r2) (e : Encoder) (old : List ℕ) → Bytes s → length s < 9223372036854775808 → Sim s (p .reader) r → Valid s r → Ready 128 e → Kept e old (writtenOf (p .writer) room) → length (writeAll e (cutSymbols c) .out) < 9223372036854775808
-    → Gave nothing s h r2 (writeAll e (cutSymbols c)) old tt q new
-
 pub header-recounted : {s : List ℕ} {p q u v : Pipe} {room m1 m2 new : List ℕ} → Copied beforeCount s p room q m1 → Swapped (literal 2) noCount s q m1 u m2 → Copied afterCount s u m2 v new → HeaderRecounted s p room v new
 header-recounted {s} {v = v} {new = new} a b d h r r2 c e old bytes long sim valid ready kept small =
     let X : List CodedSymbol = trace beforeCount s r in
@@ -79,28 +72,6 @@ header-recounted {s} {v = v} {new = new} a b d h r r2 c e old bytes long sim val
     subst (λ (F : Encoder). Gave nothing s h r2 F old tt v new) (sym is) (record { value = refl; sim = z .sim; valid = z .valid; ready = z .ready; kept = z .kept })
 
 -- ---- the whole
-pub record Sized (t : Tile) : Type 0 where
-  pub wide : 16 ≤ t .width
-  pub width : t .width ≤ 16384
-  pub height : t .height ≤ 16384
-
--- the modes of a tile's macroblocks
-abbrev pub tileModes : Tile → List ℤ → Reading (Unit {0})
-tileModes t header = modesFrom (announcedOf header) (t .width / 16) (blocksOf (t .width) (t .height)) 0 noTops (replicate 4 0)
-
--- its symbols, with the count 0
-abbrev pub firstSymbols : List ℕ → Tile → List ℤ → List CodedSymbol
-firstSymbols s t header = headerSymbols s ++ trace (tileModes t header) s (t .reader)
-
-pub record FirstWritten (bytes room : List ℕ) (n : ℕ) (new : List ℕ) : Type 0 where
-  pub long : n ≡ length bytes
-  pub size : length new ≡ length room
-  pub same : length bytes ≤ length room → new ≡ bytes ++ drop (length bytes) room
-
--- the contract: where header and modes are there
-abbrev pub Rewrites : List ℕ → Tile → List ℤ → List ℕ → ℕ → List ℕ → Type 0
-Rewrites s t h room n new = (x : Header) (last : Reader) → run header s (firstReader s) ≡ given x (t .reader) → run (tileModes t h) s (t .reader) ≡ given tt last → FirstWritten (encodeOf (firstSymbols s t h)) room n new
-
 module _ (s : List ℕ) (t : Tile) (h : List ℤ) (y : Bytes s) (z : Sized t) {x : Header} (e : run header s (firstReader s) ≡ given x (t .reader)) where
   pub symbols-bytes : Each Byte (firstSymbols s t h)
   symbols-bytes = each-append (follows-bytes header-within (recounted (cut-apart s (firstReader s) e))) (trace-bytes s (t .reader) (modes-few (announcedOf h) (announced-bytes h) (t .width / 16) (blocksOf (t .width) (t .height)) 0 noTops (replicate 4 0)))

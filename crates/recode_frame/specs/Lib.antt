@@ -1,4 +1,5 @@
 pub mod RecodeFrame
+pub mod First
 pub mod SplitLaws
 pub mod HeaderCopies
 pub mod ModeCopies

@@ -35,13 +35,9 @@ use Rattle.recode_frame.specs.RecodeFrame.{allModes, newFirst, threeByte
 use Rattle.recode_frame.specs.FirstLaws.{Sized, FirstWritten, Rewrites}
 use Rattle.recode_frame.specs.MovedLaws.{call-modes}
 use Rattle.recode_frame.specs.FrameLaws.{head-long, whole-long}
+pub use Rattle.recode_frame.specs.First.{IsTaken, FirstRead, Measured, Lays, Placed, Numbered}
 
 -- ---- a frame that is taken
-pub record IsTaken (b : List ℕ) (t : Tile) (h : List ℤ) : Type 0 where
-  pub number : takenOf b .answer .number ≡ 0
-  pub tile : t ≡ takenOf b .answer .tile
-  pub header : h ≡ takenOf b .header
-
 pub is-taken : {b : List ℕ} {x : Taken} → x ≡ takenOf b → x .answer .number ≡ 0 → IsTaken b (x .answer .tile) (x .header)
 is-taken e z = record { number = ap (λ (x : Taken). x .answer .number) (sym e) ∙ z; tile = ap (λ (x : Taken). x .answer .tile) e; header = ap (λ (x : Taken). x .header) e }
 
@@ -54,13 +50,6 @@ module _ {b : List ℕ} {t : Tile} {h : List ℤ} (k : IsTaken b t h) where
 
   pub taken-ten : 10 ≤ length b
   taken-ten = taken-read b (k .number) .long
-
--- a first partition whose header and modes are there
-pub record FirstRead (c : Call) : Type 0 where
-  pub coded : Header
-  pub last : Reader
-  pub head : run header (firstOf c) (firstReader (firstOf c)) ≡ given coded (c .tile .reader)
-  pub modes : run (allModes c) (firstOf c) (c .tile .reader) ≡ given tt last
 
 -- such is that of a picture that is answered 0
 first-read : (b : List ℕ) (m : Memory) → Bytes b → takenOf b .answer .number ≡ 0 → numberOf (pictureOf (takenCall b) m .answer) ≡ 0 → FirstRead (takenCall b)
@@ -76,16 +65,8 @@ module _ (b : List ℕ) (t : Tile) (h : List ℤ) where
   unfolding newFirst
   first-written {s} {room} {new} {n} e w r = subst (λ (x : List ℕ). Rewrites x t h room n new) e w (r .coded) (r .last) (r .head) (r .modes)
 
-  -- only counted
-  abbrev pub Measured : ℕ → Type 0
-  Measured n = FirstRead (callOf b t h) → n ≡ length (newFirst (callOf b t h))
-
-  pub measured : {s room new : List ℕ} {n : ℕ} → s ≡ contentsOf b (t .first) → Rewrites s t h room n new → Measured n
+  pub measured : {s room new : List ℕ} {n : ℕ} → s ≡ contentsOf b (t .first) → Rewrites s t h room n new → Measured b t h n
   measured e w r = first-written e w r .long
-
-  -- laid behind the ten bytes before it
-  abbrev pub Lays : List ℕ → ℕ → List ℕ → Type 0
-  Lays room n new = FirstRead (callOf b t h) → n ≡ length (newFirst (callOf b t h)) → new ≡ newHead b n ++ (newFirst (callOf b t h) ++ drop (10 + n) room)
 
 -- ---- the ten bytes, as the code puts them: those of the old frame, and the tag over the first three
 put-three : (l : List ℕ) (x y z : ℕ) → 3 ≤ length l → set (set (set l 0 x) 1 y) 2 z ≡ (x ∷ y ∷ z ∷ []) ++ drop 3 l
@@ -147,22 +128,11 @@ module _ (b : List ℕ) (n : ℕ) (out : List ℕ) (ten : 10 ≤ length b) {src 
       q ∙ (λ i. before i ++ (is i ++ (ap (λ (x : ℕ). drop x (drop 10 o2)) m ∙ ap (drop n) behind ∙ drop-drop n 10 out) i))
 
 -- ---- where the tokens stand, and the number
-pub record Placed (n room r : ℕ) : Type 0 where
-  pub inside : r ≤ room
-  pub place : r < room → r ≡ 10 + n
-  pub told : r < room → n ≤ 524287
-  pub most : n ≤ 524287 → r ≤ 10 + n
-
 pub placed-end : {n room : ℕ} → (n ≤ 524287 → room ≤ 10 + n) → Placed n room room
 placed-end h = record { inside = omega arith; place = λ l. absurd (omega arith); told = λ l. absurd (omega arith); most = h }
 
 pub placed-here : {n room : ℕ} → n ≤ 524287 → 10 + n ≤ room → Placed n room (10 + n)
 placed-here h l = record { inside = l; place = λ k. refl; told = λ k. h; most = λ k. omega arith }
-
-pub record Numbered (number n r : ℕ) : Type 0 where
-  pub other : (number ≡ 16 → ⊥) → r ≡ number
-  pub room : number ≡ 16 → n ≤ 524287 → r ≡ 16
-  pub long : number ≡ 16 → 524287 < n → r ≡ 18
 
 -- ---- what the call leaves, by the picture call's number, the first partition's length and the room
 module _ (b : List ℕ) (m : Memory) (out : List ℕ) where

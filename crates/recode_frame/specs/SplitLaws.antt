@@ -17,6 +17,7 @@ use Rattle.frame.specs.declared.fields.Header.{Header}
 use Rattle.frame.specs.Header.{literal, when, segments, filter, quantizers, probs, header}
 use Rattle.frame.specs.Entries.{entries, numbers}
 use Rattle.recode_frame.specs.RecodeFrame.{BeforeCount, beforeCount, AfterCount, afterCount, readerAfter, noCount, headerSymbols}
+pub use Rattle.recode_frame.specs.First.{headerFrom, Cut}
 
 -- ---- grammars, one after the other
 pub bind-assoc : {A B C : Type 0} (m : Reading A) (f : A → Reading B) (g : B → Reading C) → ((m >>= f) >>= g) ≡ (m >>= (λ a. f a >>= g))
@@ -28,20 +29,6 @@ follows-then f stop h = h
 follows-then f (take b g) h = take b (follows-then f g h)
 
 -- ---- the header, cut
-abbrev pub headerFrom : BeforeCount → ℕ → AfterCount → Header
-headerFrom a n z = record {
-  colour = a .colour;
-  clamping = a .clamping;
-  segments = a .segments;
-  filter = a .filter;
-  partitions = n;
-  quantizers = z .quantizers;
-  refresh = z .refresh;
-  probs = z .probs;
-  skip = z .skip;
-  chance = z .chance;
-}
-
 -- what stands behind the count, as a header
 abbrev pub headed : BeforeCount → ℕ → Reading Header
 headed a n = afterCount >>= (λ z. done (headerFrom a n z))
@@ -100,17 +87,6 @@ header-cut =
     ∙ (λ i. literal 1 >>= (λ colour. clamping-cut colour i)))
 
 -- ---- a run of it, taken apart
-pub record Cut (s : List ℕ) (r : Reader) (h : Header) (q : Reader) : Type 0 where
-  pub before : BeforeCount
-  pub count : ℕ
-  pub after : AfterCount
-  pub r1 : Reader
-  pub r2 : Reader
-  pub is : h ≡ headerFrom before count after
-  pub first : run beforeCount s r ≡ given before r1
-  pub middle : run (literal 2) s r1 ≡ given count r2
-  pub last : run afterCount s r2 ≡ given after q
-
 -- a part that is followed by others gave a value where all did
 pub record Parted {A B : Type 0} (m : Reading A) (f : A → Reading B) (s : List ℕ) (r : Reader) (b : B) (q : Reader) : Type 0 where
   pub value : A

@@ -17,7 +17,7 @@ ghost use Prim.Native.Nat.{_<_, _≤_};
 ghost use lib.ListN.{replicate};
 ghost use Rattle.recode_frame.specs.RecodeFrame.{leftOf, modesFrom, noTops};
 ghost use Rattle.recode_frame.specs.HeaderCopies.{Copied};
-ghost use Rattle.recode_frame.specs.FirstLaws.{HeaderRecounted, Sized, Rewrites};
+ghost use Rattle.recode_frame.specs.First.{HeaderRecounted, Sized, Rewrites};
 
 // The coded header.
 fn copy_header(s: &[u8], p: Pipe, out: &mut [u8]) -> Pipe

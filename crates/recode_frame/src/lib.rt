@@ -20,8 +20,8 @@ ghost use lib.ListN.{length, drop};
 ghost use Rattle.lent.specs.Memory.{memoryOf};
 ghost use Rattle.frame.specs.Tag.{tagOf};
 ghost use Rattle.recode_frame.specs.RecodeFrame.{threeBytes, noFrame, frameEnded, frameDecoded, recodeFrameOf};
-ghost use Rattle.recode_frame.specs.FirstLaws.{Sized};
-ghost use Rattle.recode_frame.specs.RecodeFrameLaws.{IsTaken, Measured, Placed, Numbered, Lays};
+ghost use Rattle.recode_frame.specs.First.{Sized};
+ghost use Rattle.recode_frame.specs.First.{IsTaken, Measured, Placed, Numbered, Lays};
 
 // 0 and how many bytes were written; or the number of a refusal, and 0.
 pub struct FrameRecoded {

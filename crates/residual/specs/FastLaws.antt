@@ -48,6 +48,8 @@ use Rattle.coefficients.specs.BlockSteps.{place-below, zigzag-below, context-mo
 use Rattle.coefficients.specs.Block.{categories, category, magnitude, signOf, bands, zigzag, probabilityPlace, quantizerAt, contextAfter, Coefficients, blockFrom, block}
 use Rattle.residual.specs.declared.fast.Number.{Number}
 use Rattle.residual.specs.declared.fast.Zeros.{Zeros}
+unfoldable pub use Rattle.residual.specs.Fast.{placesAfter, tokenSymbols}
+pub use Rattle.residual.specs.Fast.{raisedOf, Counting, AtOne, AtTwo, AtEnd, Zeroed}
 
 -- ---- two lists that agree in every place
 same-list : (l m : List ℤ) → length l ≡ length m → ((i : ℕ) → i < length m → getD l i (pos 0) ≡ getD m i (pos 0)) → l ≡ m
@@ -169,10 +171,6 @@ bands-after : allBelow 16 (λ n. eqb (getD bandsAfter n 0) (getD bands (n + 1) 0
 unfolding bandsAfter bands
 bands-after = refl
 
--- where the probabilities of the position after each stand, for context 0
-unfoldable pub placesAfter : ℕ → List ℕ
-placesAfter kind = build 16 (λ n. probabilityPlace kind (n + 1) 0)
-
 -- an entry made, an entry read, the place of a first position, and a place for another context
 pub places-after : (kind n : ℕ) → n < 16 → getD bandsAfter n 0 + 264 * kind ≡ probabilityPlace kind (n + 1) 0
 unfolding probabilityPlace
@@ -194,10 +192,6 @@ pub place-near : (kind n ctx : ℕ) {near at : ℕ} → near ≡ ctx * 11 → at
 unfolding probabilityPlace
 place-near kind n ctx e f = omega arith
 
--- a token's symbols and its extra bits
-unfoldable pub tokenSymbols : List ℕ
-tokenSymbols = 0 ∷ 0 ∷ 3 ∷ 5 ∷ 6 ∷ 6 ∷ 7 ∷ 8 ∷ 10 ∷ 11 ∷ 12 ∷ 18 ∷ []
-
 symbols-sum : allBelow 10 (λ i. eqb (getD tokenSymbols (i + 2) 0) (getD tokenDepths (i + 2) 0 + bitsOf (i + 2))) ≡ true
 unfolding tokenSymbols bitsOf categories
 symbols-sum = refl
@@ -215,10 +209,6 @@ pub symbols-most : (t : ℕ) → t < 12 → getD tokenSymbols t 0 ≤ 18
 symbols-most t h = leb-true _ _ (all-below (λ t. leb (getD tokenSymbols t 0) 18) 12 symbols-few t h)
 
 -- ---- the product in 16 bits: 268468224 is 4096 * 65536 + 32768
-abbrev pub raisedOf : Bool → ℕ → ℕ
-raisedOf true x = 268468224 - x
-raisedOf false x = 268468224 + x
-
 raised-parts : (b : Bool) (x y : ℕ) → x ≤ 268435456 → y ≡ raisedOf b x → (pos (y % 65536) -ℤ pos 32768) +ℤ pos 65536 *ℤ (pos (y / 65536) -ℤ pos 4096) ≡ signOf b x
 raised-parts b x y h e =
     let z = pos (y % 65536) -ℤ pos 32768 in
@@ -260,25 +250,14 @@ module _ {A : Type 0} {s : List ℕ} {E : (A × ℕ) × Reader} {lim n p : ℕ} 
 -- ---- a run of zeros
 module _ (s table : List ℕ) (kind q0 q1 : ℕ) (values : List ℤ) (E : (Coefficients × ℕ) × Reader) (lim : ℕ) where
   -- at node 1 of position n, whose probabilities stand at p, c symbols in; at node 2; and after the last position
-  pub record AtOne (n p c : ℕ) (w : Wide) : Type 0 where
-    pub fuel : ℕ
-    pub going : Going s E lim 25 (76 * (15 - n) + 72) (counted c (walk (suc (suc (suc (suc (suc (suc fuel)))))) (elevenAt table p) tokenTree 1 >>= restOf table kind q0 q1 (15 - n) n values)) w
-
-  pub record AtTwo (n p c : ℕ) (w : Wide) : Type 0 where
-    pub fuel : ℕ
-    pub going : Going s E lim 18 (76 * (15 - n) + 72) (counted c (walk (suc (suc (suc (suc (suc fuel))))) (elevenAt table p) tokenTree 2 >>= restOf table kind q0 q1 (15 - n) n values)) w
-
-  abbrev pub AtEnd : ℕ → Wide → Type 0
-  AtEnd c w = Going s E lim 0 0 (counted c (done (record { end = 16; values = values }))) w
-
   module _ {n p c : ℕ} {w : Wide} {q : Bit} (y : Bytes s) (h : getD table (p + 1) 0 < 256) (o : q ≡ wide.wideBitOf w (getD table (p + 1) 0)) where
-    one-on : q .on ≡ true → AtOne n p c w → AtTwo n p (suc c) (q .next)
+    one-on : q .on ≡ true → AtOne s table kind q0 q1 values E lim n p c w → AtTwo s table kind q0 q1 values E lim n p (suc c) (q .next)
     one-on v a = record { fuel = a .fuel; going = step-node (elevenAt table p) 1 17 (suc (suc (suc (suc (suc (a .fuel)))))) c (restOf table kind q0 q1 (15 - n) n values) y h (eleven-at table p 1 (lit< tt)) (a .going) o v refl }
 
-    zeroed : q .on ≡ false → AtOne n p c w → Going s E lim 18 (76 * (15 - n) + 72) (counted (suc c) (blockFrom table kind q0 q1 (15 - n) (n + 1) 0 true values)) (q .next)
+    zeroed : q .on ≡ false → AtOne s table kind q0 q1 values E lim n p c w → Going s E lim 18 (76 * (15 - n) + 72) (counted (suc c) (blockFrom table kind q0 q1 (15 - n) (n + 1) 0 true values)) (q .next)
     zeroed v a = going-as (ap (counted (suc c)) (rest-zero table kind q0 q1 (15 - n) n values)) (step-leaf (elevenAt table p) 1 17 (suc (suc (suc (suc (suc (a .fuel)))))) c (restOf table kind q0 q1 (15 - n) n values) y h (eleven-at table p 1 (lit< tt)) (a .going) o v refl)
 
-    one-off : {at : ℕ} {f : Wide} → q .on ≡ false → n + 1 < 16 → at ≡ probabilityPlace kind (n + 1) 0 → f ≡ wide.fillOf s (q .next) → AtOne n p c w → AtOne (n + 1) at (suc c) f
+    one-off : {at : ℕ} {f : Wide} → q .on ≡ false → n + 1 < 16 → at ≡ probabilityPlace kind (n + 1) 0 → f ≡ wide.fillOf s (q .next) → AtOne s table kind q0 q1 values E lim n p c w → AtOne s table kind q0 q1 values E lim (n + 1) at (suc c) f
     one-off {at} {f} v l e g a =
         let i : 15 - n ≡ suc (15 - (n + 1)) = omega arith in
         let j : blockFrom table kind q0 q1 (15 - n) (n + 1) 0 true values ≡ (walk 32 (elevenAt table at) tokenTree 1 >>= restOf table kind q0 q1 (15 - (n + 1)) (n + 1) values) =
@@ -288,7 +267,7 @@ module _ (s table : List ℕ) (kind q0 q1 : ℕ) (values : List ℤ) (E : (Coeff
         let b = going-weaken 18 (76 * (15 - (n + 1)) + 72 + 4) (going-as (ap (counted (suc c)) j) (zeroed v a)) (omega arith) (omega arith) in
         record { fuel = 26; going = going-weaken 25 (76 * (15 - (n + 1)) + 72) (going-fill (76 * (15 - (n + 1)) + 72) b g) (lit≤ tt) (omega arith) }
 
-    one-last : q .on ≡ false → n + 1 ≡ 16 → AtOne n p c w → AtEnd (suc c) (q .next)
+    one-last : q .on ≡ false → n + 1 ≡ 16 → AtOne s table kind q0 q1 values E lim n p c w → AtEnd s table kind q0 q1 values E lim (suc c) (q .next)
     one-last v e a =
         let i : 15 - n ≡ 0 = omega arith in
         let j : blockFrom table kind q0 q1 (15 - n) (n + 1) 0 true values ≡ done (record { end = 16; values = values }) =
@@ -305,15 +284,6 @@ module _ (s table : List ℕ) (kind n p : ℕ) (w : Wide) where
     pub inside : at + 11 ≤ length table
     pub reach : (q0 q1 : ℕ) (values : List ℤ) (E : (Coefficients × ℕ) × Reader) (lim c : ℕ) → AtOne s table kind q0 q1 values E lim n p c w → AtOne s table kind q0 q1 values E lim m at (c + (m - n)) q
 
-  -- it stops at a number, or behind the last position
-  pub record Zeroed (q : Zeros) : Type 0 where
-    pub low : n ≤ q .n
-    pub high : q .n ≤ 16
-    pub inside : q .n < 16 → q .place + 11 ≤ length table
-    pub ahead : q .n < 16 → q .ahead ≡ getD (placesAfter kind) (q .n) 0
-    pub number : (q0 q1 : ℕ) (values : List ℤ) (E : (Coefficients × ℕ) × Reader) (lim c : ℕ) → q .n < 16 → AtOne s table kind q0 q1 values E lim n p c w → AtTwo s table kind q0 q1 values E lim (q .n) (q .place) (c + (q .n - n) + 1) (q .next)
-    pub ended : (q0 q1 : ℕ) (values : List ℤ) (E : (Coefficients × ℕ) × Reader) (lim c : ℕ) → q .n ≡ 16 → AtOne s table kind q0 q1 values E lim n p c w → AtEnd s table kind q0 q1 values E lim (c + (16 - n)) (q .next)
-
   pub zeroing-start : n < 16 → p + 11 ≤ length table → Zeroing n p w
   zeroing-start h i =
       record {
@@ -324,7 +294,7 @@ module _ (s table : List ℕ) (kind n p : ℕ) (w : Wide) where
       }
 
   module _ {m at : ℕ} {x : Wide} {b : Bit} (z : Zeroing m at x) (y : Bytes s) (h : getD table (at + 1) 0 < 256) (o : b ≡ wide.wideBitOf x (getD table (at + 1) 0)) where
-    pub zeroing-number : {places : List ℕ} {ahead : ℕ} → b .on ≡ true → places ≡ placesAfter kind → ahead ≡ getD places m 0 → Zeroed (record { n = m; place = at; ahead = ahead; next = b .next })
+    pub zeroing-number : {places : List ℕ} {ahead : ℕ} → b .on ≡ true → places ≡ placesAfter kind → ahead ≡ getD places m 0 → Zeroed s table kind n p w (record { n = m; place = at; ahead = ahead; next = b .next })
     zeroing-number v g f =
         record {
           low = z .low;
@@ -335,7 +305,7 @@ module _ (s table : List ℕ) (kind n p : ℕ) (w : Wide) where
           ended = λ q0 q1 values E lim c i a. absurd (omega (arith, z .below));
         }
 
-    pub zeroing-end : {place ahead : ℕ} → b .on ≡ false → m + 1 ≡ 16 → Zeroed (record { n = m + 1; place = place; ahead = ahead; next = b .next })
+    pub zeroing-end : {place ahead : ℕ} → b .on ≡ false → m + 1 ≡ 16 → Zeroed s table kind n p w (record { n = m + 1; place = place; ahead = ahead; next = b .next })
     zeroing-end v k =
         record {
           low = omega (arith, z .low);
@@ -364,14 +334,6 @@ depth-deep t l h = let e : t ≡ t - 2 + 2 = omega arith in rw e (leb-true _ _ (
 
 above-walked : depthsOf 4 0 (λ t. getD tokenDepths t 0 - 3) tokenTree 3 ≡ true
 above-walked = refl
-
-pub record Counting (s ps : List ℕ) (w : Wide) (q : Number) : Type 0 where
-  pub ctx : ℕ
-  pub few : ctx < 3
-  pub place : q .near ≡ ctx * 11
-  pub small : q .value ≤ 2114
-  pub least : q .reads ≤ 18
-  pub leads : (E : (Coefficients × ℕ) × Reader) (lim n c m : ℕ) (f : ℕ → Reading Coefficients) (h : ℕ → ℕ → Reading Coefficients) → ((t : ℕ) → 2 ≤ t → f t ≡ (magnitude t >>= h (contextAfter t))) → Going s E lim 18 (n + 72) (counted (suc (suc c)) (walk (suc (suc (suc (suc (suc m))))) ps tokenTree 2 >>= f)) w → Going s E lim 8 n (counted (c + q .reads) (h ctx (q .value))) (q .next) × (q .next .top < 254)
 
 one-is : (h : ℕ → ℕ → Reading Coefficients) → (magnitude 2 >>= h (contextAfter 2)) ≡ h 1 1
 unfolding magnitude contextAfter

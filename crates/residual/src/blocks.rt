@@ -20,7 +20,7 @@ ghost use lib.IntN.{pos};
 ghost use lib.ListN.{length, getD, set, replicate};
 ghost use Rattle.header.specs.Entries.{probabilityCount};
 ghost use Rattle.numbers.specs.Flags.{bitOf};
-ghost use Rattle.reader.specs.BooleanLaws.{Valid};
+ghost use Rattle.reader.specs.Boolean.{Valid};
 ghost use Rattle.residual.specs.Residual.{Flags, cleared, secondKind, kindOf, zeroOf};
 ghost use Rattle.residual.specs.Residual.{second, advance, blocksFrom, dcStage, residualOf};
 ghost use Rattle.residual.specs.Parts.{Held, Part, modelOf};

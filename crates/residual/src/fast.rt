@@ -18,13 +18,13 @@ ghost use lib.ListN.{length, getD};
 ghost use Rattle.header.specs.Entries.{probabilityCount};
 ghost use Rattle.numbers.specs.Wrap.{wrapZ};
 ghost use Rattle.wide.specs.WideRuns.{WideReads};
-ghost use Rattle.coefficients.specs.BlockLaws.{SixteenBits};
+ghost use Rattle.coefficients.specs.Block.{SixteenBits};
 ghost use Rattle.wide.specs.Wide.{halfOf};
 ghost use Rattle.reader.specs.Token.{elevenAt};
 ghost use Rattle.coefficients.specs.Block.{category, magnitude, signOf, probabilityPlace, quantizerAt, block};
 ghost use Rattle.residual.specs.Symbols.{normsOf, Ranged};
 ghost use Rattle.residual.specs.Fast.{BlockCoded};
-ghost use Rattle.residual.specs.FastLaws.{raisedOf, placesAfter, tokenSymbols, Counting, Zeroed};
+ghost use Rattle.residual.specs.Fast.{raisedOf, placesAfter, tokenSymbols, Counting, Zeroed};
 
 // Where the 33 probabilities of the band of the position after each stand among those of its kind; after the last there is no position.
 const BANDS_AFTER: [u16; 16] = [

@@ -17,7 +17,7 @@ use reader::boolean::valid;
 ghost use mathlib.Core.Path.{_≡_};
 ghost use lib.ListN.{length};
 ghost use Rattle.header.specs.Entries.{probabilityCount};
-ghost use Rattle.reader.specs.BooleanLaws.{Valid};
+ghost use Rattle.reader.specs.Boolean.{Valid};
 ghost use Rattle.reader.specs.Trace.{count};
 ghost use Rattle.residual.specs.Residual.{Flags, residualArguments, residualOf, residualAnswer};
 ghost use Rattle.residual.specs.Residual.{residualCallOf, residualByHeaderOf};

@@ -27,12 +27,12 @@ ghost use lib.IntN.{pos, negsuc};
 ghost use lib.ListN.{length, replicate};
 ghost use Rattle.header.specs.Entries.{probabilityCount};
 ghost use Rattle.numbers.specs.In.{Each};
-ghost use Rattle.reader.specs.BooleanLaws.{Valid};
+ghost use Rattle.reader.specs.Boolean.{Valid};
 ghost use Rattle.wide.specs.Counted.{counted};
 ghost use Rattle.wide.specs.WideRuns.{WideReads};
 ghost use Rattle.residual.specs.Residual.{Flags, sixteenAt, stored, residualOf};
 ghost use Rattle.residual.specs.Symbols.{normsOf, Ranged};
-ghost use Rattle.residual.specs.FastLaws.{placesAfter};
+ghost use Rattle.residual.specs.Fast.{placesAfter};
 ghost use Rattle.residual.specs.Quick.{widerOf, modelAt, QuickWhere};
 ghost use Rattle.residual.specs.Groups.{groupOf, GroupFits, settledOf, noneAfter, zerosAt, Ready, Passed};
 

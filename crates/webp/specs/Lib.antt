@@ -1,5 +1,6 @@
 -- definitions
 pub mod Webp
+pub mod Write
 -- laws
 pub mod ReadLaws
 pub mod WriteLaws

@@ -9,11 +9,9 @@ use lib.Seq.{take-length, take-all, take-append-seam, drop-append-add, drop-drop
 use Rattle.numbers.specs.Tests.{lt-or, le-leb, lt-leb}
 use Rattle.webp.specs.declared.write.WrapAnswer.the-variants as W
 use Rattle.webp.specs.Webp.{WrapAnswer, uint32Of, riff, webp, vp8, padOf, riffSize, mostSize, fileOf, WriteEnded, writtenInto, wrapOf}
+unfoldable pub use Rattle.webp.specs.Write.{headOf, laid}
 
 -- ---- twenty bytes before a frame of n
-unfoldable pub headOf : ℕ → List ℕ
-headOf n = riff ++ uint32Of (riffSize n) ++ webp ++ vp8 ++ uint32Of n
-
 pub head-is : (n : ℕ) {a b c d e f g h : ℕ} → a ≡ riffSize n % 256 → b ≡ riffSize n / 256 % 256 → c ≡ riffSize n / 65536 % 256 → d ≡ riffSize n / 16777216 % 256
     → e ≡ n % 256 → f ≡ n / 256 % 256 → g ≡ n / 65536 % 256 → h ≡ n / 16777216 % 256
     → 82 ∷ 73 ∷ 70 ∷ 70 ∷ a ∷ b ∷ c ∷ d ∷ 87 ∷ 69 ∷ 66 ∷ 80 ∷ 86 ∷ 80 ∷ 56 ∷ 32 ∷ e ∷ f ∷ g ∷ h ∷ [] ≡ headOf n
@@ -21,10 +19,6 @@ unfolding headOf
 head-is n p q r t u v w x = rw (p, q, r, t, u, v, w, x)
 
 -- ---- stores one behind the other
--- a list with b stored from a place on
-unfoldable pub laid : List ℕ → ℕ → List ℕ → List ℕ
-laid out at b = take at out ++ (b ++ drop (at + length b) out)
-
 -- the same as the code finds it: b copied over the front of what follows the place
 pub laid-is : (out : List ℕ) (at : ℕ) (b : List ℕ) {y : List ℕ} → at + length b ≤ length out → y ≡ take (length b) b ++ drop (length b) (take (length out - at) (drop at out))
     → take at out ++ (y ++ drop (length out - at) (drop at out)) ≡ laid out at b

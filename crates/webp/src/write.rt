@@ -3,7 +3,7 @@ ghost use mathlib.Core.Path.{_≡_};
 ghost use Prim.Native.Nat.{_+_, _%_, _≤_};
 ghost use lib.ListN.{length};
 ghost use Rattle.webp.specs.Webp.{wrapOf};
-ghost use Rattle.webp.specs.WriteLaws.{headOf, laid};
+ghost use Rattle.webp.specs.Write.{headOf, laid};
 
 // How many bytes were written, or the number of a refusal.
 pub enum WrapAnswer {

@@ -24,7 +24,7 @@ use residual::answers::Ended;
 ghost use mathlib.Core.Path.{_≡_};
 ghost use Prim.Native.Nat.{_<_};
 ghost use Rattle.header.specs.Frame.{factorsAt};
-ghost use Rattle.modes.specs.ModesLaws.{InRange};
+ghost use Rattle.modes.specs.Answers.{InRange};
 ghost use Rattle.modes.specs.Answers.{macroblockOf};
 ghost use Rattle.reader.specs.Boolean.{given};
 ghost use Rattle.macroblock.specs.Macroblock.{planesOf, macroblockCalled, toMacroblockCalled, stepOf, readyOf, macroblockCallOf, noOutcome};

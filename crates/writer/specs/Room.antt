@@ -1,6 +1,6 @@
 -- The encoder as the code has it (RFC 6386, section 7.3): its four numbers by value, and beside them the room that is lent, where what it
 -- writes stands from the start on. What lies past the room's end is not written; the four numbers go on all the same.
-use Prim.Native.Nat.{ℕ, _+_, _-_, _*_, _/_, _%_, _^_}
+use Prim.Native.Nat.{ℕ, _+_, _-_, _*_, _/_, _%_, _^_, _≤_, _<_}
 use mathlib.Core.Bool.{Bool, true, false, _&&_}
 use mathlib.Core.List.{List}
 use lib.Dec.{ltb, leb}
@@ -100,3 +100,10 @@ endedOf n room = record { long = n; room = room }
 -- `flush`: a writer out of range writes nothing
 unfoldable pub flushAnswer : Writer → List ℕ → FlushEnd
 flushAnswer w room = elim (writerFine w) [ true ↦ endedOf (w .at + 4) (flushIn w room) | false ↦ endedOf 0 room ]
+
+-- what `flush` asks
+pub record Fine (low : ℕ) (w : Writer) : Type 0 where
+  pub some : 1 ≤ w .count
+  pub near : w .at < 9223372036854775808
+  pub least : low ≤ w .range
+  pub most : w .range < 256

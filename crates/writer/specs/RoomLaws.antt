@@ -14,6 +14,7 @@ use Rattle.wide.specs.Wide.{less32, doublingsOf}
 use Rattle.writer.specs.Encoder.{addOne, carried}
 use Rattle.writer.specs.NumberLaws.{length-add-one}
 use Rattle.writer.specs.Room.{Writer, Written, writtenOf, carriedIn, byteIn, splitIn, widthIn, raisedIn, loudIn, shiftedIn, writeIn, fourIn, flushIn, writerFine, endedOf, flushAnswer}
+pub use Rattle.writer.specs.Room.{Fine}
 
 -- ---- one turn of the carry
 pub add-one-none : (l : List ℕ) → addOne 0 l ≡ l
@@ -73,13 +74,6 @@ pub length-carries : (b : Bool) (l : List ℕ) → length (carried b l) ≡ leng
 unfolding carried
 length-carries true l = length-add-one (length l) l
 length-carries false l = refl
-
--- what `flush` asks
-pub record Fine (low : ℕ) (w : Writer) : Type 0 where
-  pub some : 1 ≤ w .count
-  pub near : w .at < 9223372036854775808
-  pub least : low ≤ w .range
-  pub most : w .range < 256
 
 -- ---- a symbol, as the code makes it
 pub byte-is : (room : List ℕ) (at due : ℕ) {l k : List ℕ} → l ≡ carriedIn (leb 256 due) at room → k ≡ set l at (due % 256 % 256) → k ≡ byteIn room at due

@@ -10,7 +10,7 @@ ghost use Rattle.wide.specs.Wide.{doublingsOf};
 ghost use Rattle.writer.specs.Encoder.{addOne};
 ghost use Rattle.writer.specs.Room.{carriedIn, byteIn, writtenOf, freshWriter, writerFine, splitIn, loudIn, shiftedIn, writeIn};
 ghost use Rattle.writer.specs.Room.{flushIn, flushAnswer, endedOf};
-ghost use Rattle.writer.specs.RoomLaws.{Fine};
+ghost use Rattle.writer.specs.Room.{Fine};
 
 // The RFC's bool_encoder: `at` the bytes written, `range`, `bottom`, `count` its bit_count.
 pub struct Writer {
