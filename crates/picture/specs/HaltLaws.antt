@@ -1,9 +1,7 @@
 -- The laws of the picture call with its state: one turn of its recursion; its answer and memory are the picture call's; the call.
 use Prim.Native.Nat.{ℕ, zero, suc, _+_, _*_, _≤_, _<_}
 use mathlib.Core.Path.{_≡_, refl, sym, _∙_, ap}
-use mathlib.Core.List.{List}
 use native.Mathlib.Omega.{arith}
-use Rattle.reader.specs.declared.boolean.Reader.{Reader}
 use Rattle.reader.specs.BooleanLaws.{Bytes}
 use Rattle.coefficients.specs.declared.block.Table.{Table}
 use Rattle.coefficients.specs.Block.{tableOf}
@@ -11,11 +9,9 @@ use Rattle.header.specs.declared.frame.Framed.{Framed}
 use Rattle.header.specs.Frame.{framedOf}
 use Rattle.macroblock.specs.Macroblock.{Finished, Step, finished, no-modes, no-tokens}
 use Rattle.lent.specs.Memory.{Memory, sizesOf, blankOf}
-use Rattle.tile.specs.Partitions.{spanAt, readersOf}
+use Rattle.tile.specs.Partitions.{spanAt}
 use Rattle.tile.specs.PartitionsLaws.{part-bytes}
 use Rattle.tile.specs.Checks.{blocksOf}
-use Rattle.modes.specs.declared.contexts.Context.{Context}
-use Rattle.modes.specs.Contexts.{emptyContext}
 use Rattle.choices.specs.declared.answer.Decoded.the-variants as D
 use Rattle.choices.specs.Checks.{Call, refusalOf}
 use Rattle.choices.specs.Answer.{valuesOf}
@@ -23,7 +19,7 @@ use Rattle.picture.specs.Picture.{Picture, State, Ended, cutOut, picture
 use Rattle.picture.specs.Live.{Shared, Live}
 use Rattle.picture.specs.PictureLaws.{live-next, ends-at, partition-below, run-none, run-finished, run-no-modes, run-no-tokens}
 use Rattle.picture.specs.CallLaws.{picture-bad, picture-good, picture-found, shared-start, live-start}
-use Rattle.picture.specs.Halt.{Halted, haltedAt, haltOf, haltedOf}
+use Rattle.picture.specs.Halt.{Halted, haltOf, haltedOf}
 
 -- ---- one turn
 pub halt-none : (P : Picture) (k : ℕ) (S : State) → haltOf 0 P k S ≡ record { answer = D.Whole k; state = S }
@@ -69,10 +65,6 @@ module _ (t : Call) (m : Memory) {n : ℕ} (e : n ≡ refusalOf t (sizesOf m)) w
   pub halted-good : n ≡ 0 → haltedOf t m ≡ haltOf (blocksOf (t .tile .width) (t .tile .height)) (picturedOf t) 0 (begunOf t m)
   unfolding haltedOf
   halted-good f = let z : refusalOf t (sizesOf m) ≡ 0 = sym e ∙ f in rw (z, haltedOf)
-
-  -- as the code makes it where an argument is refused
-  pub halted-refused : (n ≡ 0 → ⊥) → {l : List Reader} {c : Context} → l ≡ readersOf (t .bytes) (t .tile) → c ≡ emptyContext → haltedAt (D.Refused n) (t .tile .reader) l c m ≡ haltedOf t m
-  halted-refused f g h = (λ i. haltedAt (D.Refused n) (t .tile .reader) (g i) (h i) m) ∙ halted-bad f
 
 -- THE LAW: its answer and its memory are the picture call's
 pub halted-picture : (t : Call) (m : Memory) → endedIn (haltedOf t m) ≡ pictureOf t m

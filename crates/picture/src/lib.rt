@@ -17,10 +17,37 @@ use tile::Tile;
 use tile::partitions::openers;
 ghost use mathlib.Core.Path.{_≡_};
 ghost use Rattle.lent.specs.Memory.{memoryOf};
+ghost use Rattle.tile.specs.Partitions.{readersOf};
+ghost use Rattle.modes.specs.Contexts.{emptyContext};
+ghost use Rattle.macroblock.specs.Counts.{noReads};
+ghost use Rattle.choices.specs.declared.answer.Decoded.the-variants as D;
 ghost use Rattle.choices.specs.Checks.{callOf};
 ghost use Rattle.picture.specs.Picture.{endedOf, pictureOf};
 ghost use Rattle.picture.specs.Counts.{costOf};
 ghost use Rattle.picture.specs.Halt.{haltedAt, haltedOf};
+
+// A call whose argument `bad` is refused stops in the state before the first macroblock, and reads nothing.
+fn refused(bytes: &[u8], tile: Tile, bad: u32) -> PictureStop
+    ensures { λ q. ⌜ q ≡ record {
+      answer = D.Refused bad;
+      reads = noReads;
+      reader = tile .reader;
+      readers = readersOf (now (bytes .entry)) tile;
+      left = emptyContext;
+    } ⌝ }
+{
+    let first = tile.reader;
+    PictureStop {
+        answer: Decoded::Refused(bad),
+        reads: SymbolCounts {
+            first: 0,
+            tokens: 0,
+        },
+        reader: first,
+        readers: openers(bytes, tile),
+        left: Context::empty(),
+    }
+}
 
 // The picture call, with the state that it stopped in, for a call that goes on from there. Where an argument is refused that is the state
 // before the first macroblock.
@@ -58,17 +85,7 @@ pub fn halt(
         },
     );
     if bad != 0 {
-        let first = tile.reader;
-        return PictureStop {
-            answer: Decoded::Refused(bad),
-            reads: SymbolCounts {
-                first: 0,
-                tokens: 0,
-            },
-            reader: first,
-            readers: openers(bytes, tile),
-            left: Context::empty(),
-        };
+        return refused(bytes, tile, bad);
     }
     blank(
         &mut y[..],

@@ -1,22 +1,15 @@
 use borrow.Author.Needs.{needs}
-use mathlib.Core.Path.{_≡_, sym, _∙_}
+use mathlib.Core.Path.{_≡_, sym, _∙_, ap}
 use Rattle.reader.specs.BooleanLaws.{Bytes}
 use Rattle.lent.specs.Memory.{Memory, memoryOf, sizesOf}
 use Rattle.choices.specs.Checks.{Call, callOf, refusalOf}
+use Rattle.picture.specs.declared.rows.PictureStop.{PictureStop}
+use Rattle.picture.specs.Halt.{haltedAt}
 use Rattle.picture.specs.CallLaws.{shared-found, live-found}
-use Rattle.picture.specs.HaltLaws.{halted-refused, halted-found}
+use Rattle.picture.specs.HaltLaws.{halted-bad, halted-found}
 use Rattle.picture.specs.CountsLaws.{cost-bad, cost-found}
 use Rattle.picture.proofs.halt.Statement.{statement}
 use Rattle.picture.proofs.halt.Tie as tie
-use Rattle.picture.proofs.halt.Reads as reads
-use Rattle.picture.proofs.halt.Lts as lts
-use Rattle.coefficients.proofs.block.probabilities.Reads as probabilities-reads
-use Rattle.choices.proofs.checks.refusal.Reads as refusal-reads
-use Rattle.blank.proofs.blank.Reads as blank-reads
-use Rattle.picture.proofs.rows.rows.Reads as rows-reads
-use Rattle.modes.proofs.contexts.Context.empty.Reads as empty-reads
-use Rattle.tile.proofs.partitions.openers.Reads as openers-reads
-use Rattle.header.proofs.frame.take.Reads as take-reads
 
 -- places: the start, the checks passed, the memory filled, the frame and table made, the loops behind
 abbrev start : tie.After-frame → tie.Start
@@ -50,18 +43,15 @@ bytes c i = c .before .before .before .before .before .before .before .before .b
 refusal-requires : tie.Need-refusal-requires
 refusal-requires c κs = search needs
 
-openers-requires : tie.Need-openers-requires
-openers-requires c κs = search needs
-
-empty-requires : tie.Need-empty-requires
-empty-requires c κs = search needs
+refused-requires : tie.Need-refused-requires
+refused-requires c κs = search needs
 
 returns : tie.Need-returns
 returns c =
-    let s = c .before .before .before .before .before .before .before .before .before .before .before .before in
-    let r = c .before .before .before in (
-      halted-refused (call s) (lent s) (r .before .refusal .ensures) (r .if1 .taken) (c .before .openers .ensures) (c .empty .ensures),
-      sym (cost-bad (call s) (lent s) (r .before .refusal .ensures) (r .if1 .taken)),
+    let s = c .before .before .before .before .before .before .before .before .before .before in
+    let r = c .before in (
+      ap (λ (q : PictureStop). haltedAt (q .answer) (q .reader) (q .readers) (q .left) (lent s)) (c .refused .ensures) ∙ halted-bad (call s) (lent s) (r .before .refusal .ensures) (r .if1 .taken),
+      ap (λ (q : PictureStop). q .reads) (c .refused .ensures) ∙ sym (cost-bad (call s) (lent s) (r .before .refusal .ensures) (r .if1 .taken)),
     )
 
 -- src/lib.rt:51:5
@@ -129,8 +119,7 @@ halt-spec =
     tie.close
     (tie.spec
     refusal-requires
-    openers-requires
-    empty-requires
+    refused-requires
     returns
     blank-requires
     probabilities-requires
