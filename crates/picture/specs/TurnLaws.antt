@@ -1,6 +1,6 @@
 -- What one macroblock leaves, from the answers of the calls that make it.
 use Prim.Native.Nat.{ℕ, _<_}
-use mathlib.Core.Path.{_≡_, refl, sym, _∙_, ap, ap₂}
+use mathlib.Core.Path.{_≡_, refl, sym, _∙_, ap}
 use mathlib.Core.Bool.{true, _&&_}
 use mathlib.Core.List.{List}
 use native.Mathlib.Omega.{arith}
@@ -39,22 +39,20 @@ use Rattle.picture.specs.Picture.{planesIn}
 use Rattle.picture.specs.Turn.{Turned, turnedOf, turned, Room}
 
 -- ---- the call of a macroblock, its arguments being good
-pub call-is : (first tokens : List ℕ) (readers : Readers) (f : Frame) (table : List ℕ) {a b : Context} (top left : Context) (place : Place) (p : Planes) {x : MacroblockCalled}
-    → x ≡ macroblockCallOf first tokens readers f table (record { top = a; left = b }) place p → a ≡ top → b ≡ left
-    → Ready first tokens readers f table (record { top = top; left = left }) → Laid place p
-    → x ≡ toMacroblockCalled p (stepOf first tokens readers f table (record { top = top; left = left }) place p)
-call-is first tokens readers f table top left place p e c d g l =
-    e ∙ ap₂ (λ (x y : Context). macroblockCallOf first tokens readers f table (record { top = x; left = y }) place p) c d
-    ∙ decode-good first tokens readers f table (record { top = top; left = left }) place p g l
+pub call-is : (first tokens : List ℕ) (readers : Readers) (f : Frame) (table : List ℕ) {a : Around} (around : Around) (place : Place) (p : Planes) {x : MacroblockCalled}
+    → x ≡ macroblockCallOf first tokens readers f table a place p → a ≡ around
+    → Ready first tokens readers f table around → Laid place p
+    → x ≡ toMacroblockCalled p (stepOf first tokens readers f table around place p)
+call-is first tokens readers f table around place p e c g l =
+    e ∙ ap (λ (a : Around). macroblockCallOf first tokens readers f table a place p) c ∙ decode-good first tokens readers f table around place p g l
 
 -- and what it reads
-pub call-reads : (first tokens : List ℕ) (readers : Readers) (f : Frame) (table : List ℕ) {a b : Context} (top left : Context) (place : Place) (p : Planes) {x : SymbolCounts}
-    → x ≡ decodeReads first tokens readers f table (record { top = a; left = b }) place p → a ≡ top → b ≡ left
-    → Ready first tokens readers f table (record { top = top; left = left }) → Laid place p
-    → x ≡ readsOf first tokens readers f table (record { top = top; left = left })
-call-reads first tokens readers f table top left place p e c d g l =
-    e ∙ ap₂ (λ (x y : Context). decodeReads first tokens readers f table (record { top = x; left = y }) place p) c d
-    ∙ reads-good first tokens readers f table (record { top = top; left = left }) place p g l
+pub call-reads : (first tokens : List ℕ) (readers : Readers) (f : Frame) (table : List ℕ) {a : Around} (around : Around) (place : Place) (p : Planes) {x : SymbolCounts}
+    → x ≡ decodeReads first tokens readers f table a place p → a ≡ around
+    → Ready first tokens readers f table around → Laid place p
+    → x ≡ readsOf first tokens readers f table around
+call-reads first tokens readers f table around place p e c g l =
+    e ∙ ap (λ (a : Around). decodeReads first tokens readers f table a place p) c ∙ reads-good first tokens readers f table around place p g l
 
 -- what is read of a column
 pub column-is : (mem : List ℕ) (x : ℕ) {c : ColumnRecord} → c ≡ columnFound mem x → x < recordsIn columnWidth mem → c .context ≡ columnAt packed mem x

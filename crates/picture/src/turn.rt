@@ -13,9 +13,10 @@ use macroblock::arguments::SymbolCounts;
 use macroblock::ending::Finish;
 use modes::contexts::Context;
 use whole::decode;
+ghost use Prim.Native.Nat.{_<_};
 ghost use mathlib.Core.Path.{_≡_};
 ghost use Rattle.lent.specs.Memory.{memoryOf};
-ghost use Rattle.lent.specs.Records.{packed, columnAt};
+ghost use Rattle.lent.specs.Records.{recordsIn, columnWidth, packed, columnAt};
 ghost use Rattle.macroblock.specs.Macroblock.{planesOf, stepOf};
 ghost use Rattle.macroblock.specs.Counts.{readsOf};
 ghost use Rattle.macroblock.specs.Asked.{Ready, Laid};
@@ -36,6 +37,19 @@ pub struct Task {
     pub left: Context,
     pub place: Place,
     pub k: usize,
+}
+
+// What a macroblock of that column finds above it and to its left.
+fn around(columns: &[u8], column: usize, left: Context) -> Around
+    requires { ⌜ column < recordsIn columnWidth (now columns) ⌝ }
+    ensures { λ r. ⌜ r ≡ record { top = columnAt packed (now (columns .entry)) column; left = besideOf column left } ⌝ }
+{
+    let found = read_column(columns, column);
+    let top = found.context;
+    Around {
+        top: top,
+        left: beside(column, left),
+    }
 }
 
 pub(crate) fn turn(
@@ -65,19 +79,14 @@ pub(crate) fn turn(
         (record { top = columnAt packed (now (columns .entry)) (task .place .column); left = besideOf (task .place .column) (task .left) })) ⌝ }
 {
     let place = task.place;
-    let found = read_column(columns, place.column);
-    let top = found.context;
-    let left = beside(place.column, task.left);
+    let near = around(columns, place.column, task.left);
     let read = decode(
         first,
         tokens,
         task.readers,
         task.frame,
         table,
-        Around {
-            top: top,
-            left: left,
-        },
+        near,
         place,
         y,
         u,

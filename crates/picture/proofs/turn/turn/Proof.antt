@@ -5,26 +5,18 @@ use Rattle.macroblock.specs.Counts.{readsOf}
 use Rattle.macroblock.specs.Macroblock.{Planes, Finished, Step, finished, stepOf, toMacroblockCalled}
 use Rattle.choices.specs.Beside.{besideOf}
 use Rattle.picture.specs.Picture.{planesIn}
-use Rattle.picture.specs.TurnLaws.{Ends, ends-of, call-is, call-reads, column-is, turn-stopped, turn-done}
+use Rattle.picture.specs.TurnLaws.{Ends, ends-of, call-is, call-reads, turn-stopped, turn-done}
 use Rattle.picture.proofs.Answers.{not-done}
 use borrow.Author.Needs.{needs}
 use Rattle.picture.proofs.turn.turn.Statement.{statement}
 use Rattle.picture.proofs.turn.turn.Tie as tie
-use Rattle.picture.proofs.turn.turn.Reads as reads
-use Rattle.picture.proofs.turn.turn.Lts as lts
-use Rattle.lent.proofs.columns.read_column.Reads as read-column-reads
-use Rattle.lent.proofs.columns.write_column.Reads as write-column-reads
-use Rattle.lent.proofs.macroblocks.write_mode_record.Reads as write-mode-record-reads
-use Rattle.lent.proofs.macroblocks.write_strength.Reads as write-strength-reads
-use Rattle.whole.proofs.decode.Reads as decode-reads
-use Rattle.choices.proofs.beside.beside.Reads as beside-reads
 
 -- places: the call from behind it, and the function's start
 abbrev called : tie.After-reads → tie.After-decode
 called c = c .before .before .before .before .before .before .before .before
 
 abbrev start : tie.After-decode → tie.Start
-start c = c .before .before .before .before .before .before .before .before .before .before .before .before .before .before .before .before .before .before
+start c = c .before .before .before .before .before .before .before .before .before .before .before .before .before .before .before .before
 
 abbrev before : tie.After-decode → Memory
 before c = let a = start c .args in memoryOf (a .y .now) (a .u .now) (a .v .now) (a .columns .now) (a .modes .now) (a .strengths .now)
@@ -41,100 +33,24 @@ painted c = let l = c .decode .last .1 .1 .1 .1 .1 .1 .1 in record { y = l .0; u
 answer : (c : tie.After-decode) → record { answer = c .decode .result .outcome; planes = painted c } ≡ toMacroblockCalled (planesIn (before c)) (step c)
 answer c =
     let p = start c .pre in
-    call-is _ _ _ _ _ _ _ _ _ (c .decode .ensures .0)
-    (column-is _ _ (c .before .before .before .before .before .before .read-column .ensures) (p .1 .1 .columns))
-    (c .before .before .before .before .beside .ensures)
-    (p .0) (p .1 .0)
+    call-is _ _ _ _ _ _ _ _ (c .decode .ensures .0) (c .before .before .before .before .around .ensures) (p .0) (p .1 .0)
 
 counted : (c : tie.After-decode) → (let a = start c .args in let t = a .task in c .decode .result .reads ≡ readsOf (a .first .now) (a .tokens .now) (t .readers) (t .frame) (a .table .now) (record { top = columnAt packed (a .columns .now) (t .place .column); left = besideOf (t .place .column) (t .left) }))
 counted c =
     let p = start c .pre in
-    call-reads _ _ _ _ _ _ _ _ _ (c .decode .ensures .1)
-    (column-is _ _ (c .before .before .before .before .before .before .read-column .ensures) (p .1 .1 .columns))
-    (c .before .before .before .before .beside .ensures)
-    (p .0) (p .1 .0)
+    call-reads _ _ _ _ _ _ _ _ (c .decode .ensures .1) (c .before .before .before .before .around .ensures) (p .0) (p .1 .0)
 
 ends : (c : tie.After-decode) → (x : Finished) → step c ≡ finished x → Ends (start c .args .first .now) (start c .args .tokens .now) (planesIn (before c)) x
 ends c x e =
     let p = start c .pre in
     ends-of _ _ _ _ _ _ _ _ (p .0) (p .1 .0)
-    (λ i. c .before .before .before .before .before .before .before .before .before .before .before .before .before .before .before .before .before .shared-slice-known .given i .fits)
-    (λ i. c .before .before .before .before .before .before .before .before .before .before .before .before .before .before .before .before .shared-slice-known2 .given i .fits)
-    (λ i. c .before .before .before .before .before .before .before .before .before .before .before .before .before .before .before .shared-slice-known3 .given i .fits) x e
+    (λ i. c .before .before .before .before .before .before .before .before .before .before .before .before .before .before .before .shared-slice-known .given i .fits)
+    (λ i. c .before .before .before .before .before .before .before .before .before .before .before .before .before .before .shared-slice-known2 .given i .fits)
+    (λ i. c .before .before .before .before .before .before .before .before .before .before .before .before .before .shared-slice-known3 .given i .fits) x e
 
--- src/turn.rt:72:9
-read-column-requires : tie.Need-read-column-requires
-read-column-requires c κs = search needs
-
--- src/turn.rt:74:9
-beside-requires : tie.Need-beside-requires
-beside-requires c κs = search needs
-
--- src/turn.rt:75:9
-decode-requires : tie.Need-decode-requires
-decode-requires c κs = search needs
-
--- src/turn.rt:91:22
-enum-known-answer : tie.Need-enum-known-answer
-enum-known-answer c = search needs
-
--- src/turn.rt:93:9
-same-length : tie.Need-same-length
-same-length c = search needs
-
--- src/turn.rt:93:9
-same-length-2 : tie.Need-same-length-2
-same-length-2 c = search needs
-
--- src/turn.rt:93:9
-same-length-3 : tie.Need-same-length-3
-same-length-3 c = search needs
-
--- src/turn.rt:93:9
-same-length-4 : tie.Need-same-length-4
-same-length-4 c = search needs
-
--- src/turn.rt:93:9
 returns : tie.Need-returns
 returns c = let d = called (c .before .before) in (turn-stopped _ _ _ (before d) (step d) (answer d) (not-done (d .decode .result .outcome .answer) (c .before .match .keys2)), counted d)
 
--- src/turn.rt:103:5
-write-column-requires : tie.Need-write-column-requires
-write-column-requires c κs = search needs
-
--- src/turn.rt:104:5
-write-mode-record-requires : tie.Need-write-mode-record-requires
-write-mode-record-requires c κs = search needs
-
--- src/turn.rt:105:5
-write-strength-requires : tie.Need-write-strength-requires
-write-strength-requires c κs = search needs
-
--- src/turn.rt:47:1
-same-length-5 : tie.Need-same-length-5
-same-length-5 c = search needs
-
--- src/turn.rt:47:1
-same-length-6 : tie.Need-same-length-6
-same-length-6 c = search needs
-
--- src/turn.rt:47:1
-same-length-7 : tie.Need-same-length-7
-same-length-7 c = search needs
-
--- src/turn.rt:47:1
-same-length-8 : tie.Need-same-length-8
-same-length-8 c = search needs
-
--- src/turn.rt:47:1
-same-length-9 : tie.Need-same-length-9
-same-length-9 c = search needs
-
--- src/turn.rt:47:1
-same-length-10 : tie.Need-same-length-10
-same-length-10 c = search needs
-
--- src/turn.rt:47:1
 returns-2 : tie.Need-returns-2
 returns-2 c =
     let w = c .before .before in
@@ -148,22 +64,21 @@ pub turn-spec : {M : Type 1} → statement M
 turn-spec =
     tie.close
     (tie.spec
-    read-column-requires
-    beside-requires
-    decode-requires
-    enum-known-answer
-    same-length
-    same-length-2
-    same-length-3
-    same-length-4
+    (λ c κs. search needs)
+    (λ c κs. search needs)
+    (λ c. search needs)
+    (λ c. search needs)
+    (λ c. search needs)
+    (λ c. search needs)
+    (λ c. search needs)
     returns
-    write-column-requires
-    write-mode-record-requires
-    write-strength-requires
-    same-length-5
-    same-length-6
-    same-length-7
-    same-length-8
-    same-length-9
-    same-length-10
+    (λ c κs. search needs)
+    (λ c κs. search needs)
+    (λ c κs. search needs)
+    (λ c. search needs)
+    (λ c. search needs)
+    (λ c. search needs)
+    (λ c. search needs)
+    (λ c. search needs)
+    (λ c. search needs)
     returns-2)
