@@ -1,10 +1,10 @@
--- The turns of the picture's loops, on plain values.
-use Prim.Native.Nat.{ℕ, zero, suc, _+_, _*_, _/_, _%_, _≤_, _<_}
+-- The turns of the picture's loop, on plain values.
+use Prim.Native.Nat.{ℕ, zero, suc, _+_, _*_, _≤_, _<_}
 use mathlib.Core.Path.{_≡_, refl, sym, _∙_, ap}
 use mathlib.Core.List.{List}
 use lib.ListN.{length, set}
 use native.Mathlib.Omega.{arith}
-use native.Mathlib.Nat.{mul-add-div-right, add-mul-mod-self-right, add-comm, div-eq-of-lt, mod-eq-of-lt, mul-le-mul-right, mul-comm, add-mul, one-mul, zero-add, add-zero, add-assoc}
+use native.Mathlib.Nat.{zero-add, add-zero, add-assoc}
 use Rattle.reader.specs.declared.boolean.Reader.{Reader}
 use Rattle.reader.specs.Boolean.{noReader}
 use Rattle.reader.specs.BooleanLaws.{Bytes}
@@ -17,8 +17,9 @@ use Rattle.choices.specs.declared.answer.Decoded.the-variants as D
 use Rattle.lent.specs.Memory.{Memory}
 use Rattle.choices.specs.declared.answer.Decoded.{Decoded}
 use Rattle.choices.specs.Answer.{stoppedOf}
+use Rattle.picture.specs.declared.rows.PictureStop.{PictureStop}
 use Rattle.picture.specs.Picture.{Picture, State, columnOf, partitionOf, planesIn, stepAt, nextOf}
-use Rattle.picture.specs.Halt.{Halted, stateOf, haltOf}
+use Rattle.picture.specs.Halt.{Halted, stateOf, haltedAt, haltOf}
 use Rattle.picture.specs.HaltLaws.{halt-none, halt-finished, halt-no-modes, halt-no-tokens}
 use Rattle.picture.specs.Turn.{Turned, turned}
 use Rattle.picture.specs.TurnLaws.{Ends}
@@ -43,8 +44,13 @@ total-most {P} {S} s a b l {n} h =
     let o = reads-over P s a b (P .wide * P .high) 0 S l (omega arith) in
     record { first = omega (arith, o .upto, o .most .first); tokens = omega (arith, o .upto, o .most .tokens) }
 
-pub both-are : {e : Halted} {r : SymbolCounts} {E F : Total} → (e ≡ E .ended) × (r ≡ E .reads) → E ≡ F → (e ≡ F .ended) × (r ≡ F .reads)
-both-are h g = (h .0 ∙ ap (λ (x : Total). x .ended) g, h .1 ∙ ap (λ (x : Total). x .reads) g)
+-- a picture that stops in the state S, as the code tells it
+pub stop-is : (S : State) {q : PictureStop} {d : Decoded} {n : SymbolCounts} {E F : Total} → q ≡ record { answer = d; reads = n; reader = S .reader; readers = S .readers; left = S .left }
+    → (record { answer = d; state = S } ≡ E .ended) × (n ≡ E .reads) → E ≡ F → (haltedAt (q .answer) (q .reader) (q .readers) (q .left) (S .mem) ≡ F .ended) × (q .reads ≡ F .reads)
+stop-is S e h g = (
+  ap (λ (q : PictureStop). haltedAt (q .answer) (q .reader) (q .readers) (q .left) (S .mem)) e ∙ h .0 ∙ ap (λ (x : Total). x .ended) g,
+  ap (λ (q : PictureStop). q .reads) e ∙ h .1 ∙ ap (λ (x : Total). x .reads) g,
+)
 
 -- ---- from macroblock k, with the state S and so much read, the rest of the picture gives E
 pub record Going (P : Picture) (E : Total) (k : ℕ) (S : State) (reads : SymbolCounts) : Type 0 where
@@ -140,34 +146,6 @@ going-end {P} {E} {k} {S} {reads} g h {d} q = go (g .rest) (g .sum) (g .same) (g
           z ∙ ap (plus reads) (sym (reads-none P k S)) ∙ e,
         )
     go (suc m) a b e = absurd (omega arith)
-
--- what holds where a row begins
-pub record AtRow (P : Picture) (E : Total) (k : ℕ) (answer : Decoded) (row : ℕ) (S : State) (reads : SymbolCounts) : Type 0 where
-  pub going : Going P E k S reads
-  pub place : k ≡ row * P .wide
-  pub upto : row ≤ P .high
-  pub fine : answer ≡ D.Whole (P .wide * P .high)
-
--- what holds in a row, of what held where it began
-pub record InRow (P : Picture) (k₀ : ℕ) (S₀ : State) (answer₀ : Decoded) (reads₀ : SymbolCounts) (k : ℕ) (answer : Decoded) (column : ℕ) (S : State) (reads : SymbolCounts) : Type 0 where
-  pub going : (E : Total) → Going P E k₀ S₀ reads₀ → Going P E k S reads
-  pub place : k ≡ k₀ + column
-  pub upto : column ≤ P .wide
-  pub fine : answer ≡ answer₀
-
--- ---- macroblock row * wide + column
-module _ (k k₀ row wide column : ℕ) (e : k ≡ k₀ + column) (f : k₀ ≡ row * wide) (h : column < wide) where
-  pub row-from : k / wide ≡ row
-  row-from = rw (e, f) (mul-add-div-right {m = wide} (omega arith) row column ∙ omega (arith, div-eq-of-lt h))
-
-  pub column-from : k % wide ≡ column
-  column-from = rw (e, f) (ap (λ (n : ℕ). n % wide) (add-comm (row * wide) column) ∙ add-mul-mod-self-right column row wide ∙ mod-eq-of-lt h)
-
-  pub less-from : (high : ℕ) → row < high → k < wide * high
-  less-from high l = omega (arith, mul-le-mul-right {m = row + 1} {n = high} wide (omega arith), add-mul row 1 wide, one-mul wide, mul-comm high wide)
-
-pub next-row : (row wide : ℕ) → row * wide + wide ≡ (row + 1) * wide
-next-row row wide = omega (arith, add-mul row 1 wide, one-mul wide)
 
 -- each memory as long as it was
 pub record KeptAll (m n : Memory) : Type 0 where

@@ -1,6 +1,6 @@
 -- The laws of a picture's counts: one turn of their recursion, the call, and how many they can be.
 use Prim.Native.Nat.{ℕ, zero, suc, _+_, _*_, _≤_, _<_}
-use mathlib.Core.Path.{_≡_, refl, sym, _∙_, ap, subst}
+use mathlib.Core.Path.{_≡_, refl, sym, _∙_, subst}
 use mathlib.Core.List.{List}
 use native.Mathlib.Omega.{arith}
 use Rattle.reader.specs.BooleanLaws.{Bytes}
@@ -18,9 +18,10 @@ use Rattle.macroblock.specs.Counts.{noReads, readsOf, AtMost}
 use Rattle.macroblock.specs.CountsLaws.{reads-most}
 use Rattle.choices.specs.declared.answer.Decoded.{Decoded}
 use Rattle.choices.specs.Checks.{Call, refusalOf}
+use Rattle.picture.specs.declared.turn.Task.{Task}
 use Rattle.picture.specs.Picture.{Picture, State, columnOf, partitionOf, readersAt, aroundAt, stepAt, nextOf, cutOut, picturedOf, startOf, begunOf, runOf, pictureOf}
 use Rattle.picture.specs.Live.{Shared, Live}
-use Rattle.picture.specs.PictureLaws.{column-below, partition-below, ready-at, ends-at, live-next, run-none, run-finished, run-no-modes, run-no-tokens}
+use Rattle.picture.specs.PictureLaws.{taskAt, aroundTask, column-below, partition-below, ready-at, ends-at, live-next, run-none, run-finished, run-no-modes, run-no-tokens}
 use Rattle.picture.specs.CallLaws.{picture-bad, picture-good, picture-found, shared-start, live-start}
 use Rattle.picture.specs.Counts.{plus, readsAt, readsFrom, costOf, askedOf}
 
@@ -48,12 +49,11 @@ pub reads-at : (P : Picture) (k : ℕ) (S : State)
 unfolding readsAt
 reads-at P k S = refl
 
--- the same for a column and a partition that the code works out
-pub reads-in : (P : Picture) (k : ℕ) (S : State) {w : SymbolCounts} (column q : ℕ) (first tokens : List ℕ) → w ≡ readsOf first tokens (readersAt S q) (P .frame) (P .table) (aroundAt P S column)
-    → first ≡ P .first → column ≡ columnOf P k → q ≡ partitionOf P k → tokens ≡ P .token q → w ≡ readsAt P k S
-reads-in P k S column q first tokens e f a c d =
-    let d′ : tokens ≡ P .token (partitionOf P k) = d ∙ ap (P .token) c in
-    e ∙ (λ o. readsOf (f o) (d′ o) (readersAt S (c o)) (P .frame) (P .table) (aroundAt P S (a o))) ∙ sym (reads-at P k S)
+-- as the code reads them
+pub reads-in : (P : Picture) (k : ℕ) (S : State) {w : SymbolCounts} {t : Task} (first tokens : List ℕ) → w ≡ readsOf first tokens (t .readers) (t .frame) (P .table) (aroundTask P S t)
+    → t ≡ taskAt P k S → first ≡ P .first → tokens ≡ P .token (partitionOf P k) → w ≡ readsAt P k S
+reads-in P k S first tokens e g f d =
+    e ∙ (λ o. readsOf (f o) (d o) (g o .readers) (g o .frame) (P .table) (aroundTask P S (g o))) ∙ sym (reads-at P k S)
 
 -- ---- the call
 module _ (t : Call) (m : Memory) {n : ℕ} (e : n ≡ refusalOf t (sizesOf m)) where

@@ -1,6 +1,6 @@
 -- The laws of the picture: one turn of its recursion; what every macroblock finds and leaves; what a macroblock's call asks.
 use Prim.Native.Nat.{ℕ, zero, suc, _+_, _*_, _≤_, _<_}
-use mathlib.Core.Path.{_≡_, refl, _∙_, ap}
+use mathlib.Core.Path.{_≡_, refl, _∙_}
 use mathlib.Core.Bool.{true}
 use mathlib.Core.List.{List}
 use mathlib.Core.Logic.{⊎-elim}
@@ -15,6 +15,8 @@ use Rattle.modes.specs.Answers.{kindsOf}
 use Rattle.modes.specs.declared.contexts.Context.{Context}
 use Rattle.modes.specs.Contexts.{contextFine, Shaped}
 use Rattle.modes.specs.ContextsLaws.{contexts-fine}
+use Rattle.header.specs.declared.frame.Frame.{Frame}
+use Rattle.macroblock.specs.declared.arguments.Around.{Around}
 use Rattle.lent.specs.Records.{recordsIn, formWidth, columnAt}
 use Rattle.lent.specs.ColumnsLaws.{column-room, columns-set, column-set-length, column-shaped}
 use Rattle.lent.specs.MacroblocksLaws.{mode-set-length, strength-set-length}
@@ -23,6 +25,7 @@ use Rattle.macroblock.specs.Macroblock.{Finished, finished, no-modes, no-tokens
 use Rattle.macroblock.specs.Asked.{Ready, Laid}
 use Rattle.macroblock.specs.DecodeLaws.{flags-of}
 use Rattle.choices.specs.declared.answer.Decoded.the-variants as D
+use Rattle.picture.specs.declared.turn.Task.{Task}
 use Rattle.picture.specs.Turn.{Turned, turned, Room}
 use Rattle.choices.specs.BesideLaws.{beside-none, beside-left}
 use Rattle.picture.specs.TurnLaws.{Ends, ends-of}
@@ -78,17 +81,27 @@ beside-fine column left e z = ⊎-elim
     (λ c. rw (← beside-left column left c) (e, z))
     (eq-or column 0)
 
--- the turn that the code takes, with what it worked out, is macroblock k's
-pub turn-at : (P : Picture) (k : ℕ) (S : State) {T : Turned} (column row q : ℕ) (first tokens : List ℕ)
-    → T ≡ turned (P .form) (S .left) k column (S .mem) (stepOf first tokens (readersAt S q) (P .frame) (P .table) (aroundAt P S column) (record { column = column; row = row; width = P .wide * 16 }) (planesIn (S .mem)))
-    → first ≡ P .first → column ≡ columnOf P k → row ≡ rowOf P k → q ≡ partitionOf P k → tokens ≡ P .token q
+-- what macroblock k is decoded with
+abbrev pub taskAt : Picture → ℕ → State → Task
+taskAt P k S = record { readers = readersAt S (partitionOf P k); frame = P .frame; left = S .left; place = placeOf P k; k = k }
+
+-- as the code makes it, with the partition and the frame that it worked out
+pub task-is : (P : Picture) (k : ℕ) (S : State) {t : Task} {q : ℕ} {f : Frame} → t ≡ record { readers = readersAt S q; frame = f; left = S .left; place = placeOf P k; k = k }
+    → q ≡ partitionOf P k → f ≡ P .frame → t ≡ taskAt P k S
+task-is P k S e c b = e ∙ (λ o. record { readers = readersAt S (c o); frame = b o; left = S .left; place = placeOf P k; k = k })
+
+-- the contexts that it finds
+abbrev pub aroundTask : Picture → State → Task → Around
+aroundTask P S t = record { top = columnAt (P .form) (S .mem .columns) (t .place .column); left = besideOf (t .place .column) (t .left) }
+
+-- the turn that the code takes is macroblock k's
+pub turn-at : (P : Picture) (k : ℕ) (S : State) {T : Turned} {t : Task} (first tokens : List ℕ)
+    → T ≡ turned (P .form) (t .left) (t .k) (t .place .column) (S .mem) (stepOf first tokens (t .readers) (t .frame) (P .table) (aroundTask P S t) (t .place) (planesIn (S .mem)))
+    → t ≡ taskAt P k S → first ≡ P .first → tokens ≡ P .token (partitionOf P k)
     → T ≡ turned (P .form) (S .left) k (columnOf P k) (S .mem) (stepAt P k S)
 unfolding stepAt
-turn-at P k S column row q first tokens e f a b c d =
-    let d′ : tokens ≡ P .token (partitionOf P k) = d ∙ ap (P .token) c in
-    e
-    ∙ (λ o. turned (P .form) (S .left) k (a o) (S .mem)
-    (stepOf (f o) (d′ o) (readersAt S (c o)) (P .frame) (P .table) (aroundAt P S (a o)) (record { column = a o; row = b o; width = P .wide * 16 }) (planesIn (S .mem))))
+turn-at P k S first tokens e g f d =
+    e ∙ (λ o. turned (P .form) (g o .left) (g o .k) (g o .place .column) (S .mem) (stepOf (f o) (d o) (g o .readers) (g o .frame) (P .table) (aroundTask P S (g o)) (g o .place) (planesIn (S .mem))))
 
 module _ (P : Picture) (S : State) (k : ℕ) (s : Shared P) (l : Live P S) (h : k < P .wide * P .high) where
   -- what its call asks
@@ -113,13 +126,6 @@ module _ (P : Picture) (S : State) (k : ℕ) (s : Shared P) (l : Live P S) (h : 
     strengths = rw (l .strengths) (omega arith);
   }
 
-  -- the same for a column and a row that the code works out
-  pub laid-in : {column row : ℕ} → column ≡ columnOf P k → row ≡ rowOf P k → Laid (record { column = column; row = row; width = P .wide * 16 }) (planesIn (S .mem))
-  laid-in e f = rw (e, f) laid-at
-
-  pub room-in : {column : ℕ} → column ≡ columnOf P k → Room (P .form) column k (S .mem .columns) (S .mem .modes) (S .mem .strengths)
-  room-in e = rw e room-at
-
   -- its readers and contexts, for a column and a partition that the code works out
   pub ready-at : (column q : ℕ) → column < P .wide → q < P .count → {first tokens : List ℕ} → first ≡ P .first → tokens ≡ P .token q
       → Ready first tokens (readersAt S q) (P .frame) (P .table) (aroundAt P S column)
@@ -136,6 +142,12 @@ module _ (P : Picture) (S : State) (k : ℕ) (s : Shared P) (l : Live P S) (h : 
         left = flags-of (besideOf column (S .left)) (b .1 .flags) (b .0);
         sound = s .sound;
       }
+
+  -- all that the turn asks
+  pub turn-asks : {t : Task} {first tokens : List ℕ} → t ≡ taskAt P k S → first ≡ P .first → tokens ≡ P .token (partitionOf P k)
+      → Ready first tokens (t .readers) (t .frame) (P .table) (aroundTask P S t)
+      × (Laid (t .place) (planesIn (S .mem)) × Room (P .form) (t .place .column) (t .k) (S .mem .columns) (S .mem .modes) (S .mem .strengths))
+  turn-asks e f d = rw e (ready-at (columnOf P k) (partitionOf P k) (column-below P k h) (partition-below P k h (s .least)) f d, (laid-at, room-at))
 
   pub ends-at : Bytes (P .first) → Bytes (P .token (partitionOf P k)) → (x : Finished) → stepAt P k S ≡ finished x → Ends (P .first) (P .token (partitionOf P k)) (planesIn (S .mem)) x
   unfolding stepAt

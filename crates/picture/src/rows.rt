@@ -1,10 +1,9 @@
 // The macroblocks of a picture in raster order (the source's vp8_image), until one is refused.
-use crate::turn::Task;
+use crate::turn::task_of;
 use crate::turn::turn;
 use choices::answer::Decoded;
 use choices::answer::stopped;
 use header::frame::Frame;
-use macroblock::arguments::Place;
 use macroblock::arguments::Readers;
 use macroblock::arguments::SymbolCounts;
 use macroblock::ending::Finish;
@@ -52,7 +51,26 @@ fn plus(a: SymbolCounts, b: SymbolCounts) -> SymbolCounts
     }
 }
 
-// Row y reads token partition y mod count; the first refusal ends the row and the picture. What a refused macroblock read counts too.
+// How a picture ended, of its parts.
+fn stop(
+    answer: Decoded,
+    reads: SymbolCounts,
+    reader: Reader,
+    readers: [Reader; 8],
+    left: Context,
+) -> PictureStop
+    ensures { λ q. ⌜ q ≡ record { answer = answer; reads = reads; reader = reader; readers = readers; left = left } ⌝ }
+{
+    PictureStop {
+        answer: answer,
+        reads: reads,
+        reader: reader,
+        readers: readers,
+        left: left,
+    }
+}
+
+// Row y reads token partition y mod count; the first refusal ends the picture. What a refused macroblock read counts too.
 pub(crate) fn rows(
     bytes: &[u8],
     tile: Tile,
@@ -82,64 +100,42 @@ pub(crate) fn rows(
         (now (columns .entry)) (now (modes .entry)) (now (strengths .entry))))) ⌝ }
 {
     let wide = tile.width / 16;
-    let high = tile.height / 16;
-    let blocks = wide * high;
+    let blocks = wide * (tile.height / 16);
     let first = part(bytes, tile.first);
     let mut r = tile.reader;
     let mut readers = openers(bytes, tile);
     let mut left = Context::empty();
-    let mut k: usize = 0;
-    let mut answer = Decoded::Whole(blocks);
     let mut reads = SymbolCounts {
         first: 0,
         tokens: 0,
     };
-    let width = wide * 16;
-    'rows: for row in 0..high {
-        let p = pick(row, tile.count);
+    let mut k: usize = 0;
+    while k < blocks {
+        let p = pick(k / wide, tile.count);
         let tokens = token(bytes, tile, p);
-        'across: for column in 0..wide {
-            let t = readers[p];
-            let m = turn(
-                first,
-                tokens,
-                table,
-                Task {
-                    readers: Readers { first: r, token: t },
-                    frame: frame,
-                    left: left,
-                    place: Place {
-                        column: column,
-                        row: row,
-                        width: width,
-                    },
-                    k: k,
-                },
-                &mut y[..],
-                &mut u[..],
-                &mut v[..],
-                &mut columns[..],
-                &mut modes[..],
-                &mut strengths[..],
-            );
-            let finish = m.answer;
-            reads = plus(reads, m.reads);
-            let Finish::Done(after) = finish else {
-                answer = stopped(finish, k);
-                break 'rows;
-            };
-            let token = after.token;
-            r = after.first;
-            readers[p] = token;
-            left = m.left;
-            k = k + 1;
-        }
+        let t = readers[p];
+        let m = turn(
+            first,
+            tokens,
+            table,
+            task_of(Readers { first: r, token: t }, frame, left, wide, k),
+            &mut y[..],
+            &mut u[..],
+            &mut v[..],
+            &mut columns[..],
+            &mut modes[..],
+            &mut strengths[..],
+        );
+        let finish = m.answer;
+        reads = plus(reads, m.reads);
+        let Finish::Done(after) = finish else {
+            return stop(stopped(finish, k), reads, r, readers, left);
+        };
+        let token = after.token;
+        r = after.first;
+        readers[p] = token;
+        left = m.left;
+        k = k + 1;
     }
-    PictureStop {
-        answer: answer,
-        reads: reads,
-        reader: r,
-        readers: readers,
-        left: left,
-    }
+    stop(Decoded::Whole(blocks), reads, r, readers, left)
 }

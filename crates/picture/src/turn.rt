@@ -13,7 +13,7 @@ use macroblock::arguments::SymbolCounts;
 use macroblock::ending::Finish;
 use modes::contexts::Context;
 use whole::decode;
-ghost use Prim.Native.Nat.{_<_};
+ghost use Prim.Native.Nat.{_*_, _/_, _%_, _≤_, _<_};
 ghost use mathlib.Core.Path.{_≡_};
 ghost use Rattle.lent.specs.Memory.{memoryOf};
 ghost use Rattle.lent.specs.Records.{recordsIn, columnWidth, packed, columnAt};
@@ -37,6 +37,30 @@ pub struct Task {
     pub left: Context,
     pub place: Place,
     pub k: usize,
+}
+
+// That of macroblock k, in raster order, of a picture that is `wide` macroblocks wide.
+pub(crate) fn task_of(readers: Readers, frame: Frame, left: Context, wide: usize, k: usize) -> Task
+    requires { ⌜ (0 < wide) × (wide ≤ 1024) ⌝ }
+    ensures { λ r. ⌜ r ≡ record {
+      readers = readers;
+      frame = frame;
+      left = left;
+      place = record { column = k % wide; row = k / wide; width = wide * 16 };
+      k = k;
+    } ⌝ }
+{
+    Task {
+        readers: readers,
+        frame: frame,
+        left: left,
+        place: Place {
+            column: k % wide,
+            row: k / wide,
+            width: wide * 16,
+        },
+        k: k,
+    }
 }
 
 // What a macroblock of that column finds above it and to its left.
