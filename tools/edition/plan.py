@@ -11,7 +11,7 @@ CHAPTERS = [
     ("The header's entries, segments, levels, factors", "sections 9.3, 9.4, 9.6, 9.11 and 14.1", ["header"]),
     ("Partitions of a tile", "section 9.5", ["tile/Partitions", "tile"]),
     ("A macroblock's modes", "sections 10, 11 and 19.3", ["modes/Table", "modes/Modes", "modes"]),
-    ("Prediction", "section 12", ["planes"]),
+    ("Prediction", "section 12", ["predict", "planes"]),
     ("Tokens and coefficients", "section 13", ["reader/Token", "coefficients", "residual"]),
     ("The inverse transforms", "section 14", ["transform"]),
     ("The loop filter", "section 15", ["filter/Strengths", "filter/Kernel", "filter", "straight", "deblock"]),

@@ -18,7 +18,7 @@ use Rattle.filter.specs.declared.strengths.Strength.{Strength}
 use Rattle.tile.specs.Checks.{sidesOf}
 use Rattle.lent.specs.Records.{strengthWidth, strengthAt}
 use Rattle.macroblock.specs.Macroblock.{Planes}
-use Rattle.planes.specs.Predict.{Size}
+use Rattle.predict.specs.Predict.{Size}
 use Rattle.planes.specs.Places.{size-some, next-row}
 use Rattle.deblock.specs.Deblock.{Edge, Done, Change, turns, when, acrossOf, laidBack, keptOf, positionOf, sweepOf, verticalEdges, horizontalEdges, innerAt, squareOf, macroblockEdges, rasterOf, planesDeblocked, deblockLengths, limitsOf, deblockRefusal, deblockOf}
 use Rattle.deblock.specs.DeblockLaws.{Closed, turns-closed, when-closed, inners-closed, square-closed, laid-other, block-no}

@@ -6,7 +6,7 @@ use native.Mathlib.Nat.{add-mul, one-mul, mul-comm, mul-le-mul-right, mod-lt, di
 use native.Mathlib.Omega.{arith}
 use lib.ListN.{length}
 use Rattle.lent.specs.Records.{strengthWidth, strengthAt}
-use Rattle.planes.specs.Predict.{Size}
+use Rattle.predict.specs.Predict.{Size}
 use Rattle.planes.specs.Places.{Square, by-size}
 pub use Rattle.deblock.specs.Moves.{PlaneGrid}
 

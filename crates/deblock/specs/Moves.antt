@@ -3,7 +3,7 @@ use Prim.Native.Nat.{ℕ, zero, suc, _+_, _-_, _*_, _/_, _≤_}
 use mathlib.Core.Bool.{Bool, true, false}
 use lib.ListN.{getD}
 use Rattle.filter.specs.Moves.{farthest}
-use Rattle.planes.specs.Predict.{Size}
+use Rattle.predict.specs.Predict.{Size}
 
 -- A plane of `len` samples that holds wide by high squares of n by n, at most 16384 samples across and down.
 pub record PlaneGrid (len n wide high : ℕ) : Type 0 where

@@ -19,7 +19,7 @@ use Rattle.filter.specs.KernelLaws.{Bytes}
 use Rattle.filter.specs.Moves.{farthest}
 use Rattle.filter.specs.MovesLaws.{moves-at-most}
 use Rattle.filter.specs.declared.strengths.Strength.{Strength}
-use Rattle.planes.specs.Predict.{Size}
+use Rattle.predict.specs.Predict.{Size}
 use Rattle.planes.specs.Places.{Square, by-size, next-row}
 use Rattle.deblock.specs.Deblock.{Edge, Change, turns, when, acrossOf, keptOf, positionOf, sweepOf, verticalEdges, horizontalEdges, innerAt, innersOf, outerEdge, innerEdge, squareOf, macroblockEdges, rasterOf}
 use Rattle.deblock.specs.Moves.{total, tap, line, reachOf, most}

@@ -10,7 +10,7 @@ use lent::macroblocks::read_strength;
 ghost use mathlib.Core.Path.{_≡_};
 ghost use Prim.Native.Nat.{_-_, _*_, _/_, _≤_, _<_};
 ghost use lib.ListN.{length};
-ghost use Rattle.planes.specs.Predict.{Size};
+ghost use Rattle.predict.specs.Predict.{Size};
 ghost use Rattle.planes.specs.Places.{Square};
 ghost use Rattle.deblock.specs.Deblock.{outerEdge, innerEdge, verticalEdges, horizontalEdges, innerAt, innersOf, squareOf};
 ghost use Rattle.deblock.specs.Deblock.{rasterOf};

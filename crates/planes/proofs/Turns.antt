@@ -18,7 +18,7 @@ use Rattle.numbers.specs.Tables.{allBelow}
 use Rattle.numbers.specs.Tests.{both-true, both-false}
 use Rattle.numbers.specs.declared.Checked.the-variants.{Done, Refused}
 use Rattle.planes.specs.declared.edges.Spot.{Spot}
-use Rattle.planes.specs.Predict.{smallBlock}
+use Rattle.predict.specs.Predict.{smallBlock}
 use Rattle.planes.specs.Paint.{blockAboveRight, aroundOf, painted, blockPainted, blocksPainted, smallAt, smallRule, squarePainted, squareBlocks, paintModesFine, squareFine, coefficientsFine, paintFine, paintOf}
 use Rattle.planes.specs.PaintLaws.{blocks-next}
 use Rattle.planes.specs.Places.{Lies, Sub}
@@ -43,15 +43,15 @@ module _ {c : List ℤ} {from : ℕ} {cs : List ℤ} {coded : List Bool} {r : Li
 module _ {c cs : List ℤ} {coded : List Bool} {r : List ℤ} {n : ℕ} (ready : Ready c 0 cs coded r n) (w x y i : ℕ) (h : i < n) {s : Spot} (a : Sub w x y 4 i s)
     {b : Bool} {dc : ℤ} (f : b ≡ getD coded i false) (g : dc ≡ getD c i (pos 0)) (right modes : List ℕ) where
   -- one predicted, and added
-  pub small-turn : (p : List ℕ) {q q′ q″ : List ℕ} → q ≡ blocksPainted (smallRule w x y right modes) p w x y 4 cs i → Lies (length q) w s → getD modes i 0 < 10
+  pub small-turn : (p : List ℕ) {q q′ q″ : List ℕ} → q ≡ blocksPainted (smallRule w x y right modes) p w x y 4 cs i → Lies (length q) w s
       → q′ ≡ painted q w (s .x) (s .y) (smallAt q w (s .x) (s .y) (eqb (i % 4) 3) right (getD modes i 0))
       → Bytes q′ → q″ ≡ cond b (laneAdded q′ w (s .at) r i) (meanAdded q′ w (s .at) dc)
       → q″ ≡ blocksPainted (smallRule w x y right modes) p w x y 4 cs (i + 1)
-  small-turn p {q} {q′} e t k d v o =
+  small-turn p {q} {q′} e t d v o =
       let pred = smallAt q w (s .x) (s .y) (eqb (i % 4) 3) right (getD modes i 0) in
       added-sub ready w x y 4 i h a (t .square .columns) (sym (zero-add i)) f g q′ v o
       ∙ ap (λ (v : List ℕ). blockPainted v w (s .x) (s .y) (standing v w (s .x) (s .y)) cs i) d
-      ∙ painted-then q w (s .x) (s .y) (t .square) pred cs i (small-at-long q w (s .x) (s .y) (eqb (i % 4) 3) right (getD modes i 0) k)
+      ∙ painted-then q w (s .x) (s .y) (t .square) pred cs i (small-at-long q w (s .x) (s .y) (eqb (i % 4) 3) right (getD modes i 0))
       ∙ rw (a .across, a .down) (blocks-next (smallRule w x y right modes) p w x y 4 cs i e)
 
 pub small-is : (p : List ℕ) (w x y : ℕ) (last : Bool) (right : List ℕ) (mode : ℕ) (e : List ℕ) {pred : List ℕ}

@@ -1,8 +1,6 @@
--- Planes: prediction, painting.
-pub mod Predict
-pub mod Pieces
-pub mod PredictLaws
+-- Planes: painting.
 pub mod Paint
+pub mod Pieces
 -- where squares and sub-blocks lie
 pub mod Places
 -- what callers and proofs cite

@@ -15,7 +15,8 @@ use Rattle.transform.specs.Transform.{samplesOf, fits16}
 use Rattle.transform.specs.Lanes.{byBlocks, knownLength}
 use Rattle.numbers.specs.declared.Checked.{Checked}
 use Rattle.numbers.specs.declared.Checked.the-variants.{Done, Refused}
-use Rattle.planes.specs.Predict.{Border, smallBlock, dcOf, largeOf}
+use Rattle.predict.specs.declared.Border.{Border}
+use Rattle.predict.specs.Predict.{smallBlock, dcOf, largeOf}
 
 -- column x, row y
 abbrev pub sampleAt : List ℕ → (w x y : ℕ) → ℕ

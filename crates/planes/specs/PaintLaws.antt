@@ -24,7 +24,8 @@ use Rattle.numbers.specs.Tables.{allBelow, all-below}
 use Rattle.numbers.specs.Tests.{lt-or, eq-or, both-left, both-right, both-true, cond-at, eqb-true, ltb-true, leb-true, lt-ltb, le-leb, eq-eqb}
 use Rattle.transform.specs.Lanes.{byBlocks}
 use Rattle.numbers.specs.declared.Checked.the-variants.{Done, Refused}
-use Rattle.planes.specs.Predict.{Border, Size, dcOf}
+use Rattle.predict.specs.declared.Border.{Border}
+use Rattle.predict.specs.Predict.{Size, dcOf}
 use Rattle.planes.specs.Paint.{sampleAt, nearOf, firstPlaces, edgeOf, aboveRight, rowsPainted, painted, blockCoefficients, blockResidual, summedOf, blockPainted, cellColumn, cellRow, blocksPainted, largeRule, smallRule, predictionRule, squarePainted, squareBlocks, paintModesFine, sideFine, squareFine, coefficientsFine, paintFine, PaintedPlane, paintOf}
 use Rattle.planes.specs.Pieces.{rowsPlaced}
 use Rattle.planes.specs.Places.{Square, Outside, run-inside, sub-square, apart, outside-sub, BlockSides, cell, Within, other, by-size, size-some, quarter, size-sides, tiles}

@@ -9,45 +9,34 @@ use native.Mathlib.Nat.{zero-add, add-zero, add-assoc, one-mul, mul-zero, add-mu
 use native.Mathlib.Omega.{arith}
 use lib.IntN.{ℤ, pos, negsuc, _+ℤ_}
 use lib.Bits.{bitOr, or-add-and, and-le-l, and-le-r, or-lt}
-use lib.Dec.{leb, lit<}
+use lib.Dec.{eqb, leb, lit<}
 use lib.ListN.{length, getD, set, length-set, take, drop, length-take, length-drop, replicate, length-replicate, getD-replicate}
 use lib.Seq.{ext-getD, getD-set-same, getD-set-other, getD-take, getD-drop, length-take-le}
-use lib.Signed.{_≤ℤ_, ltZ, leZ-yes, ≤ℤ-refl}
+use lib.Signed.{_≤ℤ_, ltZ, leZ-yes}
 use mir.Facts.{toZ-inj, fits-ofZ}
 use mir.Syntax.{w16}
 use mir.Val.{SFits, toZ, ofZ}
 use Rattle.numbers.specs.Bounds.{each-[], each-∷}
-use Rattle.numbers.specs.Clamp.{clampZ, clipZ}
-use Rattle.numbers.specs.ClampLaws.{clamp-tests, clamp-cases, clamp-low, clamp-high, upTo-is, upTo-same}
+use Rattle.numbers.specs.Clamp.{clipZ}
+use Rattle.numbers.specs.ClampLaws.{clamp-cases, clamp-low, clamp-high, upTo-is, upTo-same}
 use Rattle.numbers.specs.Hand.{same-bits}
-use Rattle.numbers.specs.In.{In, Each}
+use Rattle.numbers.specs.In.{Each}
 use Rattle.numbers.specs.Lists.{build, built, build-listed, build-same, getD-build, getD-constant, _∷≡_}
-use Rattle.numbers.specs.Parts.{up, nlt-le, of-le, add-parts, lt-parts}
+use Rattle.numbers.specs.Parts.{up, of-le, add-parts, lt-parts}
 use Rattle.numbers.specs.Runs.{placed, placed-none, placed-next, placed-self, placed-same, length-placed}
-use Rattle.numbers.specs.Tests.{lt-or, eq-or, never, not-so, both-left, both-right, both-true, cond-at, leb-true, leb-false, eq-eqb, ne-eqb}
+use Rattle.numbers.specs.Tests.{lt-or, eq-or, never, not-so, both-left, both-right, both-true, leb-true, leb-false, eq-eqb, ne-eqb}
 use Rattle.transform.specs.Transform.{gridRow, samplesOf}
 use Rattle.transform.specs.Lanes.{byBlocks, knownLength, shortResidual, laneResidual, rowPlace, residualsOf}
 use Rattle.transform.specs.LanesLaws.{length-by-blocks, blocks-at, block-is, known-blocks, whole-blocks, residuals-at, residuals-in}
 use Rattle.transform.specs.TransformBounds.{numeral-in}
 use Rattle.transform.specs.TransformLaws.{below-four, below-all, below-next, in-range, shortcut}
-use Rattle.planes.specs.Predict.{Border, Size, dcOf, largeAt, largeOf}
-use Rattle.planes.specs.PredictLaws.{small-long}
-use Rattle.planes.specs.Pieces.{rowsPlaced, tmOne, noLess, noMore, blockCopied, sumAt, rowSums, rowAdded, blockAdded, laneAdded, meanOf, meanAdded, Residual, Fits16, laneAt, Joined, Looked, Marked, Coded, NoneBelow, FirstFit, blocksFine, PlainBlock, Ready, standing, standRule}
+use Rattle.predict.specs.declared.Border.{Border}
+use Rattle.predict.specs.Predict.{Size, tmOne, dcOf, largeAt, largeOf}
+use Rattle.predict.specs.PredictLaws.{small-long}
+use Rattle.planes.specs.Pieces.{rowsPlaced, blockCopied, sumAt, rowSums, rowAdded, blockAdded, laneAdded, meanOf, meanAdded, Residual, Fits16, laneAt, Joined, Looked, Marked, Coded, NoneBelow, FirstFit, blocksFine, PlainBlock, Ready, standing, standRule}
 use Rattle.planes.specs.Paint.{sampleAt, edgeOf, painted, blockResidual, summedOf, blockPainted, cellColumn, cellRow, blocksPainted, largeRule, smallAt, squarePainted, squareBlocks, coefficientsFine}
 use Rattle.planes.specs.PaintLaws.{Bytes, length-block, block-at, rows-none, rows-next, length-rows, rows-off, rows-in, rows-same, painted-rows, length-painted, painted-off, painted-in, length-blocks, blocks-yet, blocks-off, blocks-in, square-large}
-use Rattle.planes.specs.Places.{Square, run-inside, BlockSides, sides-few, cell, within-or, covered, by-size, quarter, size-sides, size-blocks}
-
--- ---- a number taken into 0..255, from below and then from above
-pub no-less-in : {l h v : ℤ} → pos 0 ≤ℤ h → In l h v → In (pos 0) h (noLess v)
-no-less-in {l} {h} {v} p i =
-    cond-at (ltZ v (pos 0)) (In (pos 0) h) (λ e. record { low = ≤ℤ-refl (pos 0); high = p }) (λ e. record { low = nlt-le v (pos 0) e; high = i .high })
-
-pub clipped-so : (v : ℤ) → noMore (noLess v) ≡ clampZ (pos 0) (pos 255) v
-clipped-so v = rw (clamp-tests (pos 0) (pos 255) v) (go (ltZ v (pos 0)))
-  where
-    go : (b : Bool) → noMore (cond b (pos 0) v) ≡ cond b (pos 0) (noMore v)
-    go true = refl
-    go false = refl
+use Rattle.planes.specs.Places.{Square, run-inside, BlockSides, sides-few, cell, within-or, covered, by-size, size-some, size-luma, quarter, size-sides, size-blocks}
 
 -- ---- stores
 pub placed-four : (p : List ℕ) (at : ℕ) (f : ℕ → ℕ) → set (set (set (set p at (f 0)) (at + 1) (f 1)) (at + 2) (f 2)) (at + 3) (f 3) ≡ placed p at f 4
@@ -95,9 +84,9 @@ module _ (p : List ℕ) (w x y n : ℕ) (f : ℕ → ℕ → ℕ) (j : ℕ) {q :
 
 -- ---- a square in a large mode, from what is put for each
 module _ (p : List ℕ) (w x y n mode : ℕ) {e : Border} {q : List ℕ} (d : e ≡ edgeOf p w x y n) where
-  pub predicted-mean : {dc : ℕ} → n ≤ 16 → mode ≡ 0 → dc ≡ dcOf n e → q ≡ rowsPlaced p w x y n (λ j k. getD (replicate 16 dc) k 0) n
+  pub predicted-mean : {dc : ℕ} → Size n → mode ≡ 0 → dc ≡ dcOf (cond (eqb n 16) 16 8) e → q ≡ rowsPlaced p w x y n (λ j k. getD (replicate 16 dc) k 0) n
       → q ≡ rowsPlaced p w x y n (largeAt mode (dcOf n (edgeOf p w x y n)) (edgeOf p w x y n)) n
-  predicted-mean {dc} h m c g = g ∙ rows-same p w x y n _ (λ j k. dc) n (λ j k a b. getD-replicate 16 k dc 0 (omega arith)) ∙ rw (m, c, d)
+  predicted-mean {dc} s m c g = g ∙ rows-same p w x y n _ (λ j k. dc) n (λ j k a b. getD-replicate 16 k dc 0 (omega (arith, size-some s))) ∙ rw (m, c, size-luma s, d)
 
   pub predicted-tm : mode ≡ 1 → q ≡ rowsPlaced p w x y n (λ j k. tmOne (getD (e .left) j 0) (getD (e .above) k 0) (e .corner)) n
       → q ≡ rowsPlaced p w x y n (largeAt mode (dcOf n (edgeOf p w x y n)) (edgeOf p w x y n)) n
@@ -329,9 +318,9 @@ module _ (p : List ℕ) (w x y m mode dc : ℕ) (e : Border) (cs : List ℤ) (s 
             ∙ sym (blocks-off (largeRule m mode dc e) p w x y m cs (m * m) c r s t (omega arith) h k)
       ])
 
-pub small-at-long : (p : List ℕ) (w x y : ℕ) (last : Bool) (right : List ℕ) (mode : ℕ) → mode < 10 → length (smallAt p w x y last right mode) ≡ 16
+pub small-at-long : (p : List ℕ) (w x y : ℕ) (last : Bool) (right : List ℕ) (mode : ℕ) → length (smallAt p w x y last right mode) ≡ 16
 unfolding smallAt
-small-at-long p w x y last right mode h = small-long mode _ h
+small-at-long p w x y last right mode = small-long mode _
 
 -- ---- a square in a large mode, put and then added
 pub square-put : (p : List ℕ) (w x y n mode : ℕ) (cs : List ℤ) {q q′ : List ℕ} → Size n → Square (length p) w x y n

@@ -1,6 +1,6 @@
 -- Where squares and sub-blocks lie in a plane of `len` samples, w to a row.
 use Prim.Native.Nat.{ℕ, _+_, _-_, _*_, _/_, _%_, _^_, _≤_, _<_}
-use mathlib.Core.Bool.{false}
+use mathlib.Core.Bool.{false, cond}
 use mathlib.Core.Logic.{_⊎_, inl, inr}
 use mathlib.Core.Path.{_≡_, refl, sym, _∙_, ap, subst}
 use native.Mathlib.Decide.{decLt, ℕ-discrete}
@@ -11,7 +11,7 @@ use lib.Dec.{eqb}
 use Rattle.numbers.specs.Runs.{Off}
 use Rattle.numbers.specs.Tests.{lt-or, eqb-false}
 use Rattle.planes.specs.declared.edges.Spot.{Spot}
-use Rattle.planes.specs.Predict.{Size}
+use Rattle.predict.specs.Predict.{Size}
 use Rattle.planes.specs.Paint.{cellColumn, cellRow}
 
 -- ---- in the plane
@@ -252,6 +252,9 @@ by-size P a b (inr e) = subst P (sym e) b
 
 pub size-some : {n : ℕ} → Size n → (0 < n) × (n ≤ 16)
 size-some s = by-size (λ (n : ℕ). (0 < n) × (n ≤ 16)) (omega arith, omega arith) (omega arith, omega arith) s
+
+pub size-luma : {n : ℕ} → Size n → cond (eqb n 16) 16 8 ≡ n
+size-luma s = by-size (λ (n : ℕ). cond (eqb n 16) 16 8 ≡ n) refl refl s
 
 -- a square of n by n as sub-blocks
 pub quarter : {n : ℕ} → Size n → 4 * (n / 4) ≡ n

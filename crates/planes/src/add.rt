@@ -1,6 +1,6 @@
 // The residual, added to what stands in the plane (RFC 6386, section 14.5).
-use crate::predict::clipped;
 use crate::put::copy_row;
+use predict::clipped;
 ghost use mathlib.Core.Path.{_≡_};
 ghost use mathlib.Core.Bool.{cond};
 ghost use Prim.Native.Nat.{_+_, _<_, _≤_};

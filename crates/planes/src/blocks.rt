@@ -4,16 +4,16 @@ use crate::edges::Spot;
 use crate::edges::above_right;
 use crate::edges::around;
 use crate::edges::place;
-use crate::predict::small_block;
 use crate::put::predict;
 use crate::put::put_block;
+use predict::small_block;
 ghost use mathlib.Core.Path.{_≡_};
 ghost use mathlib.Core.Bool.{true, false};
 ghost use mathlib.Core.List.{[]};
-ghost use Prim.Native.Nat.{ℕ, _+_, _*_, _/_, _<_, _≤_};
+ghost use Prim.Native.Nat.{_+_, _*_, _/_, _<_, _≤_};
 ghost use lib.IntN.{pos};
-ghost use lib.ListN.{length, getD, replicate};
-ghost use Rattle.planes.specs.Predict.{Size};
+ghost use lib.ListN.{length, replicate};
+ghost use Rattle.predict.specs.Predict.{Size};
 ghost use Rattle.planes.specs.Paint.{painted, blocksPainted, smallAt, smallRule, squarePainted, squareBlocks};
 ghost use Rattle.planes.specs.Places.{Square, BlockSides, Lies, Sub};
 ghost use Rattle.planes.specs.Pieces.{Joined, Looked, Marked, Coded, NoneBelow, FirstFit, Ready, standRule};
@@ -132,7 +132,6 @@ fn add_blocks(
 fn predict_small(p: &mut [u8], w: usize, s: Spot, last: bool, right: [u8; 4], mode: u8)
     requires { ⌜ Lies (length (now p)) w s ⌝ }
     requires { ⌜ (last ≡ false → s .x + 8 ≤ w) ⌝ }
-    requires { ⌜ mode < 10 ⌝ }
     ensures { λ _. ⌜ now (p .exit) ≡ painted (now (p .entry)) w (s .x) (s .y) (smallAt (now (p .entry)) w (s .x) (s .y) last right mode) ⌝ }
 {
     let e = around(&p[..], w, s, last, right);
@@ -153,7 +152,6 @@ fn small_blocks(
     c: &[i16],
 )
     requires { ⌜ Square (length (now p)) w x y 16 ⌝ }
-    requires { ⌜ ((k : ℕ) → k < 16 → getD (now modes) k 0 < 10) ⌝ }
     requires { ⌜ Ready (now c) 0 (squareBlocks 16 0 (now c)) (now coded) (now r) 16 ⌝ }
     ensures { λ _. ⌜ now (p .exit) ≡ blocksPainted (smallRule w x y right (now (modes .entry))) (now (p .entry)) w x y 4
         (squareBlocks 16 0 (now (c .entry))) 16 ⌝ }
@@ -179,7 +177,6 @@ pub(crate) fn small_square(
 )
     requires { ⌜ Square (length (now p)) w x y 16 ⌝ }
     requires { ⌜ (x + 16 < w → x + 20 ≤ w) ⌝ }
-    requires { ⌜ ((k : ℕ) → k < 16 → getD (now modes) k 0 < 10) ⌝ }
     requires { ⌜ Ready (now c) 0 (squareBlocks 16 0 (now c)) (now coded) (now r) 16 ⌝ }
     ensures { λ _. ⌜ now (p .exit)
         ≡ squarePainted (now (p .entry)) w x y 16 true 0 (now (modes .entry)) (squareBlocks 16 0 (now (c .entry))) ⌝ }

@@ -1,7 +1,7 @@
 // Whether the arguments of the public call lie in their ranges. Nothing is multiplied before it is known to be small.
 ghost use mathlib.Core.Path.{_≡_};
 ghost use Prim.Native.Nat.{_*_, _≤_};
-ghost use Rattle.planes.specs.Predict.{Size};
+ghost use Rattle.predict.specs.Predict.{Size};
 ghost use Rattle.planes.specs.Paint.{modesBelow, paintModesFine, sideFine, squareFine};
 ghost use Rattle.planes.specs.Pieces.{blocksFine};
 

@@ -1,5 +1,6 @@
 // What lies around a square or a sub-block of a plane (RFC 6386, sections 12.2 and 12.3). Outside the plane 127 lies above, the corner
 // too, and 129 to the left.
+use predict::Border;
 ghost use mathlib.Core.Path.{_≡_};
 ghost use mathlib.Core.Bool.{false};
 ghost use Prim.Native.Nat.{_+_, _*_, _<_, _≤_};
@@ -77,16 +78,6 @@ fn four_left(p: &[u8], w: usize, s: Spot) -> [u8; 4]
     }
     let at = s.at - 1;
     [p[at], p[at + w], p[at + 2 * w], p[at + 3 * w]]
-}
-
-// What lies around a macroblock's square: the row above, the column to the left (of both the first 8 or 16), the corner, and
-// whether the row above and the column to the left are inside the picture.
-pub(crate) struct Border {
-    pub above: [u8; 16],
-    pub left: [u8; 16],
-    pub corner: u8,
-    pub above_inside: bool,
-    pub left_inside: bool,
 }
 
 // The row above a square, and the column left of it.

@@ -1,10 +1,9 @@
-// Planes of samples: the prediction of a macroblock's square, its residual added, and both painted (RFC 6386, sections 12 and 14.5).
+// Planes of samples: a macroblock's square predicted from what lies around it, and its residual added (RFC 6386, sections 12 and 14.5).
 // A plane is lent: the sample at column x of row y is element y * stride + x.
 mod add;
 mod blocks;
 mod checks;
 mod edges;
-mod predict;
 mod put;
 
 use numbers::Checked;

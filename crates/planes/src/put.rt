@@ -1,15 +1,15 @@
 // What is predicted, put into the plane.
-use crate::edges::Border;
 use crate::edges::edge;
 use crate::edges::place;
-use crate::predict::large_dc;
-use crate::predict::tm_wide;
+use predict::Border;
+use predict::large_dc;
+use predict::tm_wide;
 ghost use mathlib.Core.Path.{_≡_};
 ghost use Prim.Native.Nat.{_+_, _<_, _≤_};
 ghost use lib.ListN.{length, getD};
 ghost use Rattle.numbers.specs.Runs.{placed};
-ghost use Rattle.planes.specs.Predict.{Size, dcOf, largeAt};
-ghost use Rattle.planes.specs.Pieces.{rowsPlaced, tmOne, blockCopied};
+ghost use Rattle.predict.specs.Predict.{Size, tmOne, dcOf, largeAt};
+ghost use Rattle.planes.specs.Pieces.{rowsPlaced, blockCopied};
 ghost use Rattle.planes.specs.Paint.{edgeOf};
 ghost use Rattle.planes.specs.Places.{Square, Block};
 
@@ -110,7 +110,7 @@ pub(crate) fn predict(p: &mut [u8], w: usize, x: usize, y: usize, size: usize, m
     let above = e.above;
     let left = e.left;
     match mode {
-        0 => put_same(p, w, x, y, size, [large_dc(size, e); 16]),
+        0 => put_same(p, w, x, y, size, [large_dc(size == 16, e); 16]),
         1 => put_tm(p, w, x, y, size, e),
         2 => put_same(p, w, x, y, size, above),
         _ => put_left(p, w, x, y, size, left),

@@ -3,11 +3,11 @@
 -- and its arguments' own names. tools/determined.py, in the gate, compares the two word by word.
 use mathlib.Core.Path.{_≡_, refl, sym, _∙_}
 use Prim.Native.Nat.{ℕ}
-use mathlib.Core.Bool.{Bool}
+use mathlib.Core.Bool.{Bool, cond}
 use mathlib.Core.List.{List}
 use Rattle.numbers.specs.Lists.{byteAt}
 use lib.IntN.{ℤ, pos}
-use Rattle.numbers.specs.Clamp.{upTo, signedByteZ}
+use Rattle.numbers.specs.Clamp.{upTo, clipZ, signedByteZ}
 use Rattle.numbers.specs.Wrap.{wrap16Of}
 use Rattle.reader.specs.Boolean.{validOf, firstReader, symbolAnswer}
 use Rattle.reader.specs.Reading.{run}
@@ -47,6 +47,8 @@ use Rattle.tile.specs.Partitions.{pickOf, contentsOf, tokenContents, readersOf}
 use Rattle.modes.specs.declared.answers.Kinds.{Kinds}
 use Rattle.modes.specs.declared.contexts.Context.{Context}
 use Rattle.residual.specs.Residual as Residual
+use Rattle.predict.specs.declared.Border.{Border}
+use Rattle.predict.specs.Predict.{tmWide, smallBlock, dcOf}
 use Rattle.planes.specs.Paint.{paintOf, squareBlocks}
 use Rattle.header.specs.Frame.{announcedOf, framedOf}
 use Rattle.header.specs.declared.frame.Announced.{Announced}
@@ -398,6 +400,23 @@ residual-decode-header-reads s r h segment small skip top left out = determined 
 -- residual::contexts::cleared
 pub residual-cleared : (flags : List ℕ) (small : Bool) → One (λ o. o ≡ Residual.cleared small flags)
 residual-cleared flags small = determined (Residual.cleared small flags)
+
+-- ---- predict
+-- predict::clipped
+pub predict-clipped : (v : ℤ) → One (λ o. o ≡ clipZ v)
+predict-clipped v = determined (clipZ v)
+
+-- predict::small_block
+pub predict-small-block : (mode : ℕ) (e : List ℕ) → One (λ o. o ≡ smallBlock mode e)
+predict-small-block mode e = determined (smallBlock mode e)
+
+-- predict::large_dc
+pub predict-large-dc : (luma : Bool) (e : Border) → One (λ o. o ≡ dcOf (cond luma 16 8) e)
+predict-large-dc luma e = determined (dcOf (cond luma 16 8) e)
+
+-- predict::tm_wide
+pub predict-tm-wide : (l : ℕ) (a : List ℕ) (corner : ℕ) → One (λ o. o ≡ tmWide l a corner)
+predict-tm-wide l a corner = determined (tmWide l a corner)
 
 -- ---- planes
 -- planes::paint

@@ -40,7 +40,7 @@ use Rattle.macroblock.specs.Macroblock.{endOf, stepOf}
 use Rattle.choices.specs.Beside.{besideOf}
 use Rattle.picture.specs.Picture.{stepAt, runOf, picturedOf, begunOf, Ended, pictureOf}
 use Rattle.planes.specs.Paint.{nearOf, fourAbove, fourLeft, firstPlaces, edgeOf, aboveRight, blockAboveRight, aroundOf, rowsPainted, blockCoefficients, blockResidual, summedOf, blockPainted, blocksPainted, smallAt, predictionRule, squarePainted}
-use Rattle.planes.specs.Predict.{dcBlock, sumOfFirst}
+use Rattle.predict.specs.Predict.{dcBlock, sumOfFirst}
 use Rattle.transform.specs.Transform.{gridOf, transposeOf, scaledOf, passOf, rowsOf, verticalPass, horizontalPass, resultsOf, samplesOf}
 use Rattle.promises.specs.Refusals.{Fine, fine-is}
 use Rattle.promises.specs.Isolation.{SameTokens, Alike, Stopped, Isolated}

@@ -44,7 +44,7 @@ use Rattle.macroblock.specs.Macroblock.{endOf, stepOf}
 use Rattle.choices.specs.Beside.{besideOf}
 use Rattle.picture.specs.Picture.{stepAt, runOf}
 use Rattle.planes.specs.Paint.{nearOf, fourAbove, fourLeft, firstPlaces, edgeOf, aboveRight, blockAboveRight, aroundOf, rowsPainted, blockCoefficients, blockResidual, summedOf, blockPainted, blocksPainted, smallAt, predictionRule, squarePainted}
-use Rattle.planes.specs.Predict.{dcBlock, sumOfFirst}
+use Rattle.predict.specs.Predict.{dcBlock, sumOfFirst}
 use Rattle.transform.specs.Transform.{gridOf, transposeOf, scaledOf, passOf, rowsOf, verticalPass, horizontalPass, resultsOf, samplesOf}
 use Rattle.witnesses.specs.Witness.{heldOf, whole, cut}
 

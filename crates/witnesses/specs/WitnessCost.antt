@@ -39,7 +39,7 @@ use Rattle.macroblock.specs.Macroblock.{Step, finished, no-modes, no-tokens, en
 use Rattle.choices.specs.Beside.{besideOf}
 use Rattle.picture.specs.Picture.{Picture, State, nextOf, stepAt, runOf, picturedOf, begunOf, pictureOf}
 use Rattle.planes.specs.Paint.{nearOf, fourAbove, fourLeft, firstPlaces, edgeOf, aboveRight, blockAboveRight, aroundOf, rowsPainted, blockCoefficients, blockResidual, summedOf, blockPainted, blocksPainted, smallAt, predictionRule, squarePainted}
-use Rattle.planes.specs.Predict.{dcBlock, sumOfFirst}
+use Rattle.predict.specs.Predict.{dcBlock, sumOfFirst}
 use Rattle.transform.specs.Transform.{gridOf, transposeOf, scaledOf, passOf, rowsOf, verticalPass, horizontalPass, resultsOf, samplesOf}
 use Rattle.promises.specs.Refusals.{Fine}
 use Rattle.filter.specs.Strengths.{slowed, innerOf, thresholdOf, strengthOf, strengthAnswer}

@@ -7,7 +7,7 @@ use native.Mathlib.Omega.{arith}
 use borrow.Author.Needs.{needs}
 use borrow.Author.Tests.{not-true, not-false}
 use lib.ListN.{length}
-use Rattle.planes.specs.Predict.{Size}
+use Rattle.predict.specs.Predict.{Size}
 use Rattle.planes.specs.Paint.{paintModesFine, squareFine, squarePainted, squareBlocks, paintFine}
 use Rattle.planes.specs.PaintLaws.{Good, modes-size, square-tiled, checks-good, luma-square, luma-whole, small-any, large-any}
 use Rattle.planes.specs.Places.{size-some}
@@ -89,7 +89,7 @@ small-square-requires c κs =
     let t = c .before .before .before in
     let g = good (t .before) in
     let e = t .if5 .taken in
-    (luma-square g e, (luma-whole g e, (g .each e, ready-all _ (g .luma e) (all t) (ready (t .before .before .before)))))
+    (luma-square g e, (luma-whole g e, ready-all _ (g .luma e) (all t) (ready (t .before .before .before))))
 
 large-square-requires : tie.Need-large-square-requires
 large-square-requires c κs =

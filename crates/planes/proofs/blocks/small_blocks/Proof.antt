@@ -36,8 +36,7 @@ predict-small-requires : tie.Need-predict-small-requires Inv-loop μ-loop
 predict-small-requires c κs =
     let t = c .before .before in
     let r = t .before .before .before .before .pre in
-    let i = t .before .before .loop .i in
-    (lies t, (λ e. omega (arith, not-last i e, r .0 .columns, t .sub-block .ensures .across), r .1 .0 i (omega arith)))
+    (lies t, λ e. omega (arith, not-last (t .before .before .loop .i) e, r .0 .columns, t .sub-block .ensures .across))
 
 -- the first coefficient, as it is read
 abbrev turn : tie.After-add-arg3 Inv-loop μ-loop → tie.After-sub-block Inv-loop μ-loop
@@ -52,7 +51,7 @@ dc c = taken (first c) (c .add-arg3 .given)
 add-requires : tie.Need-add-requires Inv-loop μ-loop
 add-requires c κs =
     let d = c .before .before .before .before .before in
-    (lies-block (still d), (omega arith, turn c .before .before .before .before .pre .1 .1 .near))
+    (lies-block (still d), (omega arith, turn c .before .before .before .before .pre .1 .near))
 
 loop-again : tie.Need-loop-again Inv-loop μ-loop
 loop-again c =
@@ -62,8 +61,8 @@ loop-again c =
     let s = t .before .before .before .before in
     let l = t .before .before .loop in (
       omega arith,
-      small-turn (s .pre .1 .1) _ _ _ (l .i) (omega arith) (t .sub-block .ensures) refl (dc (n .before) .eq) (s .args .right) (s .args .modes .now) _
-          (l .inv .1) (lies t) (s .pre .1 .0 (l .i) (omega arith)) (d .predict-small .ensures) (n .add .ensures .1) (n .add .ensures .0),
+      small-turn (s .pre .1) _ _ _ (l .i) (omega arith) (t .sub-block .ensures) refl (dc (n .before) .eq) (s .args .right) (s .args .modes .now) _
+          (l .inv .1) (lies t) (d .predict-small .ensures) (n .add .ensures .1) (n .add .ensures .0),
       below-next (λ (j : ℕ). Fits16 (getD (s .args .c .now) (0 + j) (pos 0))) (l .i) (subst (λ (k : ℕ). Fits16 (getD (s .args .c .now) k (pos 0))) (sym (zero-add (l .i))) (inside (dc (n .before)))) (l .inv .2),
     )
 
@@ -75,6 +74,6 @@ small-blocks-spec =
     tie.close
     (tie.spec Inv-loop μ-loop (λ c. (omega arith, sym (blocks-none _ _ _ _ _ _ _), λ j h. absurd (omega arith)))
     (λ c κs. let r = c .before .before .before .pre in (inr refl, (omega arith, (r .0 .columns, r .0 .wide, r .0 .high)))) (λ c. omega arith) predict-small-requires
-    (λ c. omega arith) (λ c. omega arith) (λ c. omega (arith, c .before .before .before .before .before .before .before .before .before .before .before .pre .1 .1 .room))
+    (λ c. omega arith) (λ c. omega arith) (λ c. omega (arith, c .before .before .before .before .before .before .before .before .before .before .before .pre .1 .room))
     add-requires (λ c. omega arith) (λ c. omega arith) loop-again
     (λ c. rw (c .before .loop .inv .1) (length-blocks _ _ _ _ _ _ _ _)) returns)

@@ -13,7 +13,7 @@ returns c =
     let d = c .before .before in
     let m = d .before .before .before in
     let s = m .before .before .before .before .before .before in
-    predicted-mean _ _ _ _ _ _ (m .before .before .before .edge .ensures) (size-some (s .pre .1 .0) .1) (m .match .keys1) (d .before .large-dc .ensures) (d .put-same .ensures)
+    predicted-mean _ _ _ _ _ _ (m .before .before .before .edge .ensures) (s .pre .1 .0) (m .match .keys1) (d .before .large-dc .ensures) (d .put-same .ensures)
 
 returns-2 : tie.Need-returns-2
 returns-2 c = let d = c .before .before in let m = d .before .before in predicted-tm _ _ _ _ _ _ (m .before .before .before .edge .ensures) (m .match .keys2) (d .put-tm .ensures)

@@ -5,9 +5,10 @@ use Prim.Native.Nat.{ℕ, _-_, _≤_}
 use native.Mathlib.Omega.{arith}
 use lib.ListN.{getD}
 use Rattle.numbers.specs.Lists.{getD-build}
+use Rattle.predict.specs.Predict.{tmOne}
 use Rattle.planes.specs.PaintLaws.{rows-none, length-rows}
 use Rattle.planes.specs.Places.{size-some}
-use Rattle.planes.specs.Pieces.{rowsPlaced, tmOne}
+use Rattle.planes.specs.Pieces.{rowsPlaced}
 use Rattle.planes.specs.PiecesLaws.{row-room, row-turn}
 use Rattle.planes.proofs.put.put_tm.Statement.{statement}
 use Rattle.planes.proofs.put.put_tm.Tie as tie
