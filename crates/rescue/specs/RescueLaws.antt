@@ -28,10 +28,11 @@ use Rattle.choices.specs.Checks.{Call}
 use Rattle.choices.specs.Answer.{valuesOf}
 use Rattle.choices.specs.Beside.{besideOf}
 use Rattle.picture.specs.Picture.{Picture, State, picturedOf, columnOf, partitionOf, planesIn, placeOf, readersAt, aroundAt, written, nextOf}
-use Rattle.picture.specs.Turn.{Turned, turned}
+use Rattle.picture.specs.declared.turn.Task.{Task}
+use Rattle.picture.specs.Turn.{Turned, turned, Room}
 use Rattle.picture.specs.TurnLaws.{Ends, ends-from}
 use Rattle.picture.specs.Live.{Shared, Live}
-use Rattle.picture.specs.PictureLaws.{live-next, column-below, partition-below, laid-at, ready-at}
+use Rattle.picture.specs.PictureLaws.{taskAt, aroundTask, live-next, column-below, partition-below, laid-at, room-at, ready-at}
 use Rattle.picture.specs.Halt.{Halted, haltedOf}
 use Rattle.picture.specs.HaltLaws.{Alive, halted-alive}
 use Rattle.rescue.specs.ChecksLaws.{rescue-fine}
@@ -67,35 +68,38 @@ pub at-never : (P : Picture) (k : ℕ) (S : State) → rebuiltAt P k S ≡ no-to
 unfolding rebuiltAt
 at-never P k S e = rebuilt-never (P .first) (readersAt S (partitionOf P k)) (P .frame) (aroundAt P S (columnOf P k)) (placeOf P k) (planesIn (S .mem)) e
 
--- the turn that the code takes, with what it worked out, is macroblock k's
-pub rebuilt-turn : (P : Picture) (k : ℕ) (S : State) {T : Turned} (q : ℕ) (first : List ℕ) (f : Frame)
-    → T ≡ turned (P .form) (S .left) k (k % P .wide) (S .mem) (rebuiltOf first (readersAt S q) f (aroundAt P S (k % P .wide)) (record { column = k % P .wide; row = k / P .wide; width = P .wide * 16 }) (planesIn (S .mem)))
-    → first ≡ P .first → f ≡ P .frame → q ≡ partitionOf P k → T ≡ turned (P .form) (S .left) k (columnOf P k) (S .mem) (rebuiltAt P k S)
+-- the turn that the code takes is macroblock k's
+pub rebuilt-turn : (P : Picture) (k : ℕ) (S : State) {T : Turned} {t : Task} (first : List ℕ)
+    → T ≡ turned (P .form) (t .left) (t .k) (t .place .column) (S .mem) (rebuiltOf first (t .readers) (t .frame) (aroundTask P S t) (t .place) (planesIn (S .mem)))
+    → t ≡ taskAt P k S → first ≡ P .first → T ≡ turned (P .form) (S .left) k (columnOf P k) (S .mem) (rebuiltAt P k S)
 unfolding rebuiltAt
-rebuilt-turn P k S q first f e a b c =
-    e ∙ (λ o. turned (P .form) (S .left) k (k % P .wide) (S .mem) (rebuiltOf (a o) (readersAt S (c o)) (b o) (aroundAt P S (k % P .wide)) (record { column = k % P .wide; row = k / P .wide; width = P .wide * 16 }) (planesIn (S .mem))))
+rebuilt-turn P k S first e g a =
+    e ∙ (λ o. turned (P .form) (g o .left) (g o .k) (g o .place .column) (S .mem) (rebuiltOf (a o) (g o .readers) (g o .frame) (aroundTask P S (g o)) (g o .place) (planesIn (S .mem))))
 
 module _ (P : Picture) (S : State) (k : ℕ) (s : Shared P) (l : Live P S) (h : k < P .wide * P .high) where
   -- what its call asks
-  pub legible-at : {first : List ℕ} {f : Frame} → first ≡ P .first → f ≡ P .frame → Legible first (S .reader) f (aroundAt P S (columnOf P k))
-  legible-at a b =
-      rw (a, b) (ready-legible (ready-at P S k s l h (columnOf P k) (partitionOf P k) (column-below P k h) (partition-below P k h (s .least)) refl refl))
+  pub legible-at : {first : List ℕ} → first ≡ P .first → Legible first (S .reader) (P .frame) (aroundAt P S (columnOf P k))
+  legible-at a = ready-legible (ready-at P S k s l h (columnOf P k) (partitionOf P k) (column-below P k h) (partition-below P k h (s .least)) a refl)
 
-  pub held-at : {q : ℕ} → q ≡ partitionOf P k → Held (getD (S .readers) q noReader)
-  held-at {q} e = rw e (record { tokens = P .token (partitionOf P k); valid = l .tokens (partitionOf P k) (partition-below P k h (s .least)) })
+  pub rebuilt-asks : {t : Task} {first : List ℕ} → t ≡ taskAt P k S → first ≡ P .first
+      → Legible first (t .readers .first) (t .frame) (aroundTask P S t)
+      × (Held (t .readers .token) × (Laid (t .place) (planesIn (S .mem)) × Room (P .form) (t .place .column) (t .k) (S .mem .columns) (S .mem .modes) (S .mem .strengths)))
+  rebuilt-asks e a =
+      rw e
+      (legible-at a, (record { tokens = P .token (partitionOf P k); valid = l .tokens (partitionOf P k) (partition-below P k h (s .least)) }, (laid-at P S k s l h, room-at P S k s l h)))
 
   -- what it leaves
   module _ (a : Bytes (P .first)) (x : Finished) (e : rebuiltAt P k S ≡ finished x) where
     pub ends-rebuilt-at : Ends (P .first) (P .token (partitionOf P k)) (planesIn (S .mem)) x
     ends-rebuilt-at =
         ends-rebuilt (P .first) (P .token (partitionOf P k)) (readersAt S (partitionOf P k)) (P .frame) (aroundAt P S (columnOf P k)) (placeOf P k) (planesIn (S .mem))
-        (legible-at refl refl) (laid-at P S k s l h) a (l .tokens (partitionOf P k) (partition-below P k h (s .least))) x (sym (rebuilt-at P k S) ∙ e)
+        (legible-at refl) (laid-at P S k s l h) a (l .tokens (partitionOf P k) (partition-below P k h (s .least))) x (sym (rebuilt-at P k S) ∙ e)
 
     -- and what it does not touch
     pub outside-rebuilt-at : Elsewhere (placeOf P k) (planesIn (S .mem)) (x .planes)
     outside-rebuilt-at =
         rebuilt-outside (P .first) (readersAt S (partitionOf P k)) (P .frame) (aroundAt P S (columnOf P k)) (placeOf P k) (planesIn (S .mem))
-        (legible-at refl refl) a (sym (rebuilt-at P k S) ∙ e) (P .token (partitionOf P k)) (l .tokens (partitionOf P k) (partition-below P k h (s .least))) (laid-at P S k s l h)
+        (legible-at refl) a (sym (rebuilt-at P k S) ∙ e) (P .token (partitionOf P k)) (l .tokens (partitionOf P k) (partition-below P k h (s .least))) (laid-at P S k s l h)
 
 -- ---- one turn
 pub rest-none : (P : Picture) (k : ℕ) (S : State) → restOf 0 P k S ≡ savedAt k (S .mem)

@@ -1,12 +1,11 @@
 // The macroblocks after the stop, in raster order, each rebuilt from its modes, until these run out. Token partitions are no longer read.
+use crate::turn::task_of;
 use crate::turn::turn;
 use choices::answer::Decoded;
 use header::frame::take;
-use macroblock::arguments::Place;
 use macroblock::arguments::Readers;
 use macroblock::ending::Finish;
 use picture::rows::PictureStop;
-use picture::turn::Task;
 use tile::Tile;
 use tile::partitions::part;
 use tile::partitions::pick;
@@ -62,22 +61,11 @@ pub(crate) fn rest(
     let mut left = stop.left;
     let mut k = from;
     while k < blocks {
-        let row = k / wide;
-        let p = pick(row, tile.count);
+        let p = pick(k / wide, tile.count);
         let t = readers[p];
         let m = turn(
             first,
-            Task {
-                readers: Readers { first: r, token: t },
-                frame: frame,
-                left: left,
-                place: Place {
-                    column: k % wide,
-                    row: row,
-                    width: wide * 16,
-                },
-                k: k,
-            },
+            task_of(Readers { first: r, token: t }, frame, left, wide, k),
             &mut y[..],
             &mut u[..],
             &mut v[..],

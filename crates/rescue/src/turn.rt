@@ -1,14 +1,18 @@
 // One macroblock in its place, rebuilt from its modes: the picture's turn without tokens. Where its modes run out nothing is written.
 use choices::beside::beside;
+use header::frame::Frame;
 use lent::columns::read_column;
 use lent::columns::write_column;
 use lent::macroblocks::write_mode_record;
 use lent::macroblocks::write_strength;
 use macroblock::arguments::Around;
+use macroblock::arguments::Place;
+use macroblock::arguments::Readers;
 use macroblock::ending::Finish;
 use modes::contexts::Context;
 use picture::turn::Task;
 use rebuilt::rebuild;
+ghost use Prim.Native.Nat.{_*_, _/_, _%_, _≤_, _<_};
 ghost use mathlib.Core.Path.{_≡_};
 ghost use Rattle.lent.specs.Memory.{memoryOf};
 ghost use Rattle.lent.specs.Records.{packed, columnAt};
@@ -24,6 +28,30 @@ ghost use Rattle.rescue.specs.Rescue.{Held};
 pub(crate) struct RebuiltTurn {
     pub answer: Finish,
     pub left: Context,
+}
+
+// What macroblock k is rebuilt with, in raster order, of a picture that is `wide` macroblocks wide.
+pub(crate) fn task_of(readers: Readers, frame: Frame, left: Context, wide: usize, k: usize) -> Task
+    requires { ⌜ (0 < wide) × (wide ≤ 1024) ⌝ }
+    ensures { λ r. ⌜ r ≡ record {
+      readers = readers;
+      frame = frame;
+      left = left;
+      place = record { column = k % wide; row = k / wide; width = wide * 16 };
+      k = k;
+    } ⌝ }
+{
+    Task {
+        readers: readers,
+        frame: frame,
+        left: left,
+        place: Place {
+            column: k % wide,
+            row: k / wide,
+            width: wide * 16,
+        },
+        k: k,
+    }
 }
 
 pub(crate) fn turn(
