@@ -9,7 +9,7 @@ use lib.Dec.{ltb, leb, eqb, lit<}
 use lib.IntN.{ℤ, pos, negsuc}
 use lib.ListN.{length, getD, set, length-set, List·getD-eq-default}
 use Rattle.numbers.specs.Bounds.{each-set}
-use Rattle.numbers.specs.In.{In, Each}
+use Rattle.numbers.specs.In.{Each}
 use Rattle.numbers.specs.Lists.{length-build, getD-build}
 use Rattle.numbers.specs.Parts.{le-true}
 use Rattle.numbers.specs.Tables.{allOf, allBelow, all-of-any, all-below}

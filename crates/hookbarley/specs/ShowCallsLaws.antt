@@ -7,10 +7,10 @@ use lib.ListN.{length}
 use borrow.Author.Tests.{eq-eqb, ne-eqb}
 use Rattle.lent.specs.Memory.{Memory}
 use Rattle.key_frame.specs.declared.Shown.{Shown}
-use Rattle.key_frame.specs.KeyFrame.{KeyFramed, keyFramed, keyFrameOf}
+use Rattle.key_frame.specs.KeyFrame.{keyFramed, keyFrameOf}
 use Rattle.boundary.specs.FrameCalls.{tileAfter}
 use Rattle.told.specs.Told.{countsTold, countsOf}
-use Rattle.hookbarley.specs.ShowCalls.{ShowCalled, shownNumbers, toShowCalled, showCalledOf}
+use Rattle.hookbarley.specs.ShowCalls.{shownNumbers, toShowCalled, showCalledOf}
 
 module _ (b : List ℕ) (header : List ℤ) (tile : List ℕ) (m : Memory) where
   pub show-refused : (length tile ≡ 28 → ⊥) → shownNumbers 9 0 0 0 header tile m ≡ showCalledOf b header tile m

@@ -19,7 +19,7 @@ use Rattle.header.specs.FrameLaws.{Probabilities}
 use Rattle.reader.specs.TreesLaws.{leavesReached, walk-below}
 use Rattle.modes.specs.Table.{probabilities}
 use Rattle.modes.specs.TableLaws.{probabilities-bytes}
-use Rattle.modes.specs.Modes.{Prefix, Modes, segTree, yTree, uvTree, bTree, tree, optional, segment, skip, prefix, largeMode, blockMode, modeAbove, modeLeft, smallFrom, zeros, smallModes, luma, Macroblock, modesOf, bottomOf, rightOf}
+use Rattle.modes.specs.Modes.{Prefix, Modes, segTree, yTree, uvTree, bTree, tree, optional, segment, skip, prefix, largeMode, blockMode, modeAbove, modeLeft, smallFrom, zeros, smallModes, luma, modesOf, bottomOf, rightOf}
 use Rattle.modes.specs.Answers.{eachBelow, contextsOf}
 unfoldable pub use Rattle.modes.specs.Answers.{byteLeaves}
 pub use Rattle.modes.specs.Answers.{Luma, InRange}

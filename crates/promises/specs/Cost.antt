@@ -13,10 +13,9 @@ use Rattle.lent.specs.Memory.{Memory}
 use Rattle.macroblock.specs.Macroblock.{finished, no-modes, no-tokens}
 use Rattle.macroblock.specs.Counts.{noReads}
 use Rattle.choices.specs.Checks.{Call}
-use Rattle.choices.specs.Answer.{numberOf, valuesOf}
-use Rattle.picture.specs.Picture.{Picture, State, Ended, columnOf, partitionOf, aroundAt, stepAt, nextOf, picturedOf, begunOf, pictureOf}
+use Rattle.picture.specs.Picture.{Picture, State, columnOf, partitionOf, aroundAt, stepAt, nextOf, picturedOf, begunOf, pictureOf}
 use Rattle.picture.specs.Counts.{costOf}
-use Rattle.promises.specs.Refusals.{Fine, Bad}
+use Rattle.promises.specs.Refusals.{Bad}
 use Rattle.promises.specs.Reached.{modesAsked}
 use Rattle.promises.specs.Stops.{macroblocks}
 use Rattle.promises.specs.Isolation.{SameTokens, Stopped}

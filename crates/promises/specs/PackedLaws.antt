@@ -6,21 +6,19 @@ use mathlib.Core.Path.{_≡_, refl, sym, _∙_, ap, ap₂, subst}
 use native.Mathlib.Omega.{arith}
 use lib.ListN.{length, getD, set, replicate, length-replicate}
 use Rattle.numbers.specs.Tests.{eq-or}
-use Rattle.reader.specs.declared.boolean.Reader.{Reader}
 use Rattle.reader.specs.Boolean.{noReader}
 use Rattle.reader.specs.BooleanLaws.{Bytes}
 use Rattle.tile.specs.Partitions.{spanAt}
 use Rattle.tile.specs.PartitionsLaws.{part-bytes}
-use Rattle.modes.specs.declared.contexts.Context.{Context}
 use Rattle.modes.specs.Answers.{kindsOf}
-use Rattle.lent.specs.Records.{Form, packed, old, formWidth, columnAt, columnSet, modeSet, strengthSet}
+use Rattle.lent.specs.Records.{Form, packed, old, columnAt, columnSet, modeSet, strengthSet}
 use Rattle.lent.specs.ColumnsLaws.{column-room, column-set-length, column-back, column-other, column-empty}
-use Rattle.lent.specs.Memory.{Memory, sizesOf, blankOf}
+use Rattle.lent.specs.Memory.{Memory, sizesOf}
 use Rattle.lent.specs.SizesLaws.{sizes-forms}
 use Rattle.macroblock.specs.declared.arguments.SymbolCounts.{SymbolCounts}
 use Rattle.macroblock.specs.declared.arguments.Around.{Around}
 use Rattle.macroblock.specs.declared.arguments.Readers.{Readers}
-use Rattle.macroblock.specs.Counts.{noReads, readsOf}
+use Rattle.macroblock.specs.Counts.{readsOf}
 use Rattle.macroblock.specs.Macroblock.{Planes, Finished, Step, finished, no-modes, no-tokens, stepOf}
 use Rattle.choices.specs.declared.answer.Decoded.the-variants as D
 use Rattle.choices.specs.Checks.{Call, callIn, refusalOf}

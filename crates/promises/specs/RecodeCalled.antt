@@ -5,7 +5,7 @@ use mathlib.Core.Path.{_≡_, refl, sym, _∙_, ap, subst}
 use mathlib.Core.Logic.{⊎-elim}
 use mathlib.Core.List.{List}
 use lib.IntN.{ℤ}
-use lib.ListN.{length, drop}
+use lib.ListN.{length}
 use Rattle.numbers.specs.Tests.{eq-or}
 use Rattle.reader.specs.Boolean.{Bytes}
 use Rattle.tile.specs.declared.Tile.{Tile}
@@ -18,9 +18,9 @@ use Rattle.boundary.specs.TileNumbers.{FieldsFit, tileOfNumbers}
 use Rattle.boundary.specs.TileNumbersLaws.{fields-fit}
 use Rattle.hookbarley.specs.Calls.{PictureCalled, handedCall, calledOf}
 use Rattle.hookbarley.specs.CallsLaws.{called-picture}
-use Rattle.hookbarley.specs.RecodeCalls.{resultOf, RecodeCalled, toRecodeCalled, recodeCalledOf}
+use Rattle.hookbarley.specs.RecodeCalls.{resultOf, RecodeCalled, recodeCalledOf}
 use Rattle.hookbarley.specs.RecodeCallsLaws.{result-length, result-back, recode-no-tile, recode-no-result, recode-called}
-use Rattle.promises.specs.Recoded.{refused-as-picture, written-so, fits, resultCall, recode-decodes}
+use Rattle.promises.specs.Recoded.{refused-as-picture, written-so, fits, recode-decodes}
 
 -- ---- two calls of `hookbarley_decode`: both answer 0, with as many macroblocks, and leave the same memory
 pub record SameDecoded (a b : PictureCalled) : Type 0 where

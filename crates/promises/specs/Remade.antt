@@ -1,5 +1,5 @@
 -- What is promised of the macroblocks that the rescue call rebuilds from their modes (request M-108), marked 1. RemadeLaws proves it.
-use Prim.Native.Nat.{ℕ, suc, _+_, _*_, _/_, _≤_, _<_}
+use Prim.Native.Nat.{ℕ, suc, _+_, _*_, _/_, _<_}
 use mathlib.Core.Path.{_≡_}
 use mathlib.Core.Bool.{true}
 use mathlib.Core.List.{List}

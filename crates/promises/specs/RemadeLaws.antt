@@ -6,12 +6,12 @@ use mathlib.Core.List.{List}
 use mathlib.Core.Logic.{_⊎_, inl, inr}
 use native.Mathlib.Omega.{arith}
 use lib.Dec.{lit<}
-use lib.ListN.{getD, replicate}
+use lib.ListN.{replicate}
 use Rattle.numbers.specs.Tests.{lt-or}
 use Rattle.reader.specs.BooleanLaws.{Bytes}
 use Rattle.modes.specs.Answers.{kindsOf}
 use Rattle.macroblock.specs.Macroblock.{Finished, Step, finished, no-modes, no-tokens, strengthMade, endOf}
-use Rattle.macroblock.specs.RebuiltLaws.{From, rebuilt-from}
+use Rattle.macroblock.specs.RebuiltLaws.{rebuilt-from}
 use Rattle.lent.specs.Records.{modeWidth, strengthWidth, modeRecord, strengthRecord}
 use Rattle.lent.specs.RecordsLaws.{record-set-in}
 use Rattle.lent.specs.Memory.{Memory}
@@ -19,17 +19,17 @@ use Rattle.choices.specs.declared.answer.Decoded.{Decoded}
 use Rattle.choices.specs.declared.answer.Decoded.the-variants as D
 use Rattle.choices.specs.Checks.{Call}
 use Rattle.choices.specs.Answer.{valuesOf}
-use Rattle.picture.specs.Picture.{Picture, State, Ended, picturedOf, begunOf, columnOf, partitionOf, planesIn, placeOf, readersAt, aroundAt, nextOf, pictureOf}
+use Rattle.picture.specs.Picture.{Picture, State, Ended, picturedOf, begunOf, columnOf, partitionOf, planesIn, placeOf, readersAt, aroundAt, nextOf}
 use Rattle.picture.specs.Live.{Shared, Live}
 use Rattle.picture.specs.PictureLaws.{live-next, room-at}
-use Rattle.picture.specs.Halt.{Halted, haltedOf}
+use Rattle.picture.specs.Halt.{haltedOf}
 use Rattle.picture.specs.HaltLaws.{halted-picture, Alive, halted-alive}
-use Rattle.rescue.specs.Rescue.{rebuiltAt, Saved, savedAt, restOf, goneOn, RescueEnded, savedOf, rescueOf, savedCountOf}
+use Rattle.rescue.specs.Rescue.{rebuiltAt, Saved, restOf, goneOn, RescueEnded, savedOf, rescueOf, savedCountOf}
 use Rattle.rescue.specs.RescueLaws.{KeepsToo, at-never, rebuilt-at, ends-rebuilt-at, rest-none, rest-rebuilt, rest-no-modes, rest-least, rest-keeps}
 use Rattle.promises.specs.Stops.{macroblocks}
-use Rattle.promises.specs.Places.{Plane, planeSide, sampleOf, modeByte, strengthByte, blockAt}
+use Rattle.promises.specs.Places.{planeSide, sampleOf, modeByte, strengthByte}
 use Rattle.promises.specs.KeptLaws.{Sound, sound}
-use Rattle.promises.specs.Grey.{InPlane, done}
+use Rattle.promises.specs.Grey.{done}
 use Rattle.promises.specs.GreyLaws.{other-block}
 use Rattle.promises.specs.Rescue.{RescueFine, saved}
 use Rattle.promises.specs.RescueLaws.{rescue-fine-too, rescue-is, marked, too-sample, too-mode, too-strength}

@@ -1,5 +1,5 @@
 -- The proofs of what is promised of the rescue call (Rescue.antt).
-use Prim.Native.Nat.{ℕ, zero, suc, _+_, _-_, _*_, _/_, _≤_, _<_}
+use Prim.Native.Nat.{ℕ, _+_, _-_, _*_, _/_, _≤_, _<_}
 use mathlib.Core.Path.{_≡_, refl, sym, _∙_, ap, subst}
 use mathlib.Core.List.{List}
 use mathlib.Core.Logic.{_⊎_, inl, inr, ⊎-elim}
@@ -11,7 +11,7 @@ use Rattle.numbers.specs.Tests.{lt-or, eq-or}
 use Rattle.reader.specs.BooleanLaws.{Bytes}
 use Rattle.modes.specs.Answers.{kindsOf}
 use Rattle.planes.specs.Places.{Outside}
-use Rattle.macroblock.specs.Macroblock.{Finished, finished}
+use Rattle.macroblock.specs.Macroblock.{Finished}
 use Rattle.macroblock.specs.StepLaws.{Kept, Elsewhere}
 use Rattle.lent.specs.Records.{modeWidth, strengthWidth, modeRecord, strengthRecord}
 use Rattle.lent.specs.RecordsLaws.{record-set-off}
@@ -21,16 +21,15 @@ use Rattle.choices.specs.declared.answer.Decoded.the-variants as D
 use Rattle.choices.specs.Checks.{Call, refusalOf}
 use Rattle.choices.specs.ChecksLaws.{refusal-most}
 use Rattle.choices.specs.Answer.{numberOf, valuesOf}
-use Rattle.picture.specs.Picture.{Picture, State, Ended, picturedOf, begunOf, columnOf, rowOf, partitionOf, planesIn, placeOf, nextOf, pictureOf}
+use Rattle.picture.specs.Picture.{Picture, State, Ended, picturedOf, begunOf, columnOf, rowOf, planesIn, placeOf, nextOf, pictureOf}
 use Rattle.picture.specs.Live.{Shared, Live}
 use Rattle.picture.specs.Halt.{Halted, haltOf, haltedOf}
-use Rattle.picture.specs.HaltLaws.{endedIn, halted-picture, halted-good, Alive, halted-alive}
+use Rattle.picture.specs.HaltLaws.{halted-picture, halted-good, Alive, halted-alive}
 use Rattle.rescue.specs.declared.Rescued.the-variants as R
-use Rattle.rescue.specs.Rescue.{rescueRefusalOf, rebuiltAt, Saved, savedAt, restOf, goneOn, marksOf, RescueEnded, rescueEnded, rescued, savedOf, rescueOf, rescueNumberOf, savedCountOf}
+use Rattle.rescue.specs.Rescue.{Saved, savedAt, goneOn, marksOf, RescueEnded, rescueEnded, rescued, savedOf, rescueOf, rescueNumberOf, savedCountOf}
 use Rattle.rescue.specs.ChecksLaws.{rescue-early, rescue-wrong, rescue-right, rescue-fine}
 use Rattle.rescue.specs.RescueLaws.{KeepsToo, outside-rebuilt-at, rest-least, rest-keeps, rest-same, mark-whole, mark-modes, mark-grey, marks-length, marks-at, rescue-bad, rescue-good}
 use Rattle.promises.specs.Refusals.{Fine, blank-same, sizes-same, fine-is}
-use Rattle.promises.specs.Reached.{Reached}
 use Rattle.promises.specs.ReachedLaws.{values-from}
 use Rattle.promises.specs.Stops.{macroblocks}
 use Rattle.promises.specs.Places.{Plane, luma, blue, red, planeOf, planeSide, sampleOf, modeByte, strengthByte, blockAt}

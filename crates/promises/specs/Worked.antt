@@ -7,7 +7,7 @@ use lib.ListN.{replicate}
 use lib.IntN.{ℤ, pos, negsuc}
 use Rattle.numbers.specs.Clamp.{clampZ, upTo}
 use Rattle.numbers.specs.Lists.{build}
-use Rattle.numbers.specs.Wrap.{wrapZ, wrapTurns}
+use Rattle.numbers.specs.Wrap.{wrapZ}
 use Rattle.coefficients.specs.Block.{signOf}
 use Rattle.transform.specs.Transform.{gridOf, transposeOf, gridColumn, scaledOf, passOf, rowsOf, verticalPass, horizontalPass, resultsOf, samplesOf}
 use Rattle.filter.specs.Kernel.{filterOf, movedOf, stepsOf, noSteps, commonSteps, macroblockSteps, innerSteps, sides, part, half, eighth, tapped, across, ruleOf, highVariance, roughAt, smooth, firstFalse, withinLimit}

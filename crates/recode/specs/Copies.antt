@@ -1,15 +1,15 @@
 -- Code that reads by a grammar and writes what it reads: what its contract says (`Copies`), and the steps of its proof (`Going`). Only a run
 -- that gives a value is spoken of.
-use Prim.Native.Nat.{ℕ, _+_, _≤_, _<_}
+use Prim.Native.Nat.{ℕ, _<_}
 use native.Mathlib.Omega.{arith}
 use mathlib.Core.Path.{_≡_, refl, sym, _∙_, ap, subst}
 use mathlib.Core.Bool.{Bool, true, false}
-use mathlib.Core.List.{List, [], _∷_, _++_}
+use mathlib.Core.List.{List, [], _∷_}
 use lib.ListN.{length}
 use Rattle.reader.specs.declared.boolean.Reader.{Reader}
 use Rattle.reader.specs.Boolean.{Given, given, missing, decidedOf, symbolOf}
 use Rattle.reader.specs.BooleanLaws.{Bytes, Valid, symbol-missing}
-use Rattle.reader.specs.Reading.{Reading, done, ask, _>>=_, symbol, run}
+use Rattle.reader.specs.Reading.{Reading, done, _>>=_, symbol, run}
 use Rattle.reader.specs.ReadingLaws.{never-both, run-done, run-got, run-missing, run-then, run-stops, run-valid, within-symbol}
 use Rattle.reader.specs.Trace.{CodedSymbol, trace}
 use Rattle.reader.specs.TraceLaws.{trace-done, trace-got, trace-then}
@@ -23,7 +23,7 @@ use Rattle.writer.specs.declared.Writer.{Writer}
 use Rattle.writer.specs.Encoder.{Encoder, writeOf, writeAll}
 use Rattle.writer.specs.EncoderLaws.{Ready, write-ready}
 use Rattle.writer.specs.WriteLaws.{write-append, write-one, write-none, write-grows}
-use Rattle.writer.specs.Room.{Written, writtenOf, writeIn}
+use Rattle.writer.specs.Room.{writtenOf, writeIn}
 use Rattle.writer.specs.KeptLaws.{Kept, kept-write}
 use Rattle.recode.specs.declared.pipe.Asked.{Asked}
 use Rattle.recode.specs.declared.pipe.Pipe.{Pipe}

@@ -1,25 +1,24 @@
 -- The call: its two passes over the tokens, its room, its refusals.
-use Prim.Native.Nat.{ℕ, zero, suc, _+_, _-_, _*_, _/_, _≤_, _<_}
+use Prim.Native.Nat.{ℕ, zero, suc, _+_, _-_, _≤_, _<_}
 use native.Mathlib.Omega.{arith}
 use mathlib.Core.Path.{_≡_, refl, sym, _∙_, ap, subst}
-use mathlib.Core.Bool.{true, false}
-use mathlib.Core.List.{List, [], _∷_, _++_, append-nil, append-assoc}
+use mathlib.Core.List.{List, _++_, append-nil, append-assoc}
 use mathlib.Core.Logic.{⊎-elim}
-use lib.Dec.{leb, lit<}
+use lib.Dec.{lit<}
 use lib.IntN.{ℤ}
-use lib.ListN.{length, getD, take, drop, replicate, length-append, length-take, length-drop, drop-of-length-le, take-append-drop}
+use lib.ListN.{length, take, drop, replicate, length-append, length-drop, drop-of-length-le, take-append-drop}
 use lib.Seq.{take-all, drop-append-seam, drop-drop, length-take-le}
 use borrow.Author.Tests.{le-leb, lt-leb}
 use Rattle.numbers.specs.Tests.{eq-or, lt-or}
 use Rattle.reader.specs.BooleanLaws.{Bytes}
 use Rattle.coefficients.specs.declared.block.Table.{Table}
-use Rattle.coefficients.specs.Block.{headerTable, tableOf}
+use Rattle.coefficients.specs.Block.{tableOf}
 use Rattle.header.specs.declared.frame.Framed.{Framed}
 use Rattle.header.specs.Frame.{framedOf}
 use Rattle.lent.specs.Memory.{Memory, memoryOf, sizesOf, filled, blankOf}
 use Rattle.lent.specs.Records.{packed}
 use Rattle.tile.specs.declared.Tile.{Tile}
-use Rattle.tile.specs.Partitions.{contentsOf, spanAt}
+use Rattle.tile.specs.Partitions.{spanAt}
 use Rattle.tile.specs.PartitionsLaws.{part-bytes}
 use Rattle.tile.specs.Checks.{blocksOf}
 use Rattle.macroblock.specs.declared.arguments.SymbolCounts.{SymbolCounts}
@@ -42,9 +41,9 @@ use Rattle.writer.specs.KeptLaws.{Finished, kept-flush}
 use Rattle.writer.specs.WriteLaws.{write-few, encode-long}
 use Rattle.recode.specs.declared.Recoded.{Recoded}
 use Rattle.recode.specs.declared.tokens.TokensRecoded.{TokensRecoded}
-use Rattle.recode.specs.Recode.{tokensFrom, tokensRead, onePartition, TokensEnded, tokensEnded, tokensInto, tokensOf, firstOf, recodedBytes, oneTile, recodedTile, recodedDone, recodedRefused, RecodeEnded, recodeEnded, recodedInto, recodeOf}
+use Rattle.recode.specs.Recode.{tokensFrom, tokensRead, onePartition, TokensEnded, tokensEnded, tokensInto, tokensOf, firstOf, recodedBytes, oneTile, recodedTile, recodedDone, recodedRefused, recodeEnded, recodedInto, recodeOf}
 use Rattle.recode.specs.RecodeLaws.{Sound, tokens-few, tokens-count, whole-not-refused}
-use Rattle.recode.specs.WalkCopies.{Walkable, Walked, WalkCopies, blocks-most}
+use Rattle.recode.specs.WalkCopies.{Walked, WalkCopies, blocks-most}
 pub use Rattle.recode.specs.Pass.{Small, Passed, Passes, Measures, Writes}
 
 -- ---- a picture call answered 0

@@ -4,7 +4,6 @@ use Prim.Native.Nat.{ℕ, zero, suc, _+_}
 use mathlib.Core.Bool.{true, false}
 use mathlib.Core.List.{List, [], _∷_, _++_}
 use lib.Dec.{leb}
-use lib.IntN.{ℤ}
 use lib.ListN.{length, getD, drop, replicate}
 use Rattle.reader.specs.Boolean.{Given, given, missing, noReader}
 use Rattle.reader.specs.Reading.{Reading, run}
@@ -19,7 +18,7 @@ use Rattle.tile.specs.Checks.{blocksOf}
 use Rattle.macroblock.specs.Macroblock.{finished, no-modes, no-tokens}
 use Rattle.choices.specs.Checks.{Call}
 use Rattle.choices.specs.Answer.{numberOf}
-use Rattle.picture.specs.Picture.{Picture, State, Ended, columnOf, partitionOf, aroundAt, stepAt, nextOf, picturedOf, begunOf, pictureOf}
+use Rattle.picture.specs.Picture.{Picture, State, columnOf, partitionOf, aroundAt, stepAt, nextOf, picturedOf, begunOf, pictureOf}
 use Rattle.writer.specs.Encoder.{encodeOf}
 use Rattle.recode.specs.declared.Recoded.{Recoded}
 use Rattle.recode.specs.declared.tokens.TokensRecoded.{TokensRecoded}

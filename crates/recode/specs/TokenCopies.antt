@@ -17,10 +17,10 @@ use Rattle.reader.specs.Reading.{Reading, done, ask, _>>=_, symbol}
 use Rattle.reader.specs.Token.{tokenTree, tokenStart, token}
 use Rattle.reader.specs.Trees.{branchAt, follow, walk}
 use Rattle.wide.specs.WideRuns.{walk-asks}
-use Rattle.coefficients.specs.Block.{categories, bases, category, magnitude, signedValue}
+use Rattle.coefficients.specs.Block.{category, magnitude, signedValue}
 use Rattle.writer.specs.Encoder.{Encoder}
 use Rattle.recode.specs.declared.pipe.Pipe.{Pipe}
-use Rattle.recode.specs.Copies.{same, nothing, Going, Gave, Copies, Called, going-done, going-as, going-call, gave-as}
+use Rattle.recode.specs.Copies.{same, nothing, Going, Copies, going-done, going-as, going-call}
 
 -- ---- where a node's bit leads, as one number: a node, or 11 and the token
 abbrev leadOf : Branch → ℕ

@@ -3,9 +3,8 @@ use Prim.Native.Nat.{ℕ, _<_}
 use native.Mathlib.Omega.{arith}
 use lib.ListN.{length}
 use mathlib.Core.Path.{_≡_, refl, sym, _∙_, ap, subst}
-use mathlib.Core.Bool.{Bool, true, false}
+use mathlib.Core.Bool.{Bool, true}
 use mathlib.Core.List.{List}
-use Rattle.header.specs.declared.quantizers.Factors.{Factors}
 use Rattle.header.specs.Frame.{factorsAt}
 use Rattle.lent.specs.Records as lent
 use Rattle.lent.specs.Records.{recordsIn, Form, packed, formWidth, columnWidth, columnAt, columnBytes, columnSet, columnWritten}
@@ -16,7 +15,6 @@ use Rattle.macroblock.specs.Asked as macroblock
 use Rattle.modes.specs.declared.answers.Kinds.{Kinds}
 use Rattle.modes.specs.declared.answers.Stage.{Stage}
 use Rattle.modes.specs.declared.answers.Stage.the-variants as S
-use Rattle.modes.specs.declared.answers.Staged.{Staged}
 use Rattle.modes.specs.declared.contexts.Context.{Context}
 use Rattle.modes.specs.Answers.{macroblockOf, modesAnswer}
 use Rattle.modes.specs.AnswersLaws.{stageGiven, read}

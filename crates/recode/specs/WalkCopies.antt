@@ -3,22 +3,20 @@ use Prim.Native.Nat.{ℕ, zero, suc, _+_, _*_, _/_, _%_, _≤_, _<_}
 use native.Mathlib.Omega.{arith}
 use mathlib.Core.Path.{_≡_, refl, sym, _∙_, ap, subst}
 use mathlib.Core.Bool.{true}
-use mathlib.Core.List.{List, [], _∷_, _++_}
+use mathlib.Core.List.{List}
 use lib.ListN.{length, getD, set}
 use Rattle.header.specs.declared.frame.Frame.{Frame}
 use Rattle.lent.specs.Memory.{Memory}
 use Rattle.lent.specs.Records.{packed, columnSet}
 use Rattle.macroblock.specs.Macroblock.{Finished, Step, finished, no-modes, no-tokens}
-use Rattle.macroblock.specs.StepLaws.{Both}
 use Rattle.modes.specs.declared.contexts.Context.{Context}
 use Rattle.modes.specs.Contexts.{emptyContext, contextFine}
 use Rattle.choices.specs.declared.answer.Decoded.the-variants as D
-use Rattle.picture.specs.Picture.{Picture, State, Ended, cutOut, startOf, columnOf, partitionOf, planesIn, aroundAt, stepAt, nextOf, runOf}
+use Rattle.picture.specs.Picture.{Picture, State, Ended, cutOut, startOf, columnOf, partitionOf, stepAt, nextOf, runOf}
 use Rattle.picture.specs.Live.{Live}
 use Rattle.picture.specs.PictureLaws.{room-at, ends-at, partition-below, run-none, run-finished, run-no-modes, run-no-tokens}
 use Rattle.reader.specs.declared.boolean.Reader.{Reader}
 use Rattle.reader.specs.Boolean.{noReader}
-use Rattle.reader.specs.Trace.{CodedSymbol, trace}
 use Rattle.tile.specs.declared.Tile.{Tile}
 use Rattle.tile.specs.Partitions.{readersOf, pickOf}
 use Rattle.tile.specs.PartitionsLaws.{pick-none, pick-below}
@@ -31,11 +29,10 @@ use Rattle.writer.specs.EncoderLaws.{Ready, fresh-ready}
 use Rattle.writer.specs.Room.{writtenOf, freshWriter}
 use Rattle.writer.specs.KeptLaws.{Kept, kept-fresh}
 use Rattle.writer.specs.WriteLaws.{write-append, write-none, write-grows}
-use Rattle.recode.specs.declared.turn.Task.{Task}
 use Rattle.recode.specs.declared.turn.Turned.{Turned}
 use Rattle.recode.specs.Recode.{readBy, tokensFrom}
 use Rattle.recode.specs.RecodeLaws.{Sound, read-by, both-at, tokens-finished, ready-here, live-after, whole-not-modes, whole-not-tokens}
-use Rattle.recode.specs.TurnCopies.{Turning, TurnGave, TurnCopies}
+use Rattle.recode.specs.TurnCopies.{TurnCopies}
 
 -- a picture that runs whole from the memory m, and F its tokens written
 pub record Walkable (P : Picture) (S : State) (M : ℕ) (end : Memory) (F : Encoder) : Type 0 where

@@ -9,7 +9,6 @@ use tile::Tile;
 ghost use mathlib.Core.Path.{_≡_};
 ghost use mathlib.Core.Bool.{true};
 ghost use Prim.Native.Nat.{_+_, _≤_};
-ghost use lib.ListN.{length};
 ghost use Rattle.lent.specs.Memory.{memoryOf};
 ghost use Rattle.choices.specs.Checks.{callOf};
 ghost use Rattle.recode.specs.Recode.{tokensEnded, tokensOf};

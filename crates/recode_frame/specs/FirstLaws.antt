@@ -13,7 +13,7 @@ use Rattle.modes.specs.Modes.{bottomOf, rightOf}
 use Rattle.modes.specs.ModesLaws.{modes-within}
 use Rattle.reader.specs.declared.boolean.Reader.{Reader}
 use Rattle.reader.specs.Boolean.{given, firstReader}
-use Rattle.reader.specs.BooleanLaws.{Bytes, Valid, first-valid}
+use Rattle.reader.specs.BooleanLaws.{Bytes, first-valid}
 use Rattle.reader.specs.Reading.{Reading, run, Within, ends, asks}
 use Rattle.reader.specs.ReadingLaws.{within-bind, within-more}
 use Rattle.reader.specs.Trace.{CodedSymbol, trace, Follows, stop, take}
@@ -25,7 +25,7 @@ use Rattle.wide.specs.Wide.{widenOf}
 use Rattle.wide.specs.WideLaws.{Sim, sim-widen}
 use Rattle.writer.specs.declared.Writer.{Writer}
 use Rattle.writer.specs.Encoder.{Encoder, fresh, writeAll, flushOf, encodeOf}
-use Rattle.writer.specs.EncoderLaws.{Ready, fresh-ready}
+use Rattle.writer.specs.EncoderLaws.{fresh-ready}
 use Rattle.writer.specs.WriteLaws.{write-append, write-grows, write-few}
 use Rattle.writer.specs.Room.{writtenOf, freshWriter, endedOf, flushAnswer}
 use Rattle.writer.specs.KeptLaws.{Kept, kept-fresh, Finished, kept-flush}
@@ -35,7 +35,7 @@ use Rattle.frame.specs.declared.fields.Header.{Header}
 use Rattle.frame.specs.Header.{literal, header}
 use Rattle.frame.specs.HeaderLaws.{header-within}
 use Rattle.recode_frame.specs.RecodeFrame.{beforeCount, afterCount, noCount, headerSymbols, modesFrom, noTops}
-use Rattle.recode_frame.specs.SplitLaws.{Cut, cut-apart, symbols-are, recounted}
+use Rattle.recode_frame.specs.SplitLaws.{cut-apart, symbols-are, recounted}
 use Rattle.recode_frame.specs.HeaderCopies.{Copied, Swapped}
 pub use Rattle.recode_frame.specs.First.{cutSymbols, HeaderRecounted, Sized, tileModes, firstSymbols, FirstWritten, Rewrites}
 

@@ -11,10 +11,7 @@ use lib.ListN.{length, getD, set, take, drop, length-append, length-take, length
 use lib.Seq.{take-all, take-append-seam, drop-append-seam, drop-append-le, drop-drop, length-take-le}
 use borrow.Author.Tests.{le-leb, lt-leb}
 use Rattle.numbers.specs.Tests.{lt-or}
-use Rattle.reader.specs.declared.boolean.Reader.{Reader}
-use Rattle.reader.specs.Boolean.{given, firstReader}
 use Rattle.reader.specs.BooleanLaws.{Bytes}
-use Rattle.reader.specs.Reading.{run}
 use Rattle.lent.specs.Memory.{Memory}
 use Rattle.tile.specs.declared.Tile.{Tile}
 use Rattle.tile.specs.Partitions.{contentsOf}
@@ -22,16 +19,15 @@ use Rattle.choices.specs.Checks.{Call, callOf}
 use Rattle.choices.specs.Answer.{numberOf}
 use Rattle.picture.specs.Picture.{pictureOf}
 use Rattle.recode.specs.declared.tokens.TokensRecoded.{TokensRecoded}
-use Rattle.recode.specs.Recode.{firstOf, onePartition, TokensEnded, tokensEnded, tokensOf}
+use Rattle.recode.specs.Recode.{onePartition, TokensEnded, tokensEnded, tokensOf}
 use Rattle.recode.specs.PassLaws.{picture-whole, picture-below, partition-most, TokensAt, refused, full, there, tokens-at}
-use Rattle.frame.specs.declared.fields.Header.{Header}
 use Rattle.frame.specs.declared.take.Taken.{Taken}
 use Rattle.frame.specs.Header.{header}
 use Rattle.frame.specs.Tag.{threeAt, tagOf}
 use Rattle.frame.specs.Take.{takenOf}
 use Rattle.frame.specs.PassesLaws.{taken-is-fine, taken-read}
 use Rattle.recode_frame.specs.declared.FrameRecoded.{FrameRecoded}
-use Rattle.recode_frame.specs.RecodeFrame.{allModes, newFirst, threeBytes, newHead, takenCall, recodedFrame, FrameEnded, frameEnded, noFrame, frameRefused, frameInto, frameDecoded, recodeFrameOf}
+use Rattle.recode_frame.specs.RecodeFrame.{newFirst, threeBytes, newHead, takenCall, recodedFrame, FrameEnded, frameEnded, noFrame, frameRefused, frameInto, frameDecoded, recodeFrameOf}
 use Rattle.recode_frame.specs.FirstLaws.{Sized, FirstWritten, Rewrites}
 use Rattle.recode_frame.specs.MovedLaws.{call-modes}
 use Rattle.recode_frame.specs.FrameLaws.{head-long, whole-long}

@@ -15,7 +15,7 @@ use mir.Syntax.{w16}
 use Rattle.header.specs.Entries.{probabilityCount}
 use Rattle.numbers.specs.Hand.{there}
 use Rattle.numbers.specs.Know.{round}
-use Rattle.numbers.specs.Lists.{build, length-build, getD-build, build-same, build-constant, getD-constant, built}
+use Rattle.numbers.specs.Lists.{length-build, getD-build, build-same, build-constant, getD-constant, built}
 use Rattle.numbers.specs.Parts.{up, dn, of-le, of-eq, add-parts, sub-parts-ℤ, up-times, dn-times}
 use Rattle.numbers.specs.Tables.{allBelow, all-below}
 use Rattle.numbers.specs.StoresLaws.{length-stored, stored-off, stored-in}

@@ -8,7 +8,7 @@ use lib.ListN.{length, take, drop, replicate, length-append, length-drop, length
 use lib.Seq.{take-length, take-all, take-append-seam, drop-append-add, drop-drop}
 use Rattle.numbers.specs.Tests.{lt-or, le-leb, lt-leb}
 use Rattle.webp.specs.declared.write.WrapAnswer.the-variants as W
-use Rattle.webp.specs.Webp.{WrapAnswer, uint32Of, riff, webp, vp8, padOf, riffSize, mostSize, fileOf, WriteEnded, writtenInto, wrapOf}
+use Rattle.webp.specs.Webp.{WrapAnswer, padOf, riffSize, mostSize, fileOf, WriteEnded, writtenInto, wrapOf}
 unfoldable pub use Rattle.webp.specs.Write.{headOf, laid}
 
 -- ---- twenty bytes before a frame of n

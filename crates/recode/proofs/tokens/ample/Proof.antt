@@ -1,10 +1,9 @@
 use Prim.Native.Nat.{ℕ, _-_}
 use native.Mathlib.Omega.{arith}
 use mathlib.Core.Path.{_≡_, ap}
-use mathlib.Core.Bool.{Bool, true, false}
+use mathlib.Core.Bool.{true, false}
 use borrow.Author.Tests.{leb-true}
 use Rattle.numbers.specs.Flags.{bitOf}
-use borrow.Author.Needs.{needs}
 use Rattle.recode.proofs.tokens.ample.Statement.{statement}
 use Rattle.recode.proofs.tokens.ample.Tie as tie
 

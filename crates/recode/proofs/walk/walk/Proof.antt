@@ -1,4 +1,4 @@
-use Prim.Native.Nat.{_-_, _*_, _/_}
+use Prim.Native.Nat.{_-_}
 use native.Mathlib.Omega.{arith}
 use mathlib.Core.Path.{refl}
 use Rattle.recode.specs.WalkCopies.{Walking, walking-start, walking-next, walking-end, pick-eight, blocks-most, some-wide}
