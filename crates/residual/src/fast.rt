@@ -325,11 +325,10 @@ pub(crate) fn read_block(
         (now (out .entry)) (now (out .exit)) q
         × ((q .reads ≤ 304) × Ranged (q .next)) ⌝ }
 {
-    let first = k.first;
     let zigzag = ZIGZAG;
     let mut next = w;
-    let mut n = first;
-    let mut here = first_place(k.kind, ctx, first);
+    let mut n = k.first;
+    let mut here = first_place(k.kind, ctx, k.first);
     let mut reads: u64 = 0;
     while n < 16 {
         let full = next.fill(s);
@@ -338,7 +337,7 @@ pub(crate) fn read_block(
         if !e.on {
             return WideBlock {
                 end: n,
-                reads: reads + (n - first) as u64 + 1,
+                reads: reads + (n - k.first) as u64 + 1,
                 next: x,
             };
         }
@@ -347,24 +346,23 @@ pub(crate) fn read_block(
         if z.n == 16 {
             return WideBlock {
                 end: 16,
-                reads: reads + (16 - first) as u64 + 1,
+                reads: reads + (16 - k.first) as u64 + 1,
                 next: y,
             };
         }
-        let ahead = z.ahead;
         let v = read_number(s, y, norms, table, z.place);
         let o = v.next;
         let d = signed(o, v.value, quantizer(k, z.n));
         let value = d.value;
         out[spots.at + spots.step * spot(&zigzag, z.n)] = value;
         reads = reads + v.reads;
-        here = ahead + v.near;
+        here = z.ahead + v.near;
         next = d.next;
         n = z.n + 1;
     }
     WideBlock {
         end: n,
-        reads: reads + (n - first) as u64,
+        reads: reads + (n - k.first) as u64,
         next: next,
     }
 }

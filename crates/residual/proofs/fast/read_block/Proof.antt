@@ -13,12 +13,12 @@ use Rattle.residual.proofs.fast.read_block.Statement.{statement}
 use Rattle.residual.proofs.fast.read_block.Tie as tie
 
 abbrev Inv-loop : tie.InvT-loop
-Inv-loop s norms table places k ctx out₀ spots first zigzag next₀ n₀ here₀ reads₀ out next n here reads =
+Inv-loop s norms table places k ctx out₀ spots zigzag next₀ n₀ here₀ reads₀ out next n here reads =
     Blocking s table (k .kind) (k .q0) (k .q1) (block table (k .kind) (k .q0) (k .q1) ctx (k .first) (spotsOf out₀ (spots .at) (spots .step))) next₀ (spots .at) (spots .step) out₀ (k .first) n here reads next out
     × Ranged next
 
 abbrev μ-loop : tie.MeasureT-loop
-μ-loop s norms table places k ctx out₀ spots first zigzag next₀ n₀ here₀ reads₀ out next n here reads = 16 - n
+μ-loop s norms table places k ctx out₀ spots zigzag next₀ n₀ here₀ reads₀ out next n here reads = 16 - n
 
 first-place-requires : tie.Need-first-place-requires Inv-loop μ-loop
 first-place-requires c κs = c .before .before .pre .1 .0 .1
@@ -40,24 +40,24 @@ shared-slice-read-bit c =
 bit-requires : tie.Need-bit-requires Inv-loop μ-loop
 bit-requires c κs = (c .before .before .before .before .before .before .before .pre .0 .1 .0, ranged-fill _ (c .before .fill .ensures) (c .before .before .before .loop .inv .1))
 
-sub-t30 : tie.Need-sub-t30 Inv-loop μ-loop
-sub-t30 c = c .before .before .before .before .before .before .before .loop .inv .0 .low
+sub-t28 : tie.Need-sub-t28 Inv-loop μ-loop
+sub-t28 c = c .before .before .before .before .before .before .before .before .loop .inv .0 .low
 
-add-t32 : tie.Need-add-t32 Inv-loop μ-loop
-add-t32 c = let i = c .before .before .before .before .before .before .before .loop .inv .0 in record { fits = omega (arith, i .most, i .high) }
+add-t30 : tie.Need-add-t30 Inv-loop μ-loop
+add-t30 c = let i = c .before .before .before .before .before .before .before .before .loop .inv .0 in record { fits = omega (arith, i .most, i .high) }
 
-add-t33 : tie.Need-add-t33 Inv-loop μ-loop
-add-t33 c = let i = c .before .before .before .before .before .before .before .loop .inv .0 in record { fits = omega (arith, i .most, i .high) }
+add-t31 : tie.Need-add-t31 Inv-loop μ-loop
+add-t31 c = let i = c .before .before .before .before .before .before .before .before .loop .inv .0 in record { fits = omega (arith, i .most, i .high) }
 
 same-length : tie.Need-same-length Inv-loop μ-loop
-same-length c = blocking-long _ _ _ _ _ _ _ _ _ _ _ (c .before .before .before .before .before .before .before .loop .inv .0)
+same-length c = blocking-long _ _ _ _ _ _ _ _ _ _ _ (c .before .before .before .before .before .before .before .before .loop .inv .0)
 
 returns : tie.Need-returns Inv-loop μ-loop
 returns c =
-    let a = c .before .before .before .before .before .before .before .before .before .before .before .args in
-    let p = c .before .before .before .before .before .before .before .before .before .before .before .pre .1 .1 in
-    let i = c .before .before .before .before .before .before .before .loop .inv .0 in
-    (blocking-stops _ _ _ _ _ _ _ _ _ _ _ (p .0) (p .1) i (λ i. c .before .before .before .before .before .before .before .before .before .before .shared-slice-known .given i .fits) (c .before .before .before .before .before .before .before .before .before .shared-slice-known2 .given (c .before .before .before .before .before .before .before .loop .here) .fits) (c .before .before .before .before .before .before .loop-test .taken) (c .before .before .before .before .before .fill .ensures) (c .before .before .before .bit .ensures .0) (block (a .table .now) (a .k .kind) (a .k .q0) (a .k .q1) (a .ctx) (a .k .first)) refl (not-true _ (c .if1 .taken)), (omega (arith, i .most, c .before .before .before .before .before .before .loop-test .taken), c .before .before .before .bit .ensures .1))
+    let a = c .before .before .before .before .before .before .before .before .before .before .before .before .args in
+    let p = c .before .before .before .before .before .before .before .before .before .before .before .before .pre .1 .1 in
+    let i = c .before .before .before .before .before .before .before .before .loop .inv .0 in
+    (blocking-stops _ _ _ _ _ _ _ _ _ _ _ (p .0) (p .1) i (λ i. c .before .before .before .before .before .before .before .before .before .before .before .shared-slice-known .given i .fits) (c .before .before .before .before .before .before .before .before .before .before .shared-slice-known2 .given (c .before .before .before .before .before .before .before .before .loop .here) .fits) (c .before .before .before .before .before .before .before .loop-test .taken) (c .before .before .before .before .before .before .fill .ensures) (c .before .before .before .before .bit .ensures .0) (block (a .table .now) (a .k .kind) (a .k .q0) (a .k .q1) (a .ctx) (a .k .first)) refl (not-true _ (c .before .if1 .taken)), (omega (arith, i .most, c .before .before .before .before .before .before .before .loop-test .taken), c .before .before .before .before .bit .ensures .1))
 
 pass-zeros-requires : tie.Need-pass-zeros-requires Inv-loop μ-loop
 pass-zeros-requires c κs =
@@ -65,24 +65,24 @@ pass-zeros-requires c κs =
     let t = p .1 .0 in
     ((p .0 .0, t .0), ((t .1 .0, (c .before .before .before .before .before .before .loop-test .taken, blocking-inside _ _ _ _ _ _ _ _ _ _ _ (c .before .before .before .before .before .before .before .loop .inv .0) (t .0) (t .1 .0))), (p .0 .1 .0, c .before .before .before .bit .ensures .1)))
 
-sub-t34 : tie.Need-sub-t34 Inv-loop μ-loop
-sub-t34 c = omega (arith, c .before .before .before .before .before .before .before .before .before .before .before .before .before .before .before .pre .1 .0 .1 .1 .1)
+sub-t32 : tie.Need-sub-t32 Inv-loop μ-loop
+sub-t32 c = omega (arith, c .before .before .before .before .before .before .before .before .before .before .before .before .before .before .before .before .pre .1 .0 .1 .1 .1)
 
-add-t36 : tie.Need-add-t36 Inv-loop μ-loop
-add-t36 c = let i = c .before .before .before .before .before .before .before .before .before .before .before .loop .inv .0 in record { fits = omega (arith, i .most, i .high) }
+add-t34 : tie.Need-add-t34 Inv-loop μ-loop
+add-t34 c = let i = c .before .before .before .before .before .before .before .before .before .before .before .before .loop .inv .0 in record { fits = omega (arith, i .most, i .high) }
 
-add-t37 : tie.Need-add-t37 Inv-loop μ-loop
-add-t37 c = let i = c .before .before .before .before .before .before .before .before .before .before .before .loop .inv .0 in record { fits = omega (arith, i .most, i .high) }
+add-t35 : tie.Need-add-t35 Inv-loop μ-loop
+add-t35 c = let i = c .before .before .before .before .before .before .before .before .before .before .before .before .loop .inv .0 in record { fits = omega (arith, i .most, i .high) }
 
 same-length-2 : tie.Need-same-length-2 Inv-loop μ-loop
-same-length-2 c = blocking-long _ _ _ _ _ _ _ _ _ _ _ (c .before .before .before .before .before .before .before .before .before .before .before .loop .inv .0)
+same-length-2 c = blocking-long _ _ _ _ _ _ _ _ _ _ _ (c .before .before .before .before .before .before .before .before .before .before .before .before .loop .inv .0)
 
 returns-2 : tie.Need-returns-2 Inv-loop μ-loop
 returns-2 c =
-    let a = c .before .before .before .before .before .before .before .before .before .before .before .before .before .before .before .args in
-    let p = c .before .before .before .before .before .before .before .before .before .before .before .before .before .before .before .pre .1 .1 in
-    let i = c .before .before .before .before .before .before .before .before .before .before .before .loop .inv .0 in
-    (blocking-zeros _ _ _ _ _ _ _ _ _ _ _ (p .0) (p .1) i (λ i. c .before .before .before .before .before .before .before .before .before .before .before .before .before .before .shared-slice-known .given i .fits) (c .before .before .before .before .before .before .before .before .before .before .before .before .before .shared-slice-known2 .given (c .before .before .before .before .before .before .before .before .before .before .before .loop .here) .fits) (c .before .before .before .before .before .before .before .before .before .before .loop-test .taken) (c .before .before .before .before .before .before .before .before .before .fill .ensures) (c .before .before .before .before .before .before .before .bit .ensures .0) (c .before .before .before .pass-zeros .ensures .0) (block (a .table .now) (a .k .kind) (a .k .q0) (a .k .q1) (a .ctx) (a .k .first)) refl (not-false _ (c .before .before .before .before .if1 .left)) (c .if2 .taken), (omega (arith, i .most, c .before .before .before .before .before .before .before .before .before .before .loop-test .taken), c .before .before .before .pass-zeros .ensures .1))
+    let a = c .before .before .before .before .before .before .before .before .before .before .before .before .before .before .before .before .args in
+    let p = c .before .before .before .before .before .before .before .before .before .before .before .before .before .before .before .before .pre .1 .1 in
+    let i = c .before .before .before .before .before .before .before .before .before .before .before .before .loop .inv .0 in
+    (blocking-zeros _ _ _ _ _ _ _ _ _ _ _ (p .0) (p .1) i (λ i. c .before .before .before .before .before .before .before .before .before .before .before .before .before .before .before .shared-slice-known .given i .fits) (c .before .before .before .before .before .before .before .before .before .before .before .before .before .before .shared-slice-known2 .given (c .before .before .before .before .before .before .before .before .before .before .before .before .loop .here) .fits) (c .before .before .before .before .before .before .before .before .before .before .before .loop-test .taken) (c .before .before .before .before .before .before .before .before .before .before .fill .ensures) (c .before .before .before .before .before .before .before .before .bit .ensures .0) (c .before .before .before .before .pass-zeros .ensures .0) (block (a .table .now) (a .k .kind) (a .k .q0) (a .k .q1) (a .ctx) (a .k .first)) refl (not-false _ (c .before .before .before .before .before .if1 .left)) (c .before .if2 .taken), (omega (arith, i .most, c .before .before .before .before .before .before .before .before .before .before .before .loop-test .taken), c .before .before .before .before .pass-zeros .ensures .1))
 
 -- a number follows the zeros
 numbered : (c : tie.Else2 Inv-loop μ-loop) → c .before .before .before .pass-zeros .result .n < 16
@@ -134,38 +134,38 @@ add-reads c = let i = c .before .before .before .before .before .before .before 
 
 add-here : tie.Need-add-here Inv-loop μ-loop
 add-here c =
-    let n = c .before .before .before .before .before .before .before .before .before .before in
-    record { fits = omega (arith, then n, place-below (c .before .before .before .before .before .before .before .before .before .before .before .before .before .before .before .before .before .before .before .before .before .before .before .before .before .before .args .k .kind) (c .before .before .before .before .before .before .before .before .before .before .before .before .before .before .pass-zeros .result .n + 1) (n .read-number .ensures .0 .ctx) (c .before .before .before .before .before .before .before .before .before .before .before .before .before .before .before .before .before .before .before .before .before .before .before .before .before .before .pre .1 .0 .1 .0) (n .read-number .ensures .0 .few)) }
+    let n = c .before .before .before .before .before .before .before .before .before .before .before in
+    record { fits = omega (arith, then n, place-below (c .before .before .before .before .before .before .before .before .before .before .before .before .before .before .before .before .before .before .before .before .before .before .before .before .before .before .before .args .k .kind) (c .before .before .before .before .before .before .before .before .before .before .before .before .before .before .before .pass-zeros .result .n + 1) (n .read-number .ensures .0 .ctx) (c .before .before .before .before .before .before .before .before .before .before .before .before .before .before .before .before .before .before .before .before .before .before .before .before .before .before .before .pre .1 .0 .1 .0) (n .read-number .ensures .0 .few)) }
 
 add-n : tie.Need-add-n Inv-loop μ-loop
-add-n c = record { fits = omega (arith, numbered (c .before .before .before .before .before .before .before .before .before .before .before .before .before)) }
+add-n c = record { fits = omega (arith, numbered (c .before .before .before .before .before .before .before .before .before .before .before .before .before .before)) }
 
 loop-less : tie.Need-loop-less Inv-loop μ-loop
-loop-less c = omega (arith, numbered (c .before .before .before .before .before .before .before .before .before .before .before .before .before), c .before .before .before .before .before .before .before .before .before .before .before .before .before .before .before .before .pass-zeros .ensures .0 .low)
+loop-less c = omega (arith, numbered (c .before .before .before .before .before .before .before .before .before .before .before .before .before .before), c .before .before .before .before .before .before .before .before .before .before .before .before .before .before .before .before .before .pass-zeros .ensures .0 .low)
 
 loop-again : tie.Need-loop-again Inv-loop μ-loop
 unfolding zigzag
 loop-again c =
-    let n = c .before .before .before .before .before .before .before .before .before .before .before .before in
-    let p = c .before .before .before .before .before .before .before .before .before .before .before .before .before .before .before .before .before .before .before .before .before .before .before .before .before .before .before .before .pre .1 .1 in
-    let d = c .before .before .before .before .before .before .before .before .before .signed .ensures in
-    (blocking-number _ _ _ _ _ _ _ _ _ _ _ (p .0) (p .1) (c .before .before .before .before .before .before .before .before .before .before .before .before .before .before .before .before .before .before .before .before .before .before .before .before .loop .inv .0) (λ i. c .before .before .before .before .before .before .before .before .before .before .before .before .before .before .before .before .before .before .before .before .before .before .before .before .before .before .before .shared-slice-known .given i .fits) (c .before .before .before .before .before .before .before .before .before .before .before .before .before .before .before .before .before .before .before .before .before .before .before .before .before .before .shared-slice-known2 .given (c .before .before .before .before .before .before .before .before .before .before .before .before .before .before .before .before .before .before .before .before .before .before .before .before .loop .here) .fits) (c .before .before .before .before .before .before .before .before .before .before .before .before .before .before .before .before .before .before .before .before .before .before .before .loop-test .taken) (c .before .before .before .before .before .before .before .before .before .before .before .before .before .before .before .before .before .before .before .before .before .before .fill .ensures) (c .before .before .before .before .before .before .before .before .before .before .before .before .before .before .before .before .before .before .before .before .bit .ensures .0) (c .before .before .before .before .before .before .before .before .before .before .before .before .before .before .before .before .pass-zeros .ensures .0) (not-false _ (c .before .before .before .before .before .before .before .before .before .before .before .before .before .before .before .before .before .if1 .left)) (numbered (n .before)) (n .read-number .ensures .0) (then n) (c .before .before .before .before .before .before .before .before .before .before .quantizer .ensures) (d .0) (d .1 .0) (d .1 .1) (c .before .before .before .before .before .before .spot .ensures .0), ranged-half (d .0) (n .read-number .ensures .1))
+    let n = c .before .before .before .before .before .before .before .before .before .before .before .before .before in
+    let p = c .before .before .before .before .before .before .before .before .before .before .before .before .before .before .before .before .before .before .before .before .before .before .before .before .before .before .before .before .before .pre .1 .1 in
+    let d = c .before .before .before .before .before .before .before .before .before .before .signed .ensures in
+    (blocking-number _ _ _ _ _ _ _ _ _ _ _ (p .0) (p .1) (c .before .before .before .before .before .before .before .before .before .before .before .before .before .before .before .before .before .before .before .before .before .before .before .before .before .loop .inv .0) (λ i. c .before .before .before .before .before .before .before .before .before .before .before .before .before .before .before .before .before .before .before .before .before .before .before .before .before .before .before .before .shared-slice-known .given i .fits) (c .before .before .before .before .before .before .before .before .before .before .before .before .before .before .before .before .before .before .before .before .before .before .before .before .before .before .before .shared-slice-known2 .given (c .before .before .before .before .before .before .before .before .before .before .before .before .before .before .before .before .before .before .before .before .before .before .before .before .before .loop .here) .fits) (c .before .before .before .before .before .before .before .before .before .before .before .before .before .before .before .before .before .before .before .before .before .before .before .before .loop-test .taken) (c .before .before .before .before .before .before .before .before .before .before .before .before .before .before .before .before .before .before .before .before .before .before .before .fill .ensures) (c .before .before .before .before .before .before .before .before .before .before .before .before .before .before .before .before .before .before .before .before .before .bit .ensures .0) (c .before .before .before .before .before .before .before .before .before .before .before .before .before .before .before .before .before .pass-zeros .ensures .0) (not-false _ (c .before .before .before .before .before .before .before .before .before .before .before .before .before .before .before .before .before .before .if1 .left)) (numbered (n .before)) (n .read-number .ensures .0) (then n) (c .before .before .before .before .before .before .before .before .before .before .before .quantizer .ensures) (d .0) (d .1 .0) (d .1 .1) (c .before .before .before .before .before .before .before .spot .ensures .0), ranged-half (d .0) (n .read-number .ensures .1))
 
-sub-t45 : tie.Need-sub-t45 Inv-loop μ-loop
-sub-t45 c = c .before .loop .inv .0 .low
+sub-t43 : tie.Need-sub-t43 Inv-loop μ-loop
+sub-t43 c = c .before .before .loop .inv .0 .low
 
-add-t47 : tie.Need-add-t47 Inv-loop μ-loop
-add-t47 c = let i = c .before .loop .inv .0 in record { fits = omega (arith, i .most, i .high) }
+add-t45 : tie.Need-add-t45 Inv-loop μ-loop
+add-t45 c = let i = c .before .before .loop .inv .0 in record { fits = omega (arith, i .most, i .high) }
 
 same-length-3 : tie.Need-same-length-3 Inv-loop μ-loop
-same-length-3 c = blocking-long _ _ _ _ _ _ _ _ _ _ _ (c .before .loop .inv .0)
+same-length-3 c = blocking-long _ _ _ _ _ _ _ _ _ _ _ (c .before .before .loop .inv .0)
 
 returns-3 : tie.Need-returns-3 Inv-loop μ-loop
 returns-3 c =
-    let a = c .before .before .before .before .before .args in
-    let p = c .before .before .before .before .before .pre .1 .1 in
-    let i = c .before .loop .inv .0 in
-    (blocking-end _ _ _ _ _ _ _ _ _ _ _ (p .0) (p .1) i (block (a .table .now) (a .k .kind) (a .k .q0) (a .k .q1) (a .ctx) (a .k .first)) refl (c .loop-test .left), (omega (arith, i .most, i .high), c .before .loop .inv .1))
+    let a = c .before .before .before .before .before .before .args in
+    let p = c .before .before .before .before .before .before .pre .1 .1 in
+    let i = c .before .before .loop .inv .0 in
+    (blocking-end _ _ _ _ _ _ _ _ _ _ _ (p .0) (p .1) i (block (a .table .now) (a .k .kind) (a .k .q0) (a .k .q1) (a .ctx) (a .k .first)) refl (c .before .loop-test .left), (omega (arith, i .most, i .high), c .before .before .loop .inv .1))
 
 pub read-block-spec : {M : Type 1} → statement M
 read-block-spec =
@@ -178,15 +178,15 @@ read-block-spec =
     fill-requires
     shared-slice-read-bit
     bit-requires
-    sub-t30
-    add-t32
-    add-t33
+    sub-t28
+    add-t30
+    add-t31
     same-length
     returns
     pass-zeros-requires
-    sub-t34
-    add-t36
-    add-t37
+    sub-t32
+    add-t34
+    add-t35
     same-length-2
     returns-2
     read-number-requires
@@ -202,7 +202,7 @@ read-block-spec =
     add-n
     loop-less
     loop-again
-    sub-t45
-    add-t47
+    sub-t43
+    add-t45
     same-length-3
     returns-3)
