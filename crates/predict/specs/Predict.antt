@@ -35,7 +35,7 @@ two e i = mean2 (at e i) (at e (i + 1))
 abbrev pub three : List ℕ → ℕ → ℕ
 three e i = mean3 (at e (i - 1)) (at e i) (at e (i + 1))
 
--- TM: the sample with x on its left, y above it, and the corner p
+-- TM_PRED, X_ij of the RFC (section 12.2, 2886-2950, clamped as in 2992): the sample with x on its left, y above it, and the corner p
 abbrev pub tmOne : (x y p : ℕ) → ℕ
 tmOne x y p = clipZ (pos x +ℤ pos y -ℤ pos p)
 
@@ -133,7 +133,7 @@ meanOf false false n a l = 128
 unfoldable pub dcOf : ℕ → Border → ℕ
 dcOf n e = meanOf (e .«above_inside») (e .«left_inside») n (sumOfFirst (e .above) n) (sumOfFirst (e .left) n)
 
--- a row of a square in TM, sixteen wide, with x on its left and a above it
+-- a row of a square in TM_PRED (2979-2992), sixteen wide, with x on its left and a above it
 abbrev pub tmWide : ℕ → List ℕ → ℕ → List ℕ
 tmWide x a p = build 16 (λ k. tmOne x (getD a k 0) p)
 
