@@ -12,14 +12,14 @@ use lent::columns::COLUMN_WIDTH;
 use lent::macroblocks::{MODE_WIDTH, STRENGTH_WIDTH};
 use picture::decode;
 
-#[derive(Drop)]
+#[derive(Clone, Copy)]
 pub struct Sums {
     pub y: u32,
     pub u: u32,
     pub v: u32,
 }
 
-#[derive(Drop)]
+#[derive(Clone, Copy)]
 pub struct Hashes {
     pub y: u64,
     pub u: u64,
@@ -31,7 +31,7 @@ pub struct Hashes {
 
 // The answer of the picture call by number, 10 for a malformed file; the macroblocks finished; the sums of the planes, 0 after 1
 // to 5; the hashes of the six memories after the call.
-#[derive(Drop)]
+#[derive(Clone, Copy)]
 pub struct Ran {
     pub number: u32,
     pub k: usize,

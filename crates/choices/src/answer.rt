@@ -6,7 +6,7 @@ use macroblock::ending::Finish;
 
 // How the picture call ended: every macroblock is finished; an argument was refused, 1 to 5; the first partition or a token
 // partition ran out in macroblock k.
-#[derive(Drop)]
+#[derive(Clone, Copy)]
 pub enum Decoded {
     Whole(usize),
     Refused(u32),

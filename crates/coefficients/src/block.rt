@@ -33,7 +33,7 @@ pub const CAT5: [u8; 5] = [180, 157, 141, 134, 130];
 pub const CAT6: [u8; 11] = [254, 254, 243, 230, 196, 177, 153, 140, 133, 130, 129];
 
 // A coefficient and the reader after it; Missing where a byte was; Refused where the reader or the token is out of range.
-#[derive(Drop)]
+#[derive(Clone, Copy)]
 pub enum Signed {
     Value(i32, Reader),
     Missing,
@@ -41,14 +41,14 @@ pub enum Signed {
 }
 
 // The answer, and how many symbols were read; where one is missing, those before it.
-#[derive(Drop)]
+#[derive(Clone, Copy)]
 struct SignedRead {
     answer: Signed,
     reads: u64,
 }
 
 // Where a block ended and the reader after it; Missing where a byte was; Refused where an argument is out of range.
-#[derive(Drop)]
+#[derive(Clone, Copy)]
 pub enum Block {
     Ended(usize, Reader),
     Missing,
@@ -56,14 +56,14 @@ pub enum Block {
 }
 
 // The answer, and how many symbols were read; where one is missing, those before it.
-#[derive(Drop)]
+#[derive(Clone, Copy)]
 pub struct BlockRead {
     pub answer: Block,
     pub reads: u64,
 }
 
 // The 1056 probabilities of a header as bytes; zeros where it was refused.
-#[derive(Drop)]
+#[derive(Clone, Copy)]
 pub struct Table {
     pub answer: Checked,
     pub bytes: [u8; PROBABILITY_COUNT],

@@ -8,7 +8,7 @@ use straight::limits::acts;
 use straight::steps::straight;
 
 // What the kernel is told of an edge: the simple filter or the normal one, a macroblock's edge or an inner one, and the three numbers.
-#[derive(Drop)]
+#[derive(Clone, Copy)]
 pub struct Edge {
     pub simple: bool,
     pub outer: bool,

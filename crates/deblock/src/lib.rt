@@ -14,7 +14,7 @@ use checks::refusal;
 use squares::squares;
 
 // How the call ended: the planes are deblocked; or an argument was refused, 1, 4 or 11.
-#[derive(Drop)]
+#[derive(Clone, Copy)]
 pub enum Deblocked {
     Done,
     Refused(u32),

@@ -4,7 +4,7 @@ ghost use Rattle.numbers.specs.Flags.{bit_of};
 ghost use Rattle.filter.specs.Strengths.{inner_of, threshold_of, strength_of_of, strength_fine_of, strength_answer};
 
 // A macroblock's strengths: edge limit, interior limit, threshold of high variance; 1 where inner edges are filtered.
-#[derive(Drop)]
+#[derive(Clone, Copy)]
 pub struct Strength {
     pub limit: u8,
     pub inner: u8,
@@ -20,7 +20,7 @@ pub fn strength_fine(t: Strength) -> bool
 }
 
 // The strengths, or an argument that is refused.
-#[derive(Drop)]
+#[derive(Clone, Copy)]
 pub enum Strengths {
     Of(Strength),
     Refused,

@@ -7,7 +7,7 @@ use crate::tag::three;
 use tile::Span;
 
 // `last` is where the last one starts.
-#[derive(Drop)]
+#[derive(Clone, Copy)]
 pub(crate) struct Found {
     pub tokens: [Span; 8],
     pub last: usize,

@@ -15,7 +15,7 @@ use reader::boolean::{Reader, open, valid};
 use tile::{Span, Tile};
 
 // A picture's true width and height, in pixels.
-#[derive(Drop)]
+#[derive(Clone, Copy)]
 pub struct ShownSize {
     pub width: usize,
     pub height: usize,
@@ -23,7 +23,7 @@ pub struct ShownSize {
 
 // 0 and what the picture call takes, or the number of a refusal and zeros. The tile's sides are rounded up to 16, `shown` has the true
 // sizes; `simple` is the filter kind.
-#[derive(Drop)]
+#[derive(Clone, Copy)]
 pub struct Answer {
     pub number: u32,
     pub tile: Tile,
@@ -32,7 +32,7 @@ pub struct Answer {
 }
 
 // The same with the header's entries.
-#[derive(Drop)]
+#[derive(Clone, Copy)]
 pub struct Taken {
     pub answer: Answer,
     pub header: [i32; 1096],

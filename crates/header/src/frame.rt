@@ -16,7 +16,7 @@ use numbers::{Checked, clamp_to};
 
 // What stands before each macroblock's modes: a segment where there is a map, a skip flag where there are such; with what
 // probabilities.
-#[derive(Drop)]
+#[derive(Clone, Copy)]
 pub struct Announced {
     pub map: bool,
     pub map_probabilities: [u8; 3],
@@ -26,7 +26,7 @@ pub struct Announced {
 
 // The quantizers of the four segments; the filter levels of the four where modes are large and where they are small; the sharpness;
 // what is announced.
-#[derive(Drop)]
+#[derive(Clone, Copy)]
 pub struct Frame {
     pub factors: [Factors; 4],
     pub large: [u8; 4],
@@ -36,7 +36,7 @@ pub struct Frame {
 }
 
 // Whether the header was taken, and the frame: zeros where it was refused.
-#[derive(Drop)]
+#[derive(Clone, Copy)]
 pub struct Framed {
     pub answer: Checked,
     pub frame: Frame,

@@ -12,7 +12,7 @@ use crate::own::segmented;
 use numbers::clamp_to;
 
 // The filter level, or an argument that is refused.
-#[derive(Drop)]
+#[derive(Clone, Copy)]
 pub enum Level {
     Of(u8),
     Refused,

@@ -13,7 +13,7 @@ use crate::own::segmented;
 use numbers::clamp_to;
 
 // What each coefficient is multiplied by: the first of a block, and the others, in luma, in the second-order luma block and in chroma.
-#[derive(Drop)]
+#[derive(Clone, Copy)]
 pub struct Factors {
     pub ydc: u16,
     pub yac: u16,
@@ -24,7 +24,7 @@ pub struct Factors {
 }
 
 // The six factors, or an argument that is refused.
-#[derive(Drop)]
+#[derive(Clone, Copy)]
 pub enum Quantizers {
     Ready(Factors),
     Refused,

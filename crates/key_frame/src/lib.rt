@@ -16,7 +16,7 @@ use picture::decode;
 use take::{store, take};
 
 // 0, 6 or 7 with the macroblocks finished, the symbols read and what was taken of the header; or the number of a refusal and zeros.
-#[derive(Drop)]
+#[derive(Clone, Copy)]
 pub struct Shown {
     pub number: u32,
     pub finished: usize,

@@ -10,7 +10,7 @@ use numbers::Checked;
 pub const COLUMN_WIDTH: usize = 4;
 
 // A column's context as it was found; the empty one where it is refused.
-#[derive(Drop)]
+#[derive(Clone, Copy)]
 pub struct ColumnRecord {
     pub answer: Checked,
     pub context: Context,

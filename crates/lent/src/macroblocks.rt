@@ -15,7 +15,7 @@ pub const MODE_WIDTH: usize = 20;
 pub const STRENGTH_WIDTH: usize = 6;
 
 // A macroblock's modes as they were found; zeros where they are refused.
-#[derive(Drop)]
+#[derive(Clone, Copy)]
 pub struct ModeRecord {
     pub answer: Checked,
     pub kinds: Kinds,
@@ -23,7 +23,7 @@ pub struct ModeRecord {
 }
 
 // A macroblock's strengths as they were found, its segment and whether its modes are small; zeros where they are refused.
-#[derive(Drop)]
+#[derive(Clone, Copy)]
 pub struct StrengthRecord {
     pub answer: Checked,
     pub strength: Strength,

@@ -7,7 +7,7 @@ use crate::macroblocks::{MODE_WIDTH, STRENGTH_WIDTH};
 use tile::checks::sides_fine;
 
 // The lengths of the lent memories.
-#[derive(Drop)]
+#[derive(Clone, Copy)]
 pub struct Sizes {
     pub y: usize,
     pub u: usize,

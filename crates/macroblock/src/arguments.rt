@@ -3,7 +3,7 @@ use modes::contexts::Context;
 use reader::boolean::Reader;
 
 // Where it stands: its column and row of macroblocks, and the picture's width in samples.
-#[derive(Drop)]
+#[derive(Clone, Copy)]
 pub struct Place {
     pub column: usize,
     pub row: usize,
@@ -11,21 +11,21 @@ pub struct Place {
 }
 
 // Where its modes are read, in the first partition, and its tokens, in the token partition of its row.
-#[derive(Drop)]
+#[derive(Clone, Copy)]
 pub struct Readers {
     pub first: Reader,
     pub token: Reader,
 }
 
 // What the macroblocks above it and to its left have left.
-#[derive(Drop)]
+#[derive(Clone, Copy)]
 pub struct Around {
     pub top: Context,
     pub left: Context,
 }
 
 // How many symbols were read: from the first partition, and from token partitions.
-#[derive(Drop)]
+#[derive(Clone, Copy)]
 pub struct SymbolCounts {
     pub first: u64,
     pub tokens: u64,

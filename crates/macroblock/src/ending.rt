@@ -15,7 +15,7 @@ use modes::contexts::{Context, bottom, right};
 use reader::boolean::Reader;
 
 // Finished, with the readers after it; or where it stopped: its modes (6) or its tokens (7) ran out; or an argument (9).
-#[derive(Drop)]
+#[derive(Clone, Copy)]
 pub enum Finish {
     Done(Readers),
     NoModes,
@@ -25,7 +25,7 @@ pub enum Finish {
 
 // What a macroblock gives beside its samples: its modes, its strengths, what it leaves to the macroblock below it and to the one right
 // of it. Zeros where it is not finished.
-#[derive(Drop)]
+#[derive(Clone, Copy)]
 pub struct Outcome {
     pub answer: Finish,
     pub kinds: Kinds,
@@ -36,7 +36,7 @@ pub struct Outcome {
 }
 
 // The modes of a macroblock, the reader after them, and how many symbols they took.
-#[derive(Drop)]
+#[derive(Clone, Copy)]
 pub struct ModeData {
     pub kinds: Kinds,
     pub modes: [u8; 16],
@@ -45,7 +45,7 @@ pub struct ModeData {
 }
 
 // What its residual leaves beside the coefficients: the reader behind it, whether nothing was coded, and the flags.
-#[derive(Drop)]
+#[derive(Clone, Copy)]
 pub struct Residue {
     pub after: Reader,
     pub empty: bool,

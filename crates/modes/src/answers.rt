@@ -3,7 +3,7 @@
 use reader::boolean::{Reader, Symbol};
 
 // What stands before a macroblock's modes; small where its luma modes are sixteen small ones.
-#[derive(Drop)]
+#[derive(Clone, Copy)]
 pub struct Prefix {
     pub segment: u8,
     pub skip: bool,
@@ -11,7 +11,7 @@ pub struct Prefix {
 }
 
 // A macroblock's modes but for the sixteen of its luma, which stand in an array beside it.
-#[derive(Drop)]
+#[derive(Clone, Copy)]
 pub struct Kinds {
     pub segment: u8,
     pub skip: bool,
@@ -19,28 +19,28 @@ pub struct Kinds {
     pub chroma: u8,
 }
 
-#[derive(Drop)]
+#[derive(Clone, Copy)]
 pub enum Mode {
     Read(u8, Reader),
     Missing,
     Refused,
 }
 
-#[derive(Drop)]
+#[derive(Clone, Copy)]
 pub enum Headed {
     Read(Prefix, Reader),
     Missing,
     Refused,
 }
 
-#[derive(Drop)]
+#[derive(Clone, Copy)]
 pub enum Next {
     At(Reader),
     Missing,
     Refused,
 }
 
-#[derive(Drop)]
+#[derive(Clone, Copy)]
 pub enum Stage {
     Read(Kinds, Reader),
     Missing,
@@ -48,43 +48,43 @@ pub enum Stage {
 }
 
 // An answer, and the sixteen modes.
-#[derive(Drop)]
+#[derive(Clone, Copy)]
 pub struct Sixteen {
     pub answer: Next,
     pub modes: [u8; 16],
 }
 
-#[derive(Drop)]
+#[derive(Clone, Copy)]
 pub struct Staged {
     pub answer: Stage,
     pub modes: [u8; 16],
 }
 
-#[derive(Drop)]
+#[derive(Clone, Copy)]
 pub struct ModesRead {
     pub answer: Stage,
     pub reads: u64,
 }
 
-#[derive(Drop)]
+#[derive(Clone, Copy)]
 pub(crate) struct SymbolRead {
     pub answer: Symbol,
     pub reads: u64,
 }
 
-#[derive(Drop)]
+#[derive(Clone, Copy)]
 pub(crate) struct ModeRead {
     pub answer: Mode,
     pub reads: u64,
 }
 
-#[derive(Drop)]
+#[derive(Clone, Copy)]
 pub(crate) struct PrefixRead {
     pub answer: Headed,
     pub reads: u64,
 }
 
-#[derive(Drop)]
+#[derive(Clone, Copy)]
 pub(crate) struct LumaRead {
     pub answer: Next,
     pub modes: [u8; 16],

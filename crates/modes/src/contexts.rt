@@ -3,7 +3,7 @@ ghost use Rattle.std.specs.Prelude.{◌≡◌};
 ghost use Rattle.modes.specs.Modes.{bottom_of, right_of, each_below_of, empty_context, context_fine_of};
 
 // The modes of the four sub-blocks on a side, and whether the blocks on that side had coefficients: four luma, two U, two V, Y2.
-#[derive(Drop)]
+#[derive(Clone, Copy)]
 pub struct Context {
     pub modes: [u8; 4],
     pub flags: [u8; 9],

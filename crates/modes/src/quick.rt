@@ -14,28 +14,28 @@ use header::frame::Announced;
 use wide::wide::{Bit, Wide};
 
 // A mode or a segment, and the reader after it.
-#[derive(Drop)]
+#[derive(Clone, Copy)]
 pub(crate) struct Coded {
     pub mode: u8,
     pub next: Wide,
 }
 
 // What stands before the modes.
-#[derive(Drop)]
+#[derive(Clone, Copy)]
 pub(crate) struct Begun {
     pub prefix: Prefix,
     pub next: Wide,
 }
 
 // The sixteen luma modes.
-#[derive(Drop)]
+#[derive(Clone, Copy)]
 pub(crate) struct Lumas {
     pub modes: [u8; 16],
     pub next: Wide,
 }
 
 // All of a macroblock's modes.
-#[derive(Drop)]
+#[derive(Clone, Copy)]
 pub(crate) struct Whole {
     pub kinds: Kinds,
     pub modes: [u8; 16],

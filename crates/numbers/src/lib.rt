@@ -6,14 +6,14 @@ ghost use Rattle.numbers.specs.Clamp.{clamp_z, up_to};
 ghost use Rattle.numbers.specs.Wrap.{wrap16_of};
 
 // Whether a call did its work, or refused an argument out of range (9) and left everything as it was.
-#[derive(Drop)]
+#[derive(Clone, Copy)]
 pub enum Checked {
     Done,
     Refused,
 }
 
 // A number in 16 bits, or an argument that is refused.
-#[derive(Drop)]
+#[derive(Clone, Copy)]
 pub enum Wrapped {
     Value(i32),
     Refused,

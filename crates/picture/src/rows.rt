@@ -17,7 +17,7 @@ use tile::Tile;
 use tile::partitions::{openers, part, pick, token};
 
 // How it ended, and how many symbols were read.
-#[derive(Drop)]
+#[derive(Clone, Copy)]
 pub struct PictureRead {
     pub answer: Decoded,
     pub reads: SymbolCounts,
@@ -25,7 +25,7 @@ pub struct PictureRead {
 
 // The same, with what the macroblock found that it stopped at: the reader of the first partition, those of the token partitions, and what
 // lies to the left.
-#[derive(Drop)]
+#[derive(Clone, Copy)]
 pub struct PictureStop {
     pub answer: Decoded,
     pub reads: SymbolCounts,

@@ -16,7 +16,7 @@ use modes::contexts::Context;
 use whole::decode;
 
 // Where it ended, what the next macroblock of the row sees to its left, and how many symbols were read.
-#[derive(Drop)]
+#[derive(Clone, Copy)]
 pub(crate) struct Ending {
     pub answer: Finish,
     pub left: Context,
@@ -24,7 +24,7 @@ pub(crate) struct Ending {
 }
 
 // What macroblock k is decoded with: its two readers, what it shares with all, what lies to its left, its place.
-#[derive(Drop)]
+#[derive(Clone, Copy)]
 pub struct Task {
     pub readers: Readers,
     pub frame: Frame,

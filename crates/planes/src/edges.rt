@@ -34,7 +34,7 @@ fn near(p: &[u8], w: usize, x: usize, y: usize) -> u8
 }
 
 // A sub-block by its column, its row and the place of its first sample.
-#[derive(Drop)]
+#[derive(Clone, Copy)]
 pub(crate) struct Spot {
     pub x: usize,
     pub y: usize,

@@ -6,7 +6,7 @@ ghost use Rattle.predict.specs.Pieces.{Count, mean_over, joined_of, tm_row_of, t
 
 // What lies around a macroblock's square: the row above, the column to the left (of both the first 8 or 16), the corner, and
 // whether the row above and the column to the left are inside the picture.
-#[derive(Drop)]
+#[derive(Clone, Copy)]
 pub struct Border {
     pub above: [u8; 16],
     pub left: [u8; 16],

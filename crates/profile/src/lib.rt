@@ -16,7 +16,7 @@ use tile::Tile;
 
 // It fits; or the first rule that fails, 1 to 5, or 6 with the first macroblock that is both skipped and small; or an argument was
 // refused, 3 to 5.
-#[derive(Drop)]
+#[derive(Clone, Copy)]
 pub enum Profiled {
     Fits,
     Rule(u32),

@@ -5,7 +5,7 @@ ghost use Rattle.reader.specs.Reading.{given, split_of, chosen_of, grow, decided
 use numbers::byte_or_zero;
 
 // The RFC's bool_decoder: `at` its input, `range`, `shifts` its bit_count, `window` its value.
-#[derive(Drop)]
+#[derive(Clone, Copy)]
 pub struct Reader {
     pub at: usize,
     pub range: u32,
@@ -15,7 +15,7 @@ pub struct Reader {
 
 // The bit and the reader after it; Missing where one of the eight bits that decide it lies past the end; Refused where the reader is out
 // of range.
-#[derive(Drop)]
+#[derive(Clone, Copy)]
 pub enum Symbol {
     Got(bool, Reader),
     Missing,

@@ -10,7 +10,7 @@ use crate::boolean::{Reader, Symbol, valid};
 
 // The number and the reader after it; Missing where a byte was; Refused where the reader is out of range or there are over
 // sixteen bits.
-#[derive(Drop)]
+#[derive(Clone, Copy)]
 pub enum Number {
     Value(u32, Reader),
     Missing,
@@ -18,7 +18,7 @@ pub enum Number {
 }
 
 // The answer, and how many symbols were read; where one is missing, those before it.
-#[derive(Drop)]
+#[derive(Clone, Copy)]
 pub struct NumberRead {
     pub answer: Number,
     pub reads: u64,

@@ -8,7 +8,7 @@ use crate::trees::{Walked, walk};
 
 // A token and the reader after it; Missing where a byte was; Refused where the reader is out of range or the table has not eleven
 // probabilities there.
-#[derive(Drop)]
+#[derive(Clone, Copy)]
 pub enum Token {
     Read(u8, Reader),
     Missing,
@@ -16,7 +16,7 @@ pub enum Token {
 }
 
 // The answer, and how many symbols were read; where one is missing, those before it.
-#[derive(Drop)]
+#[derive(Clone, Copy)]
 pub struct TokenRead {
     pub answer: Token,
     pub reads: u64,

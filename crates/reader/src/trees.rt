@@ -7,7 +7,7 @@ ghost use Rattle.reader.specs.Counts.{tree_count};
 use crate::boolean::{Reader, Symbol, valid};
 
 // The leaf and the reader after it; Missing where a byte was; Refused where the reader or the tree is out of range.
-#[derive(Drop)]
+#[derive(Clone, Copy)]
 pub enum Walked {
     Leaf(u16, Reader),
     Missing,
@@ -15,21 +15,21 @@ pub enum Walked {
 }
 
 // The answer, and how many symbols were read; where one is missing, those before it.
-#[derive(Drop)]
+#[derive(Clone, Copy)]
 pub struct TreeRead {
     pub answer: Walked,
     pub reads: u64,
 }
 
 // What an entry is. Public so that the laws on walks of a known tree can be stated of it elsewhere.
-#[derive(Drop)]
+#[derive(Clone, Copy)]
 pub enum Branch {
     Leaf(u16),
     Node(usize),
 }
 
 // What one symbol leads to.
-#[derive(Drop)]
+#[derive(Clone, Copy)]
 enum Step {
     Leaf(u16, Reader),
     Node(usize, Reader),

@@ -13,21 +13,21 @@ use coefficients::block::BANDS;
 use residual::contexts::cleared;
 
 // Where a block ended, and the pipe after it.
-#[derive(Drop)]
+#[derive(Clone, Copy)]
 pub(crate) struct BlockCopied {
     pub end: usize,
     pub next: Pipe,
 }
 
 // Where a part's flag above and its flag to the left stand.
-#[derive(Drop)]
+#[derive(Clone, Copy)]
 struct FlagPlace {
     x: usize,
     y: usize,
 }
 
 // What goes from block to block: the pipe, and the flags above and to the left.
-#[derive(Drop)]
+#[derive(Clone, Copy)]
 pub struct Flow {
     pub pipe: Pipe,
     pub top: [u8; 9],

@@ -19,7 +19,7 @@ use tile::partitions::part;
 use tile::{Span, Tile};
 
 // 0 and the tile that was written; or the number of a refusal, that of the picture call or 16 where the room is too small, and zeros.
-#[derive(Drop)]
+#[derive(Clone, Copy)]
 pub struct Recoded {
     pub number: u32,
     pub tile: Tile,

@@ -6,14 +6,14 @@ use wide::wide::Wide;
 use writer::Writer;
 
 // Where symbols are read from, and where they are written to.
-#[derive(Drop)]
+#[derive(Clone, Copy)]
 pub struct Pipe {
     pub reader: Wide,
     pub writer: Writer,
 }
 
 // A symbol, and the pipe after it.
-#[derive(Drop)]
+#[derive(Clone, Copy)]
 pub struct Asked {
     pub bit: bool,
     pub next: Pipe,

@@ -15,7 +15,7 @@ pub(crate) const LEADS: [u8; 22] = [
 ];
 
 // A token, and the pipe after it.
-#[derive(Drop)]
+#[derive(Clone, Copy)]
 pub(crate) struct TokenCopied {
     pub token: u8,
     pub next: Pipe,

@@ -14,7 +14,7 @@ use picture::decode;
 use tile::Tile;
 
 // 0 and how many bytes were written; or the number of a refusal, that of the picture call or 16 where the room is too small, and 0.
-#[derive(Drop)]
+#[derive(Clone, Copy)]
 pub struct TokensRecoded {
     pub number: u32,
     pub len: usize,

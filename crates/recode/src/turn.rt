@@ -20,7 +20,7 @@ use writer::Writer;
 
 // What a macroblock is recoded with: the readers of the first partition and of its token partition, the writer, what it shares with all, what
 // lies to its left, its column.
-#[derive(Drop)]
+#[derive(Clone, Copy)]
 pub struct Task {
     pub first: Reader,
     pub token: Reader,
@@ -31,7 +31,7 @@ pub struct Task {
 }
 
 // The readers and the writer after it, and what the next macroblock of the row sees to its left.
-#[derive(Drop)]
+#[derive(Clone, Copy)]
 pub struct Turned {
     pub first: Reader,
     pub token: Reader,

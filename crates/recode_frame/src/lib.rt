@@ -20,7 +20,7 @@ use tile::partitions::part;
 use tile::{Span, Tile};
 
 // 0 and how many bytes were written; or the number of a refusal, and 0.
-#[derive(Drop)]
+#[derive(Clone, Copy)]
 pub struct FrameRecoded {
     pub number: u32,
     pub len: usize,

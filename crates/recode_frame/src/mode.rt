@@ -12,7 +12,7 @@ use modes::small::all_probabilities;
 use recode::pipe::{Pipe, ask};
 
 // Sixteen luma modes, and the pipe after what was read.
-#[derive(Drop)]
+#[derive(Clone, Copy)]
 pub(crate) struct ModesCopied {
     pub modes: [u8; 16],
     pub next: Pipe,

@@ -8,7 +8,7 @@ ghost use Rattle.recode_frame.specs.ModeCopies.{Leading, Led, Leaves};
 use recode::pipe::{Pipe, ask};
 
 // A leaf, and the pipe after it.
-#[derive(Drop)]
+#[derive(Clone, Copy)]
 pub(crate) struct LeafCopied {
     pub leaf: u8,
     pub next: Pipe,

@@ -18,7 +18,7 @@ use picture::halt;
 use tile::Tile;
 
 // How many macroblocks are not grey; or the argument that was refused, 1 to 5.
-#[derive(Drop)]
+#[derive(Clone, Copy)]
 pub enum Rescued {
     Saved(usize),
     Refused(u32),

@@ -18,7 +18,7 @@ use picture::turn::Task;
 use rebuilt::rebuild;
 
 // Where it ended, and what the next macroblock of the row sees to its left.
-#[derive(Drop)]
+#[derive(Clone, Copy)]
 pub(crate) struct RebuiltTurn {
     pub answer: Finish,
     pub left: Context,

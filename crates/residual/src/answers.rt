@@ -5,7 +5,7 @@ ghost use Rattle.residual.specs.Residual.{no_residual_of};
 use reader::boolean::Reader;
 
 // The reader after the macroblock, and whether it is empty; Missing where a byte was; Refused where an argument is out of range.
-#[derive(Drop)]
+#[derive(Clone, Copy)]
 pub enum Ended {
     Done(Reader, bool),
     Missing,
@@ -13,7 +13,7 @@ pub enum Ended {
 }
 
 // The answer, and the flags for the macroblocks below and to the right; zeros where there are none.
-#[derive(Drop)]
+#[derive(Clone, Copy)]
 pub struct Residual {
     pub answer: Ended,
     pub top: [u8; 9],
@@ -21,7 +21,7 @@ pub struct Residual {
 }
 
 // The residual, and how many symbols were read; where one is missing, those before it.
-#[derive(Drop)]
+#[derive(Clone, Copy)]
 pub struct ResidualRead {
     pub residual: Residual,
     pub reads: u64,

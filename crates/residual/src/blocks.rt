@@ -15,7 +15,7 @@ use reader::boolean::Reader;
 use transform::transform;
 
 // What a block's tokens go by: the kind of its probabilities, its first position, and what its numbers are multiplied by.
-#[derive(Drop)]
+#[derive(Clone, Copy)]
 pub(crate) struct Kind {
     pub kind: usize,
     pub first: usize,
@@ -24,7 +24,7 @@ pub(crate) struct Kind {
 }
 
 // What goes from block to block; the coefficients stand beside it.
-#[derive(Drop)]
+#[derive(Clone, Copy)]
 pub(crate) struct State {
     pub reader: Reader,
     pub top: [u8; 9],
@@ -33,7 +33,7 @@ pub(crate) struct State {
 }
 
 // The state after a part, unless a byte was missing; and how many symbols the part alone read, up to a missing one.
-#[derive(Drop)]
+#[derive(Clone, Copy)]
 pub(crate) struct Turn {
     pub ended: bool,
     pub state: State,

@@ -5,7 +5,7 @@ ghost use Rattle.numbers.specs.Flags.{bit_of};
 ghost use Rattle.residual.specs.Residual.{Flags, coordinates, cleared, flags_of};
 
 // The flags of a block: its column's above, its row's to the left.
-#[derive(Drop)]
+#[derive(Clone, Copy)]
 pub(crate) struct FlagsAt {
     pub x: usize,
     pub y: usize,

@@ -24,21 +24,21 @@ const BANDS_AFTER: [u16; 16] = [
 const SYMBOLS: [u8; 12] = [0, 0, 3, 5, 6, 6, 7, 8, 10, 11, 12, 18];
 
 // Where a block's numbers go: number k to the place at + step * k.
-#[derive(Drop)]
+#[derive(Clone, Copy)]
 pub(crate) struct Spots {
     pub at: usize,
     pub step: usize,
 }
 
 // A coefficient, and the reader after it.
-#[derive(Drop)]
+#[derive(Clone, Copy)]
 pub(crate) struct Valued {
     pub value: i16,
     pub next: Wide,
 }
 
 // A number, eleven times the context after it, its symbols as `SYMBOLS` has them, and the reader after it.
-#[derive(Drop)]
+#[derive(Clone, Copy)]
 pub(crate) struct Number {
     pub value: u32,
     pub near: usize,
@@ -48,7 +48,7 @@ pub(crate) struct Number {
 
 // The position of the number that ended a run of zeros, where its probabilities stand and those of the position after it for context 0, and
 // the reader before its node 2; 16 where none did.
-#[derive(Drop)]
+#[derive(Clone, Copy)]
 pub(crate) struct Zeros {
     pub n: usize,
     pub place: usize,
@@ -57,7 +57,7 @@ pub(crate) struct Zeros {
 }
 
 // Where a block ended, how many symbols it was, and the reader after it.
-#[derive(Drop)]
+#[derive(Clone, Copy)]
 pub(crate) struct WideBlock {
     pub end: usize,
     pub reads: u64,

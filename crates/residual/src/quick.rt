@@ -24,7 +24,7 @@ use wide::wide::{Wide, inside, narrow, widen};
 
 // What goes from block to block. The flags stand beside it, and the numbers: the 384 of the macroblock, then sixteen of the second-order
 // block. On the way `empty` is whether no block ended past 1: first coefficients are looked at once, behind the last.
-#[derive(Drop)]
+#[derive(Clone, Copy)]
 pub(crate) struct Passing {
     pub next: Wide,
     pub reads: u64,
@@ -32,7 +32,7 @@ pub(crate) struct Passing {
 }
 
 // The residual of a macroblock and its symbols, where its end was not passed.
-#[derive(Drop)]
+#[derive(Clone, Copy)]
 pub(crate) struct Quick {
     pub fine: bool,
     pub read: ResidualRead,
@@ -77,7 +77,7 @@ fn spread_second(flat: &mut [i16])
 
 // The blocks of one kind and plane are a square: its side, the first of its flags on either edge, where the numbers of its first block
 // go (those of each block after it one further), and how far apart those of a block are.
-#[derive(Drop)]
+#[derive(Clone, Copy)]
 pub(crate) struct Group {
     pub kind: Kind,
     pub side: usize,

@@ -11,7 +11,7 @@ use std::num::wrapping_sub_u32;
 use wide::wide::{Bit, Wide};
 
 // A number of several bits, and the reader after it.
-#[derive(Drop)]
+#[derive(Clone, Copy)]
 pub(crate) struct Numbered {
     pub value: u32,
     pub next: Wide,

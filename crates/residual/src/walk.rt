@@ -11,7 +11,7 @@ use crate::symbols::{bit, even};
 use wide::wide::Wide;
 
 // A token, and the reader after it.
-#[derive(Drop)]
+#[derive(Clone, Copy)]
 pub(crate) struct Walked {
     pub token: u8,
     pub next: Wide,

@@ -15,7 +15,7 @@ use tile::Tile;
 
 // The picture call's number, or 9 where there are not 37 counts, or 15 where one would pass 2^63-1; the macroblocks finished and the
 // symbols read, both 0 after 9.
-#[derive(Drop)]
+#[derive(Clone, Copy)]
 pub struct Surveyed {
     pub number: u32,
     pub finished: usize,

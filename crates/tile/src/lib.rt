@@ -6,7 +6,7 @@ pub mod partitions;
 use reader::boolean::Reader;
 
 // A range of the bytes; it may end past them.
-#[derive(Drop)]
+#[derive(Clone, Copy)]
 pub struct Span {
     pub start: usize,
     pub len: usize,
@@ -14,7 +14,7 @@ pub struct Span {
 
 // The first partition and the reader that starts in it, behind the coded header; the token partitions, of which those past the
 // count are ignored; and the sides of the picture.
-#[derive(Drop)]
+#[derive(Clone, Copy)]
 pub struct Tile {
     pub first: Span,
     pub tokens: [Span; 8],

@@ -12,14 +12,14 @@ ghost use Rattle.transform.specs.Pieces.{CoefficientsIn, PlainTo};
 type Grid = [[i32; 4]; 4];
 
 // 0 and the sixteen results, row by row; or 8 and sixteen zeros, where a coefficient does not fit 16 bits.
-#[derive(Drop)]
+#[derive(Clone, Copy)]
 pub struct Transformed {
     pub number: u32,
     pub samples: [i32; 16],
 }
 
 // What one look at the coefficients tells: whether each fits 16 bits, and whether each but the first is 0.
-#[derive(Drop)]
+#[derive(Clone, Copy)]
 struct Seen {
     fits: bool,
     plain: bool,

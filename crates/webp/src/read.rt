@@ -4,7 +4,7 @@ ghost use Rattle.numbers.specs.Lists.{byte_at};
 ghost use Rattle.webp.specs.Webp.{uint32_at, four_cCAt, marked_of, sized_of, lossy_of, filled_of, find_refusal, find_of};
 
 // Where the frame stands in the file.
-#[derive(Drop)]
+#[derive(Clone, Copy)]
 pub enum Found {
     // Its first byte's place, and its length.
     At(usize, usize),

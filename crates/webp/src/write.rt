@@ -4,7 +4,7 @@ ghost use Rattle.webp.specs.Webp.{wrap_of};
 ghost use Rattle.webp.specs.Write.{head_of, laid};
 
 // How many bytes were written, or the number of a refusal.
-#[derive(Drop)]
+#[derive(Clone, Copy)]
 pub enum WrapAnswer {
     // The length of the file.
     Written(usize),

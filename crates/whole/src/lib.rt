@@ -18,7 +18,7 @@ use reader::boolean::{Reader, valid};
 use residual::answers::Ended;
 
 // An outcome, and how many symbols were read for it.
-#[derive(Drop)]
+#[derive(Clone, Copy)]
 pub struct MacroblockRead {
     pub outcome: Outcome,
     pub reads: SymbolCounts,

@@ -9,7 +9,7 @@ use std::num::{wrapping_add_u64, wrapping_add_usize, wrapping_sub_u32, wrapping_
 
 // `at` is the next byte's place; `value` the loaded bits from the top on, less what was subtracted; `top` the range less one; `count` how
 // many bits are loaded.
-#[derive(Drop)]
+#[derive(Clone, Copy)]
 pub struct Wide {
     pub at: usize,
     pub value: u64,
@@ -18,7 +18,7 @@ pub struct Wide {
 }
 
 // A symbol, and the reader after it.
-#[derive(Drop)]
+#[derive(Clone, Copy)]
 pub struct Bit {
     pub on: bool,
     pub next: Wide,

@@ -8,7 +8,7 @@ ghost use Rattle.writer.specs.Room.{carried_in, byte_in, written_of, fresh_write
 use std::num::{wrapping_add_u32, wrapping_add_usize, wrapping_sub_u32};
 
 // The RFC's bool_encoder: `at` the bytes written, `range`, `bottom`, `count` its bit_count.
-#[derive(Drop)]
+#[derive(Clone, Copy)]
 pub struct Writer {
     pub at: usize,
     pub range: u32,
