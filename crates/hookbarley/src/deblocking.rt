@@ -6,8 +6,7 @@ ghost use Rattle.samples.specs.FilterCalls.{DeblockCalled, deblock_called_of};
 use samples::deblocking::deblocked;
 
 // Deblocks the planes in place by the strengths that the picture call left. `simple` is true where it is not 0.
-#[unsafe(no_mangle)]
-pub extern "C" fn hookbarley_deblock(
+pub fn hookbarley_deblock(
     y: &mut [u8],
     u: &mut [u8],
     v: &mut [u8],

@@ -9,8 +9,7 @@ use told::counts::tell_counts;
 
 // Decodes the tile of 28 numbers (else 9) into the six lent memories. The macroblocks finished go through `finished`, the symbols read
 // through `first_reads` and `token_reads`.
-#[unsafe(no_mangle)]
-pub extern "C" fn hookbarley_decode(
+pub fn hookbarley_decode(
     bytes: &[u8],
     header: &[i32],
     tile: &[usize],

@@ -6,8 +6,7 @@ use samples::explaining::explained;
 
 // What `hookbarley_filter` would do to the samples, and why: rule 1..6 and pair 1..6 by number, the samples after the filter, the steps
 // before clipping. 9, both numbers 0, nothing else changed, where one of the three is not eight long.
-#[unsafe(no_mangle)]
-pub extern "C" fn hookbarley_explain(
+pub fn hookbarley_explain(
     samples: &[u8],
     simple: u8,
     edge: u8,

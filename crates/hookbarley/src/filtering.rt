@@ -6,8 +6,7 @@ use samples::filtering::filtered;
 
 // The edge kernel on eight samples across an edge, p3 to p0 and q0 to q3, in place; 9 where there are not eight. `simple` and
 // `edge` (a macroblock edge) are true where they are not 0.
-#[unsafe(no_mangle)]
-pub extern "C" fn hookbarley_filter(
+pub fn hookbarley_filter(
     samples: &mut [u8],
     simple: u8,
     edge: u8,

@@ -7,8 +7,7 @@ use recode_frame::recode_frame;
 
 // Takes the frame's header, decodes its picture and writes the frame with one token partition to the start of `out`; `written` is how many
 // bytes it has, 0 after a refusal, which leaves `out` as it was.
-#[unsafe(no_mangle)]
-pub extern "C" fn hookbarley_recode_frame(
+pub fn hookbarley_recode_frame(
     bytes: &[u8],
     y: &mut [u8],
     u: &mut [u8],

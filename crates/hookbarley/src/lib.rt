@@ -1,5 +1,5 @@
-// What a program in C or Rust links, one file a call, on numbers and slices: a slice passes as a pointer and a length, a tile as 28 numbers
-// (boundary). include/hookbarley.h says the same in C.
+// The calls that a program in C or Rust makes, one file a call, on numbers and slices: a tile is 28 numbers (boundary). Crate hookbarley_c
+// exports each under its own name.
 pub mod deblocking;
 pub mod decoding;
 pub mod explaining;

@@ -9,8 +9,7 @@ use told::profiled::tell_profile;
 
 // Arguments and lent memory as of `hookbarley_decode`. Through `rule` goes the rule that fails, 0 where none does or an argument is
 // refused; through `macroblock` the one that the last rule names, else 0.
-#[unsafe(no_mangle)]
-pub extern "C" fn hookbarley_profile(
+pub fn hookbarley_profile(
     bytes: &[u8],
     header: &[i32],
     tile: &[usize],

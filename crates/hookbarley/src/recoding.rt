@@ -24,8 +24,7 @@ fn result_of(tile: &[usize], r: Recoded) -> [usize; 28]
 
 // As `hookbarley_decode`, then the tile with one token partition at the start of `out`, and its 28 numbers in `result`. 9 where `tile` or
 // `result` is not 28 numbers.
-#[unsafe(no_mangle)]
-pub extern "C" fn hookbarley_recode(
+pub fn hookbarley_recode(
     bytes: &[u8],
     header: &[i32],
     tile: &[usize],

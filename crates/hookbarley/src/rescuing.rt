@@ -8,8 +8,7 @@ use rescue::rescue;
 use told::rescued::tell_rescue;
 
 // As `hookbarley_decode`, with a byte a macroblock lent for the marks. The macroblocks marked 0 or 1 go through `kept`.
-#[unsafe(no_mangle)]
-pub extern "C" fn hookbarley_rescue(
+pub fn hookbarley_rescue(
     bytes: &[u8],
     header: &[i32],
     tile: &[usize],

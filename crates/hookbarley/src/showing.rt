@@ -10,8 +10,7 @@ use told::counts::tell_counts;
 
 // Takes the frame's header, decodes its picture and runs its loop filter. The entries go into `header`, what else was taken into `tile`, 28
 // numbers (else 9). After a refusal nothing lent has changed.
-#[unsafe(no_mangle)]
-pub extern "C" fn hookbarley_key_frame(
+pub fn hookbarley_key_frame(
     bytes: &[u8],
     header: &mut [i32],
     tile: &mut [usize],

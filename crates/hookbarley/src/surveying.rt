@@ -10,8 +10,7 @@ use survey::survey;
 use told::counts::tell_counts;
 
 // As `hookbarley_decode`, with 37 counts lent, into which the picture is counted.
-#[unsafe(no_mangle)]
-pub extern "C" fn hookbarley_survey(
+pub fn hookbarley_survey(
     bytes: &[u8],
     header: &[i32],
     tile: &[usize],
@@ -58,8 +57,7 @@ pub extern "C" fn hookbarley_survey(
 }
 
 // One record of 37 counts added to another.
-#[unsafe(no_mangle)]
-pub extern "C" fn hookbarley_survey_add(counts: &mut [u64], other: &[u64]) -> u32
+pub fn hookbarley_survey_add(counts: &mut [u64], other: &[u64]) -> u32
     ensures { ◌≡◌ {A = Added} (record { number = result; counts = counts.new })
         (add_of counts.old other.now) }
 {

@@ -1,0 +1,43 @@
+// The picture call.
+ghost use Rattle.std.specs.Prelude.{◌≡◌};
+ghost use Rattle.lent.specs.Memory.{memory_of};
+ghost use Rattle.hookbarley.specs.Calls.{called_numbers, called_of};
+
+// Decodes the tile of 28 numbers (else 9) into the six lent memories. The macroblocks finished go through `finished`, the symbols read
+// through `first_reads` and `token_reads`.
+#[unsafe(no_mangle)]
+pub extern "C" fn hookbarley_decode(
+    bytes: &[u8],
+    header: &[i32],
+    tile: &[usize],
+    y: &mut [u8],
+    u: &mut [u8],
+    v: &mut [u8],
+    columns: &mut [u8],
+    modes: &mut [u8],
+    strengths: &mut [u8],
+    finished: &mut usize,
+    first_reads: &mut u64,
+    token_reads: &mut u64,
+) -> u32
+    ensures { called_numbers result finished.new first_reads.new token_reads.new
+        (memory_of y.new u.new v.new columns.new modes.new strengths.new)
+        ≡ called_of bytes.now header.now tile.now
+        (memory_of y.old u.old v.old
+        columns.old modes.old strengths.old) }
+{
+    hookbarley::decoding::hookbarley_decode(
+        bytes,
+        header,
+        tile,
+        y,
+        u,
+        v,
+        columns,
+        modes,
+        strengths,
+        finished,
+        first_reads,
+        token_reads,
+    )
+}

@@ -1,0 +1,12 @@
+// A simple lossy WebP file (RFC 9649) written around a key frame.
+ghost use Rattle.std.specs.Prelude.{◌≡◌};
+ghost use Rattle.files.specs.WebpCalls.{WebpWrapped, webp_wrapped_of};
+
+// The file's length goes through `written`; it is 0 after a refusal, and then `out` is as it was.
+#[unsafe(no_mangle)]
+pub extern "C" fn hookbarley_webp_wrap(frame: &[u8], out: &mut [u8], written: &mut usize) -> u32
+    ensures { ◌≡◌ {A = WebpWrapped} (record { number = result; written = written.new; out = out.new })
+        (webp_wrapped_of frame.now out.old) }
+{
+    hookbarley::webp_wrap::hookbarley_webp_wrap(frame, out, written)
+}
