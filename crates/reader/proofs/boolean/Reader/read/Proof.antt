@@ -20,9 +20,9 @@ returns c = sym (ap to_symbol (symbol_missing _ _ _ (sym c.decided.ensures ∙ n
 decided_here : (c : tie.Joined-s-self) → (decided_of c.args.s.now c.args.self ≡ true)
 decided_here c =
     ⊎_elim
-    (λ w. sym w.1.ensures ∙ not-false _ w.2.left)
-    (λ w. decided_inside c.args.s.now c.args.self c.requires.placed c.requires.few w.left)
-    c.if-s-self.branch
+    (λ w. sym w.decided.ensures ∙ not-false _ w.if-not-decided.false-raw)
+    (λ w. decided_inside c.args.s.now c.args.self c.requires.placed c.requires.few w.if-s-self.false)
+    c.if-s-self.branch-raw
 
 split-requires : tie.Need-split-x-requires
 split-requires c κs = search rules
