@@ -5,7 +5,7 @@ use Rattle.predict.proofs.mean.Statement.{statement}
 use Rattle.predict.proofs.mean.Tie as tie
 
 last : (c : tie.Else-count-eq16) → c.args.count ≡ 32
-last c = count_else c.requires.count c.if-count-eq8.false c.if-count-eq16.false
+last c = count_else c.requires.0 c.if-count-eq8.false c.if-count-eq16.false
 
 returns : tie.Need-returns-then-count-eq8
 returns c = rw c.if-count-eq8.true

@@ -40,10 +40,10 @@ returns c =
 
 returns-2 : tie.Need-returns
 returns-2 c =
-    let e = read_ended _ _ _ _ _ _ (start c.before.before.before.before.before.before.before.before.before.before.before.before.before).requires.legible.sound.announced (start c.before.before.before.before.before.before.before.before.before.before.before.before.before).requires.legible.reader (start c.before.before.before.before.before.before.before.before.before.before.before.before.before).requires.legible.contexts (λ i. (c.shared_slice_known-1.given i).fits) c.read_modes-read.ensures.0 c.in-Read.is in
+    let e = read_ended _ _ _ _ _ _ (start c.before.before.before.before.before.before.before.before.before.before.before.before.before).requires.0.sound.announced (start c.before.before.before.before.before.before.before.before.before.before.before.before.before).requires.0.reader (start c.before.before.before.before.before.before.before.before.before.before.before.before.before).requires.0.contexts (λ i. (c.shared_slice_known-1.given i).fits) c.read_modes-read.ensures.0 c.in-Read.is in
     let m = macroblock_of c.in-Read.kinds c.read_modes-read.new.modes in
     c.complete.ensures
-    ∙ bare_done (start c.before.before.before.before.before.before.before.before.before.before.before.before.before).args.frame (start c.before.before.before.before.before.before.before.before.before.before.before.before.before).args.place (planes_of (start c.before.before.before.before.before.before.before.before.before.before.before.before.before).args.y.now (start c.before.before.before.before.before.before.before.before.before.before.before.before.before).args.u.now (start c.before.before.before.before.before.before.before.before.before.before.before.before.before).args.v.now) m c.in-Read.next (start c.before.before.before.before.before.before.before.before.before.before.before.before.before).args.readers.token (start c.before.before.before.before.before.before.before.before.before.before.before.before.before).requires.legible.sound (start c.before.before.before.before.before.before.before.before.before.before.before.before.before).requires.1 e.value
+    ∙ bare_done (start c.before.before.before.before.before.before.before.before.before.before.before.before.before).args.frame (start c.before.before.before.before.before.before.before.before.before.before.before.before.before).args.place (planes_of (start c.before.before.before.before.before.before.before.before.before.before.before.before.before).args.y.now (start c.before.before.before.before.before.before.before.before.before.before.before.before.before).args.u.now (start c.before.before.before.before.before.before.before.before.before.before.before.before.before).args.v.now) m c.in-Read.next (start c.before.before.before.before.before.before.before.before.before.before.before.before.before).args.readers.token (start c.before.before.before.before.before.before.before.before.before.before.before.before.before).requires.0.sound (start c.before.before.before.before.before.before.before.before.before.before.before.before.before).requires.1 e.value
     ∙ bare_given _ _ _ _ _ _ (gave c.before.before.before.before.before.before.before.before.before.before.before.before)
 
 pub from_modes_spec : {M : Type 1} → statement M

@@ -28,7 +28,7 @@ kept c =
     quick_kept c.args.s.now c.args.r c.args.table.now c.args.f c.args.small c.args.top c.args.left c.args.out.now c.read_quick-q.new.out c.read_quick-q.result c.read_quick-q.ensures c.if-q.false
 
 read-residual-requires-2 : tie.Need-read_residual-requires-2
-read-residual-requires-2 c κs = (c.requires.valid, (c.requires.flags.0, ap length (kept c.before) ∙ c.requires.flags.1))
+read-residual-requires-2 c κs = (c.requires.0, (c.requires.1.0, ap length (kept c.before) ∙ c.requires.1.1))
 
 same-length-3 : tie.Need-shape_of-out
 same-length-3 c = search rules

@@ -7,17 +7,17 @@ use Rattle.transform.proofs.dct_line.Tie as tie
 
 -- a, b, c, d and bias
 abbrev line : tie.After-d-1 → ℕ → Var
-line p i = known (there w32 (p.requires.each.at i) tt)
+line p i = known (there w32 (p.requires.0.at i) tt)
 
 abbrev ρ : tie.After-d-1 → List Var → List Var
-ρ p more = line p 0 ∷ line p 1 ∷ line p 2 ∷ line p 3 ∷ known (there w32 p.requires.fact tt) ∷ more
+ρ p more = line p 0 ∷ line p 1 ∷ line p 2 ∷ line p 3 ∷ known (there w32 p.requires.1 tt) ∷ more
 
 -- what `by_sine` and `by_cosine` answer
 abbrev part : (k : ℕ) {x r : ℤ} → In (negsuc 199999) (pos 200000) x → r ≡ scaled_of (pos k) (round w32 x) → k ≤ 65536 → Var
 part k {x} i e h = known (answered w32 (e ∙ ap (scaled_of (pos k)) (there w32 i tt).eq) (scaled_in k x h i) tt)
 
 abbrev at : (p : tie.After-d-1) (i : ℕ) → In (negsuc 199999) (pos 200000) (line p i).z
-at p i = p.requires.each.at i
+at p i = p.requires.0.at i
 
 abbrev ρ2 : tie.After-by_cosine → List Var → List Var
 ρ2 q more =

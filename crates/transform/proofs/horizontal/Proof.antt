@@ -10,12 +10,12 @@ abbrev b : tie.After-bias-b → Var
 b c = known (answered w32 c.bias-b.ensures (bias_in c.args.walsh) tt)
 
 -- what a line requires at row y
-ask : (c : tie.After-bias-b) (y : ℕ) → Each (negsuc 199999) (pos 200000) (get_or c.args.t1 y []) × In (pos 0) (pos 4) (round w32 c.bias-b.result)
+ask : (c : tie.After-bias-b) (y : ℕ) → Each (negsuc 199999) (pos 200000) (get_or c.args.g y []) × In (pos 0) (pos 4) (round w32 c.bias-b.result)
 ask c y = (record { at = c.requires.at y }, inside_read (b c).is)
 
 -- what it answers there
-row : (c : tie.After-bias-b) (y : ℕ) {q : List ℤ} → let r : List ℤ = get_or c.args.t1 y [] in q ≡ line_of c.args.walsh (round w32 c.bias-b.result) r → q ≡ line_of c.args.walsh (bias_of c.args.walsh) r
-row c y e = e ∙ ap (λ (x : ℤ). line_of c.args.walsh x (get_or c.args.t1 y [])) (b c).is.eq
+row : (c : tie.After-bias-b) (y : ℕ) {q : List ℤ} → let r : List ℤ = get_or c.args.g y [] in q ≡ line_of c.args.walsh (round w32 c.bias-b.result) r → q ≡ line_of c.args.walsh (bias_of c.args.walsh) r
+row c y e = e ∙ ap (λ (x : ℤ). line_of c.args.walsh x (get_or c.args.g y [])) (b c).is.eq
 
 returns : tie.Need-returns
 unfolding rows_of horizontal_pass

@@ -6,7 +6,7 @@ use Rattle.transform.proofs.line.Tie as tie
 
 -- what a transform's line answers
 told : (s : tie.Start) (w : Bool) {q : List ℤ} → q ≡ line_of w (round w32 s.args.bias) s.args.r → q ≡ line_of w s.args.bias s.args.r
-told s w e = e ∙ ap (λ (b : ℤ). line_of w b s.args.r) (there w32 s.requires.fact tt).eq
+told s w e = e ∙ ap (λ (b : ℤ). line_of w b s.args.r) (there w32 s.requires.1 tt).eq
 
 returns : tie.Need-returns-then-walsh
 returns c = rw c.if-walsh.true (told c.before.before _ c.walsh_line.ensures)

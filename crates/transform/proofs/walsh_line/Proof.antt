@@ -7,8 +7,8 @@ use Rattle.transform.proofs.walsh_line.Tie as tie
 -- a, b, c, d and bias
 abbrev ρ : tie.After-d-1 → List Var
 ρ p =
-    let r : ℕ → Var = λ i. known (there w32 (p.requires.each.at i) tt) in
-    r 0 ∷ r 1 ∷ r 2 ∷ r 3 ∷ known (there w32 p.requires.fact tt) ∷ []
+    let r : ℕ → Var = λ i. known (there w32 (p.requires.0.at i) tt) in
+    r 0 ∷ r 1 ∷ r 2 ∷ r 3 ∷ known (there w32 p.requires.1 tt) ∷ []
 
 abbrev a1 : E
 a1 = v 0 ⊕ v 3 ⊕ v 4

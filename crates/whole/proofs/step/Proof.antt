@@ -46,8 +46,8 @@ returns c =
 
 with-tokens-requires : tie.Need-with_tokens-requires
 with-tokens-requires c κs =
-    let e = read_ended _ _ _ _ _ _ (start c.before.before.before.before).requires.ready.sound.announced (start c.before.before.before.before).requires.ready.reader (start c.before.before.before.before).requires.ready.contexts (λ i. (c.shared_slice_known-1.given i).fits) c.read_modes-read.ensures.0 c.in-Read.is in
-    (record { token = (start c.before.before.before.before).requires.ready.token; size = (start c.before.before.before.before).requires.ready.size; top = (start c.before.before.before.before).requires.ready.top; left = (start c.before.before.before.before).requires.ready.left; sound = (start c.before.before.before.before).requires.ready.sound }, (e.value, (start c.before.before.before.before).requires.1))
+    let e = read_ended _ _ _ _ _ _ (start c.before.before.before.before).requires.0.sound.announced (start c.before.before.before.before).requires.0.reader (start c.before.before.before.before).requires.0.contexts (λ i. (c.shared_slice_known-1.given i).fits) c.read_modes-read.ensures.0 c.in-Read.is in
+    (record { token = (start c.before.before.before.before).requires.0.token; size = (start c.before.before.before.before).requires.0.size; top = (start c.before.before.before.before).requires.0.top; left = (start c.before.before.before.before).requires.0.left; sound = (start c.before.before.before.before).requires.0.sound }, (e.value, (start c.before.before.before.before).requires.1))
 
 same_length : tie.Need-shape_of-y
 same_length c = search rules

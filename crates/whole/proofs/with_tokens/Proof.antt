@@ -53,12 +53,12 @@ table_bytes c i = (c.shared_slice_known-2-1.given i).fits
 is : (c : tie.After-c-2-1) → (run (residual_of (start c).args.table.now (factors_at (start c).args.frame (start c).args.m.kinds.segment) (start c).args.m.kinds.small (start c).args.m.kinds.skip (start c).args.around.top.flags (start c).args.around.left.flags) (start c).args.tokens.now (start c).args.t ≡ from_residual (macroblock_blocks c.decode-read.new.out) c.decode-read.result.residual)
 is c =
     ap (λ (f : Factors). run (residual_of (start c).args.table.now f (start c).args.m.kinds.small (start c).args.m.kinds.skip (start c).args.around.top.flags (start c).args.around.left.flags) (start c).args.tokens.now (start c).args.t) (sym (c.factors_of-f.ensures ∙ ap (factors_at (start c).args.frame) c.index.ensures))
-    ∙ decoded _ _ _ _ _ _ _ _ _ (start c).requires.tokens.token (record { size = (start c).requires.tokens.size; top_flags = (start c).requires.tokens.top; left_flags = (start c).requires.tokens.left; long = refl }) (tokens_bytes c) (table_bytes c) c.decode-read.ensures.0
+    ∙ decoded _ _ _ _ _ _ _ _ _ (start c).requires.0.token (record { size = (start c).requires.0.size; top_flags = (start c).requires.0.top; left_flags = (start c).requires.0.left; long = refl }) (tokens_bytes c) (table_bytes c) c.decode-read.ensures.0
 
 -- and its count
 counted : (c : tie.After-c-2-1) → (c.decode-read.result.reads ≡ macroblock_token_reads (start c).args.tokens.now (start c).args.t (start c).args.frame (start c).args.table.now (start c).args.around (given (macroblock_of (start c).args.m.kinds (start c).args.m.modes) (start c).args.m.next))
 counted c =
-    ResidualLaws.decode_reads_lem _ _ _ _ _ _ _ _ _ (start c).requires.tokens.token (record { size = (start c).requires.tokens.size; top_flags = (start c).requires.tokens.top; left_flags = (start c).requires.tokens.left; long = refl }) c.decode-read.ensures.1
+    ResidualLaws.decode_reads_lem _ _ _ _ _ _ _ _ _ (start c).requires.0.token (record { size = (start c).requires.0.size; top_flags = (start c).requires.0.top; left_flags = (start c).requires.0.left; long = refl }) c.decode-read.ensures.1
     ∙ ap (λ (f : Factors). count (residual_of (start c).args.table.now f (start c).args.m.kinds.small (start c).args.m.kinds.skip (start c).args.around.top.flags (start c).args.around.left.flags) (start c).args.tokens.now (start c).args.t) (c.factors_of-f.ensures ∙ ap (factors_at (start c).args.frame) c.index.ensures)
 
 abbrev at_c2 : tie.In-Done → tie.After-c-2-1
@@ -79,11 +79,11 @@ returns c = (
 returns-2 : tie.Need-returns
 returns-2 c =
     let d = at_c2 c.before.before.before.before.before.before.before.before.before.before.before.before.before in
-    let e = decode_ends _ _ _ _ _ _ _ _ (replicate 384 (pos 0)) (start d).requires.tokens.token (record { size = (start d).requires.tokens.size; top_flags = (start d).requires.tokens.top; left_flags = (start d).requires.tokens.left; long = refl }) (tokens_bytes d) (table_bytes d) (gave c.before.before.before.before.before.before.before.before.before.before.before.before.before) in
+    let e = decode_ends _ _ _ _ _ _ _ _ (replicate 384 (pos 0)) (start d).requires.0.token (record { size = (start d).requires.0.size; top_flags = (start d).requires.0.top; left_flags = (start d).requires.0.left; long = refl }) (tokens_bytes d) (table_bytes d) (gave c.before.before.before.before.before.before.before.before.before.before.before.before.before) in
     let m = macroblock_of (start d).args.m.kinds (start d).args.m.modes in
     let q = planes_of (start d).args.y.now (start d).args.u.now (start d).args.v.now in (
       c.complete.ensures
-          ∙ complete_good (start d).args.frame (start d).args.place q m (start d).args.m.next _ _ (start d).requires.tokens.sound (start d).requires.laid (painting (start d).requires.in_range e.value)
+          ∙ complete_good (start d).args.frame (start d).args.place q m (start d).args.m.next _ _ (start d).requires.0.sound (start d).requires.1.1 (painting (start d).requires.1.0 e.value)
           ∙ tokens_done (start d).args.tokens.now (start d).args.t (start d).args.frame (start d).args.table.now (start d).args.around (start d).args.place m (start d).args.m.next q (gave c.before.before.before.before.before.before.before.before.before.before.before.before.before),
       ap (reads_made (start d).args.m.reads) (counted d),
     )

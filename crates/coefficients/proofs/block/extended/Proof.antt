@@ -18,15 +18,15 @@ enum-known-answer c = search rules
 
 -- what the extra bits say of the grammar
 is : (c : tie.After-extra_bits-bits) → (Took (extra c.args.probs.now) c.args.s.now c.args.r (from_number c.extra_bits-bits.result.answer) c.extra_bits-bits.result.reads)
-is c = extra_took _ _ _ c.requires.valid c.requires.probs_len_bound.0 c.extra_bits-bits.ensures
+is c = extra_took _ _ _ c.requires.0 c.requires.1.0 c.extra_bits-bits.ensures
 
 returns : tie.Need-returns-in_default
 returns c = category_missing _ _ _ _ c.extra_bits-bits.result.answer (is c.before) (not_value c.extra_bits-bits.result.answer c.in_default.in_default-own.keys2)
 
 add-t11 : tie.Need-overflow_add-result
 add-t11 c =
-    let e = run_valid (extra_within c.args.probs.now (λ i. (c.shared_slice_known-2-1.given i).fits)) (λ i. (c.shared_slice_known-1.given i).fits) c.requires.valid ((is c.before).gave ∙ ap from_number c.in-Value.is) in
-    record { fits = omega (arith, bits_small {i = length c.args.probs.now} {n = 16} e.value c.requires.probs_len_bound.0 (lit≤ tt)) }
+    let e = run_valid (extra_within c.args.probs.now (λ i. (c.shared_slice_known-2-1.given i).fits)) (λ i. (c.shared_slice_known-1.given i).fits) c.requires.0 ((is c.before).gave ∙ ap from_number c.in-Value.is) in
+    record { fits = omega (arith, bits_small {i = length c.args.probs.now} {n = 16} e.value c.requires.1.0 (lit≤ tt)) }
 
 returns-2 : tie.Need-returns
 returns-2 c = category_got _ _ _ _ c.extra_bits-bits.result.answer (is c.before) c.in-Value.is

@@ -15,18 +15,18 @@ decreases_loop s table kind ctx first q0 q1 out₀ values₀ next₀ n₀ near�
 
 -- the turn, once the token was asked
 turn_at : (c : tie.After-walk_token-t invariant_loop decreases_loop) → (Turn c.args.s.now c.args.table.now c.args.kind c.args.q0 c.args.q1 (block c.args.table.now c.args.kind c.args.q0 c.args.q1 c.args.ctx c.args.first c.args.out.now) c.args.r c.loop-n.n c.loop-n.near c.loop-n.zero c.loop-n.next c.loop-n.values c.loop-n.reads c.walk_token-t.result.answer c.walk_token-t.result.reads)
-turn_at c = turn c.loop-n.invariant.0 c.loop-n-test.true c.place.ensures.0 (omega (arith, c.place.ensures.1, c.requires.table_len.0)) c.walk_token-t.ensures (λ i. (c.shared_slice_known-1.given i).fits) (λ i. (c.shared_slice_known-2-1.given i).fits)
+turn_at c = turn c.loop-n.invariant.0 c.loop-n-test.true c.place.ensures.0 (omega (arith, c.place.ensures.1, c.requires.1.0)) c.walk_token-t.ensures (λ i. (c.shared_slice_known-1.given i).fits) (λ i. (c.shared_slice_known-2-1.given i).fits)
 
 -- the token stands for a number
 two : (c : tie.Else-token-eq1 invariant_loop decreases_loop) → 2 ≤ c.in-Read.token
 two c = omega (arith, c.if-token-eq0.false, c.if-token-eq1.false)
 
 loop-holds : tie.Need-loop-n-init invariant_loop decreases_loop
-loop-holds c = (going_start c.requires.valid c.requires.table_len.1.1.0 c.requires.table_len.1.1.1, refl)
+loop-holds c = (going_start c.requires.0 c.requires.1.1.1.0 c.requires.1.1.1.1, refl)
 
 place-requires : tie.Need-place-requires invariant_loop decreases_loop
 unfolding bands
-place-requires c κs = (refl, (c.requires.table_len.1.0, (c.loop-n-test.true, c.loop-n.invariant.0.near)))
+place-requires c κs = (refl, (c.requires.1.1.0, (c.loop-n-test.true, c.loop-n.invariant.0.near)))
 
 walk-token-requires : tie.Need-walk_token-t-requires invariant_loop decreases_loop
 walk-token-requires c κs = tt

@@ -18,7 +18,7 @@ enum-known-answer c = search rules
 -- the number's range and the reader after it; then the sign
 range : (c : tie.In-Value) → (ReadTo Magnitude c.args.s.now c.args.r c.in-Value.v c.in-Value.next)
 range c =
-    run_valid (magnitude_within _ c.requires.le_token.0 c.requires.le_token.1) (λ i. (c.shared_slice_known-1.given i).fits) c.requires.valid ((number_took _ _ 0 _ c.read_number-number.ensures).gave ∙ ap from_number c.in-Value.is)
+    run_valid (magnitude_within _ c.requires.1.0 c.requires.1.1) (λ i. (c.shared_slice_known-1.given i).fits) c.requires.0 ((number_took _ _ 0 _ c.read_number-number.ensures).gave ∙ ap from_number c.in-Value.is)
 
 sign : (c : tie.After-symbol) → run (symbol 128) c.args.s.now c.in-Value.next ≡ from_symbol c.symbol.result
 sign c = symboled _ _ 128 (range c.before).valid c.symbol.ensures
@@ -39,7 +39,7 @@ product-requires : tie.Need-product-requires
 product-requires c κs = (range c.before.before).value.1
 
 add-t17 : tie.Need-overflow_add-result
-add-t17 c = record { fits = omega (arith, c.read_number-number.ensures.1, count_within c.args.s.now c.args.r (magnitude_within _ c.requires.le_token.0 c.requires.le_token.1)) }
+add-t17 c = record { fits = omega (arith, c.read_number-number.ensures.1, count_within c.args.s.now c.args.r (magnitude_within _ c.requires.1.0 c.requires.1.1)) }
 
 returns-3 : tie.Need-returns
 returns-3 c = signed_got _ _ _ _ c.read_number-number.ensures c.in-Value.is (sign c.before.before ∙ ap from_symbol c.in-Got.is) (answered w32 c.product.ensures (wrap_in _) tt).eq

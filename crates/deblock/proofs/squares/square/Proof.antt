@@ -47,7 +47,7 @@ long3 c =
     (when_long _ _ _ (third c).0 (length_horizontal _ _ _ _ _) ∙ l.0, when_long _ _ _ (third c).1 (length_horizontal _ _ _ _ _) ∙ l.1)
 
 vertical-requires : tie.Need-vertical-requires
-vertical-requires c κs = (square_left c.requires.square c.requires.size (past_first _ c.requires.size c.if-column-ne0.true), c.requires.beside)
+vertical-requires c κs = (square_left c.requires.0 c.requires.1.0 (past_first _ c.requires.1.0 c.if-column-ne0.true), c.requires.1.1.0)
 
 inners-requires : tie.Need-inners-requires
 inners-requires c κs = let s = start c.before.before.before in let l = long1 c.before.before.before in (rw l.0 s.pre.0, beside_same l.0 l.1 s.pre.1.1.0)

@@ -15,10 +15,10 @@ abbrev decreases_loop : tie.decreases-loop-k
 decreases_loop p₀ q₀ n wide high simple strengths w m k₀ p q k = m - k
 
 mul-w : tie.Need-overflow_mul-w invariant_loop decreases_loop
-mul-w c = omega (arith, c.requires.whole_plane.grid.across)
+mul-w c = omega (arith, c.requires.0.grid.across)
 
 mul-m : tie.Need-overflow_mul-m invariant_loop decreases_loop
-mul-m c = omega (arith, c.requires.whole_plane.long)
+mul-m c = omega (arith, c.requires.0.long)
 
 loop-holds : tie.Need-loop-k-init invariant_loop decreases_loop
 loop-holds c = (omega arith, refl, refl, sym (plane_none _ _ _ _ _), sym (plane_none _ _ _ _ _))
@@ -29,7 +29,7 @@ inside c = omega (arith, c.loop-k.invariant, c.loop-k-test)
 
 -- the strengths that a turn reads
 found : (c : tie.After-read_strength-found invariant_loop decreases_loop) → c.read_strength-found.result.strength ≡ strength_at_of c.args.strengths.now c.loop-k.k
-found c = strength_is _ _ c.read_strength-found.ensures (omega (arith, c.requires.whole_plane.long, inside c.before))
+found c = strength_is _ _ c.read_strength-found.ensures (omega (arith, c.requires.0.long, inside c.before))
 
 rem-square : tie.Need-nonzero_rem-k invariant_loop decreases_loop
 rem-square c = wide_some c.args.wide c.args.high c.loop-k.k (inside c.before.before.before.before.before.before)
@@ -40,12 +40,12 @@ div-square c = wide_some c.args.wide c.args.high c.loop-k.k (inside c.before.bef
 square-requires : tie.Need-square-requires invariant_loop decreases_loop
 square-requires c κs =
     let h = inside c.before.before.before.before.before.before in (
-      rw (c.loop-k.invariant.3, length_plane) (grid_square c.requires.whole_plane.grid c.loop-k.k h),
-      (c.requires.whole_plane.grid.size, (beside_same (ap length c.loop-k.invariant.3 ∙ length_plane _ _ _ _ _ _) (ap length c.loop-k.invariant.4 ∙ length_plane _ _ _ _ _ _) c.requires.beside, rw (found c.before.before.before.before.before) (c.requires.whole_plane.limits c.loop-k.k h))),
+      rw (c.loop-k.invariant.3, length_plane) (grid_square c.requires.0.grid c.loop-k.k h),
+      (c.requires.0.grid.size, (beside_same (ap length c.loop-k.invariant.3 ∙ length_plane _ _ _ _ _ _) (ap length c.loop-k.invariant.4 ∙ length_plane _ _ _ _ _ _) c.requires.1, rw (found c.before.before.before.before.before) (c.requires.0.limits c.loop-k.k h))),
     )
 
 add-k : tie.Need-overflow_step-k invariant_loop decreases_loop
-add-k c = omega (arith, c.requires.whole_plane.long, inside c.before.before.before.before)
+add-k c = omega (arith, c.requires.0.long, inside c.before.before.before.before)
 
 loop-less : tie.Need-loop-k-smaller invariant_loop decreases_loop
 loop-less c = omega (arith, c.loop-k-test)

@@ -23,7 +23,7 @@ delta-requires : tie.Need-delta-requires
 delta-requires c κs = search rules
 
 delta_is : (c : tie.After-delta) → (Know (round w32 c.delta.result) (delta_of c.args.h.now c.args.small) (negsuc 509) (pos 510))
-delta_is c = answered w32 c.delta.ensures (delta_in _ _ c.requires.each) tt
+delta_is c = answered w32 c.delta.ensures (delta_in _ _ c.requires.1) tt
 
 shifted-requires : tie.Need-shifted-requires
 shifted-requires c κs = inside_read (delta_is c)

@@ -14,4 +14,4 @@ pub bounds-rows-i-2 : goal.bounds-rows-i-2
 bounds-rows-i-2 c = omega (arith, c.requires.0)
 
 pub returns : goal.returns
-returns c = flat_at_lem 8 c.args.t1 (lit< tt) c.requires.1 c.args.i
+returns c = flat_at_lem 8 c.args.rows (lit< tt) c.requires.1 c.args.i

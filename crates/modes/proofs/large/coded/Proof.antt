@@ -26,7 +26,7 @@ within c = leaves_within _ _ (λ i. (c.shared_slice_known-2-1.given i).fits) (st
 -- what the call's answer says of the grammar
 took : (c : tie.After-walk_tree-w) {x : Given ℕ} → from_walked c.walk_tree-w.result.answer ≡ x → (Took (tree (start c).args.probs.now (start c).args.t.now) (start c).args.s.now (start c).args.r x c.walk_tree-w.result.reads)
 took c e =
-    record { gave = walked _ _ _ _ _ (start c).requires.valid (start c).requires.t_value c.walk_tree-w.ensures.0 ∙ e; took = c.walk_tree-w.ensures.1 ∙ tree_count_good _ _ _ _ _ (start c).requires.valid (start c).requires.t_value }
+    record { gave = walked _ _ _ _ _ (start c).requires.0 (start c).requires.1.0 c.walk_tree-w.ensures.0 ∙ e; took = c.walk_tree-w.ensures.1 ∙ tree_count_good _ _ _ _ _ (start c).requires.0 (start c).requires.1.0 }
 
 returns : tie.Need-returns-in_default
 returns c = told to_mode (within c.before) (took c.before (not_leaf c.walk_tree-w.result.answer c.in_default.in_default-own.keys2))

@@ -37,10 +37,10 @@ enum-known-first : tie.Need-enum_known-first
 enum-known-first c = search rules
 
 returns : tie.Need-returns-in_default
-returns c = told to_headed (prefix_within c.args.a c.requires.probabilities) (three_1 (prefix_parts c.args.a) (mode_missing c.segment-c.ensures c.in_default.in_default-own.keys2))
+returns c = told to_headed (prefix_within c.args.a c.requires.1) (three_1 (prefix_parts c.args.a) (mode_missing c.segment-c.ensures c.in_default.in_default-own.keys2))
 
 skip-requires : tie.Need-skip-k-requires
-skip-requires c κs = (valid1 c, c.requires.probabilities)
+skip-requires c κs = (valid1 c, c.requires.1)
 
 add-two : tie.Need-overflow_add-two
 add-two c = search rules
@@ -49,7 +49,7 @@ enum-known-second : tie.Need-enum_known-second
 enum-known-second c = search rules
 
 returns-2 : tie.Need-returns-in_default-second
-returns-2 c = told to_headed (prefix_within c.args.a c.requires.probabilities) (three_2 (prefix_parts c.args.a) (one c.before.before.before.before) (symbol_missing c.skip-k.ensures c.in_default-second.in_default-second-own.keys2))
+returns-2 c = told to_headed (prefix_within c.args.a c.requires.1) (three_2 (prefix_parts c.args.a) (one c.before.before.before.before) (symbol_missing c.skip-k.ensures c.in_default-second.in_default-second-own.keys2))
 
 ask-requires : tie.Need-ask-l-requires
 ask-requires c κs = valid2 c
@@ -61,10 +61,10 @@ enum-known-third : tie.Need-enum_known-third
 enum-known-third c = search rules
 
 returns-3 : tie.Need-returns-in_default-third
-returns-3 c = told to_headed (prefix_within c.args.a c.requires.probabilities) (three_3 (prefix_parts c.args.a) (one (prior c.before.before.before)) (two c.before.before.before) (symbol_missing c.ask-l.ensures c.in_default-third.in_default-third-own.keys2))
+returns-3 c = told to_headed (prefix_within c.args.a c.requires.1) (three_3 (prefix_parts c.args.a) (one (prior c.before.before.before)) (two c.before.before.before) (symbol_missing c.ask-l.ensures c.in_default-third.in_default-third-own.keys2))
 
 returns-4 : tie.Need-returns
-returns-4 c = told to_headed (prefix_within c.args.a c.requires.probabilities) (three_4 (prefix_parts c.args.a) (one (prior c.before.before.before)) (two c.before.before.before) (symbol_gave c.ask-l.ensures c.in-Got-third.is))
+returns-4 c = told to_headed (prefix_within c.args.a c.requires.1) (three_4 (prefix_parts c.args.a) (one (prior c.before.before.before)) (two c.before.before.before) (symbol_gave c.ask-l.ensures c.in-Got-third.is))
 
 pub head_spec : {M : Type 1} → statement M
 head_spec = tie.close (tie.spec segment-requires enum-known-first returns skip-requires add-two enum-known-second returns-2 ask-requires add-three enum-known-third returns-3 returns-4)

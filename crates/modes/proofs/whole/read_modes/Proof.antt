@@ -65,7 +65,7 @@ returns-3 c = (c.stage.ensures.0 ∙ sym (modes_good _ _ _ _ _ _ (good c.before.
 abbrev tested : tie.Else-not-inside → tie.Else-not-contexts_fine
 tested c = c.before.before.before.before.before.before.before
 
-gave : (c : tie.Else-not-inside) → (run (modes_of (start (tested c)).args.a (start (tested c)).args.t4 (start (tested c)).args.t5) (start (tested c)).args.s.now (start (tested c)).args.r ≡ given (macroblock_of c.quick-q.result.kinds c.quick-q.result.modes) (narrow_of (start (tested c)).args.s.now c.quick-q.result.next))
+gave : (c : tie.Else-not-inside) → (run (modes_of (start (tested c)).args.a (start (tested c)).args.top (start (tested c)).args.left) (start (tested c)).args.s.now (start (tested c)).args.r ≡ given (macroblock_of c.quick-q.result.kinds c.quick-q.result.modes) (narrow_of (start (tested c)).args.s.now c.quick-q.result.next))
 gave c =
     let t = tested c in
     let a = (start t).args in
@@ -74,7 +74,7 @@ gave c =
 modes-read-requires : tie.Need-modes_read-reads-requires
 modes-read-requires c κs =
     let t = tested c.before.before in
-    let e = run_valid (modes_within (start t).args.a (known t) (start t).args.t4 (start t).args.t5) (bytes t) (good t) (gave c.before.before) in
+    let e = run_valid (modes_within (start t).args.a (known t) (start t).args.top (start t).args.left) (bytes t) (good t) (gave c.before.before) in
     (e.value.luma.each, e.value.chroma)
 
 narrow-requires : tie.Need-narrow-requires
@@ -84,7 +84,7 @@ returns-4 : tie.Need-returns
 returns-4 c =
     let t = tested c.before.before.before.before in (
       sym (ap (to_staged (start t).args.modes.now) (gave c.before.before.before.before ∙ ap (given (macroblock_of c.quick-q.result.kinds c.quick-q.result.modes)) (sym c.narrow.ensures))) ∙ sym (modes_good _ _ _ _ _ _ (good t) (fine t)),
-      c.modes_read-reads.ensures ∙ sym (modes_read_lem (start t).args.a (start t).args.t4 (start t).args.t5 (start t).args.s.now (start t).args.r (gave c.before.before.before.before)) ∙ sym (reads_good _ _ _ _ _ (good t) (fine t)),
+      c.modes_read-reads.ensures ∙ sym (modes_read_lem (start t).args.a (start t).args.top (start t).args.left (start t).args.s.now (start t).args.r (gave c.before.before.before.before)) ∙ sym (reads_good _ _ _ _ _ (good t) (fine t)),
     )
 
 pub read_modes_spec : {M : Type 1} → statement M

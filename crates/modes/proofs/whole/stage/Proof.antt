@@ -42,10 +42,10 @@ enum-known-first : tie.Need-enum_known-first
 enum-known-first c = search rules
 
 returns : tie.Need-returns-in_default
-returns c = told (to_staged c.args.modes.now) (modes_within c.args.a c.requires.probabilities c.args.top.now c.args.left.now) (three_1 (modes_parts c.args.a c.args.top.now c.args.left.now) (took_told to_headed c.head-h.ensures (headed _ c.head-h.ensures.0 ∙ not_headed c.head-h.result.answer c.in_default.in_default-own.keys2)))
+returns c = told (to_staged c.args.modes.now) (modes_within c.args.a c.requires.1.1 c.args.top.now c.args.left.now) (three_1 (modes_parts c.args.a c.args.top.now c.args.left.now) (took_told to_headed c.head-h.ensures (headed _ c.head-h.ensures.0 ∙ not_headed c.head-h.result.answer c.in_default.in_default-own.keys2)))
 
 luma-requires : tie.Need-luma-l-requires
-luma-requires c κs = (valid1 c, c.requires.modes)
+luma-requires c κs = (valid1 c, c.requires.1.0)
 
 add-two : tie.Need-overflow_add-two
 add-two c = search rules
@@ -54,7 +54,7 @@ enum-known-second : tie.Need-enum_known-second
 enum-known-second c = search rules
 
 returns-2 : tie.Need-returns-in_default-second
-returns-2 c = told (to_staged c.args.modes.now) (modes_within c.args.a c.requires.probabilities c.args.top.now c.args.left.now) (three_2 (modes_parts c.args.a c.args.top.now c.args.left.now) (one c.before.before.before.before) (took_told (to_sixteen zeros) c.luma-l.ensures (sixteened zeros _ c.luma-l.ensures.0 ∙ not_next c.luma-l.result.answer c.luma-l.result.modes c.in_default-second.in_default-second-own.keys2)))
+returns-2 c = told (to_staged c.args.modes.now) (modes_within c.args.a c.requires.1.1 c.args.top.now c.args.left.now) (three_2 (modes_parts c.args.a c.args.top.now c.args.left.now) (one c.before.before.before.before) (took_told (to_sixteen zeros) c.luma-l.ensures (sixteened zeros _ c.luma-l.ensures.0 ∙ not_next c.luma-l.result.answer c.luma-l.result.modes c.in_default-second.in_default-second-own.keys2)))
 
 large-mode-requires : tie.Need-large_mode-c-requires
 large-mode-requires c κs = valid2 c
@@ -66,10 +66,10 @@ enum-known-third : tie.Need-enum_known-third
 enum-known-third c = search rules
 
 returns-3 : tie.Need-returns-in_default-third
-returns-3 c = told (to_staged c.args.modes.now) (modes_within c.args.a c.requires.probabilities c.args.top.now c.args.left.now) (three_3 (modes_parts c.args.a c.args.top.now c.args.left.now) (one (prior c.before.before.before)) (two c.before.before.before) (mode_missing c.large_mode-c.ensures c.in_default-third.in_default-third-own.keys2))
+returns-3 c = told (to_staged c.args.modes.now) (modes_within c.args.a c.requires.1.1 c.args.top.now c.args.left.now) (three_3 (modes_parts c.args.a c.args.top.now c.args.left.now) (one (prior c.before.before.before)) (two c.before.before.before) (mode_missing c.large_mode-c.ensures c.in_default-third.in_default-third-own.keys2))
 
 returns-4 : tie.Need-returns
-returns-4 c = told (to_staged c.args.modes.now) (modes_within c.args.a c.requires.probabilities c.args.top.now c.args.left.now) (three_4 (modes_parts c.args.a c.args.top.now c.args.left.now) (one (prior c.before.before.before.before)) (two c.before.before.before.before) (mode_gave c.large_mode-c.ensures c.in-Read-third.is))
+returns-4 c = told (to_staged c.args.modes.now) (modes_within c.args.a c.requires.1.1 c.args.top.now c.args.left.now) (three_4 (modes_parts c.args.a c.args.top.now c.args.left.now) (one (prior c.before.before.before.before)) (two c.before.before.before.before) (mode_gave c.large_mode-c.ensures c.in-Read-third.is))
 
 pub stage_spec : {M : Type 1} → statement M
 stage_spec = tie.close (tie.spec head-requires enum-known-first returns luma-requires add-two enum-known-second returns-2 large-mode-requires add-three enum-known-third returns-3 returns-4)

@@ -89,22 +89,22 @@ counted c = let a = (inner c).before in reads_in (pic a) a.loop.k (state a) _ _ 
 
 kept : (c : tie.After-turn-m invariant_loop decreases_loop) → KeptAll (after c).mem (mem₀ (inner c).before)
 kept c =
-    record { y = c.turn-m.auto.y ∙ (inner c).loop-k.invariant.0.live.y ∙ sym (start (inner c).before).requires.live.y; u = c.turn-m.auto.u ∙ (inner c).loop-k.invariant.0.live.u ∙ sym (start (inner c).before).requires.live.u; v = c.turn-m.auto.v ∙ (inner c).loop-k.invariant.0.live.v ∙ sym (start (inner c).before).requires.live.v; columns = c.turn-m.auto.columns ∙ (inner c).loop-k.invariant.0.live.columns ∙ sym (start (inner c).before).requires.live.columns; modes = c.turn-m.auto.modes ∙ (inner c).loop-k.invariant.0.live.modes ∙ sym (start (inner c).before).requires.live.modes; strengths = c.turn-m.auto.strengths ∙ (inner c).loop-k.invariant.0.live.strengths ∙ sym (start (inner c).before).requires.live.strengths }
+    record { y = c.turn-m.auto.y ∙ (inner c).loop-k.invariant.0.live.y ∙ sym (start (inner c).before).requires.1.y; u = c.turn-m.auto.u ∙ (inner c).loop-k.invariant.0.live.u ∙ sym (start (inner c).before).requires.1.u; v = c.turn-m.auto.v ∙ (inner c).loop-k.invariant.0.live.v ∙ sym (start (inner c).before).requires.1.v; columns = c.turn-m.auto.columns ∙ (inner c).loop-k.invariant.0.live.columns ∙ sym (start (inner c).before).requires.1.columns; modes = c.turn-m.auto.modes ∙ (inner c).loop-k.invariant.0.live.modes ∙ sym (start (inner c).before).requires.1.modes; strengths = c.turn-m.auto.strengths ∙ (inner c).loop-k.invariant.0.live.strengths ∙ sym (start (inner c).before).requires.1.strengths }
 
 ended : (c : tie.At-loop-k invariant_loop decreases_loop) → KeptAll (state c).mem (mem₀ c)
 ended c =
-    record { y = c.loop-k.invariant.0.live.y ∙ sym (start c).requires.live.y; u = c.loop-k.invariant.0.live.u ∙ sym (start c).requires.live.u; v = c.loop-k.invariant.0.live.v ∙ sym (start c).requires.live.v; columns = c.loop-k.invariant.0.live.columns ∙ sym (start c).requires.live.columns; modes = c.loop-k.invariant.0.live.modes ∙ sym (start c).requires.live.modes; strengths = c.loop-k.invariant.0.live.strengths ∙ sym (start c).requires.live.strengths }
+    record { y = c.loop-k.invariant.0.live.y ∙ sym (start c).requires.1.y; u = c.loop-k.invariant.0.live.u ∙ sym (start c).requires.1.u; v = c.loop-k.invariant.0.live.v ∙ sym (start c).requires.1.v; columns = c.loop-k.invariant.0.live.columns ∙ sym (start c).requires.1.columns; modes = c.loop-k.invariant.0.live.modes ∙ sym (start c).requires.1.modes; strengths = c.loop-k.invariant.0.live.strengths ∙ sym (start c).requires.1.strengths }
 
 -- the run from the readers opened and the empty context
 begin : (c : tie.At-loop-k invariant_loop decreases_loop) → end c ≡ total_of (pic c) (start_of (start c).args.bytes.now (start c).args.tile (mem₀ c))
 begin c = λ i. total_of (pic c) (state_of (start c).args.tile.reader (c.openers-readers.ensures i) (c.empty-left.ensures i) (mem₀ c))
 
 mul-blocks : tie.Need-overflow_mul-blocks invariant_loop decreases_loop
-mul-blocks c = omega (arith, mul-le-mul c.requires.shared.wide c.requires.shared.high)
+mul-blocks c = omega (arith, mul-le-mul c.requires.0.wide c.requires.0.high)
 
 loop-holds : tie.Need-loop-k-init invariant_loop decreases_loop
 loop-holds c =
-    let g = going_start _ _ (live_from c.openers-readers.ensures c.empty-left.ensures c.requires.live) in
+    let g = going_start _ _ (live_from c.openers-readers.ensures c.empty-left.ensures c.requires.1) in
     (record { rest = g.rest; sum = g.sum; same = g.same; paid = g.paid; live = g.live }, omega arith)
 
 task-of-requires : tie.Need-task_of-requires invariant_loop decreases_loop

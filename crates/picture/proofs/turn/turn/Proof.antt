@@ -27,15 +27,15 @@ painted c = let l = c.decode-read.new.1.1.1.1.1.1.1 in record { y = l.0; u = l.1
 
 answer : (c : tie.After-decode-read) → record { answer = c.decode-read.result.outcome; planes = painted c } ≡ to_macroblock_called (planes_in (before c)) (step c)
 answer c =
-    call_is _ _ _ _ _ _ _ _ c.decode-read.ensures.0 c.around-near.ensures (start c).requires.ready (start c).requires.laid
+    call_is _ _ _ _ _ _ _ _ c.decode-read.ensures.0 c.around-near.ensures (start c).requires.0 (start c).requires.1.0
 
 counted : (c : tie.After-decode-read) → (c.decode-read.result.reads ≡ reads_of (start c).args.first.now (start c).args.tokens.now (start c).args.task.readers (start c).args.task.frame (start c).args.table.now (record { top = column_at packed (start c).args.columns.now (start c).args.task.place.column; left = beside_of (start c).args.task.place.column (start c).args.task.left }))
 counted c =
-    call_reads _ _ _ _ _ _ _ _ c.decode-read.ensures.1 c.around-near.ensures (start c).requires.ready (start c).requires.laid
+    call_reads _ _ _ _ _ _ _ _ c.decode-read.ensures.1 c.around-near.ensures (start c).requires.0 (start c).requires.1.0
 
 ends : (c : tie.After-decode-read) → (x : Finished) → step c ≡ finished x → Ends (start c).args.first.now (start c).args.tokens.now (planes_in (before c)) x
 ends c x e =
-    ends_of _ _ _ _ _ _ _ _ (start c).requires.ready (start c).requires.laid
+    ends_of _ _ _ _ _ _ _ _ (start c).requires.0 (start c).requires.1.0
     (λ i. (c.shared_slice_known-1.given i).fits)
     (λ i. (c.shared_slice_known-2-1.given i).fits)
     (λ i. (c.shared_slice_known-3-1.given i).fits) x e
@@ -46,7 +46,7 @@ returns c = let d = called c.before.before in (turn_stopped _ _ _ (before d) (st
 returns-2 : tie.Need-returns
 returns-2 c =
     let d = called c.before.before.before.before.before.before.before.before.before.before.before.before.before.before.before.before.before.before.before in
-    (turn_done _ _ _ (before d) c.in-Done.is (start d).requires.room c.write_column.ensures c.write_mode_record.ensures c.write_strength.ensures (step d) (answer d) (ends d), counted d)
+    (turn_done _ _ _ (before d) c.in-Done.is (start d).requires.1.1 c.write_column.ensures c.write_mode_record.ensures c.write_strength.ensures (step d) (answer d) (ends d), counted d)
 
 pub turn_spec : {M : Type 1} → statement M
 turn_spec = tie.close (tie.spec (λ c κs. search rules) (λ c κs. search rules) (λ c. search rules) (λ c. search rules) (λ c. search rules) (λ c. search rules) (λ c. search rules) returns (λ c κs. search rules) (λ c κs. search rules) (λ c κs. search rules) (λ c. search rules) (λ c. search rules) (λ c. search rules) (λ c. search rules) (λ c. search rules) (λ c. search rules) returns-2)

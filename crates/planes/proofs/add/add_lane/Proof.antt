@@ -15,16 +15,16 @@ three : (c : tie.After-add_row-3) → length c.add_row-3.new.p ≡ length c.args
 three c = kept _ _ _ (two c.before.before.before.before.before) c.add_row-3.ensures
 
 add-row-requires : tie.Need-add_row-requires
-add-row-requires c κs = (omega (arith, c.requires.block), rw c.lane_row.ensures (lane_near _ _ c.requires.each))
+add-row-requires c κs = (omega (arith, c.requires.0), rw c.lane_row.ensures (lane_near _ _ c.requires.1.1))
 
 add-row-requires-2 : tie.Need-add_row-requires-2
-add-row-requires-2 c κs = (omega (arith, c.requires.block, one c.before.before.before.before), rw c.lane_row-2.ensures (lane_near _ _ c.requires.each))
+add-row-requires-2 c κs = (omega (arith, c.requires.0, one c.before.before.before.before), rw c.lane_row-2.ensures (lane_near _ _ c.requires.1.1))
 
 add-row-requires-3 : tie.Need-add_row-requires-3
-add-row-requires-3 c κs = (omega (arith, c.requires.block, two c.before.before.before.before), rw c.lane_row-3.ensures (lane_near _ _ c.requires.each))
+add-row-requires-3 c κs = (omega (arith, c.requires.0, two c.before.before.before.before), rw c.lane_row-3.ensures (lane_near _ _ c.requires.1.1))
 
 add-row-requires-4 : tie.Need-add_row-requires-4
-add-row-requires-4 c κs = (omega (arith, c.requires.block, three c.before.before.before.before), rw c.lane_row-4.ensures (lane_near _ _ c.requires.each))
+add-row-requires-4 c κs = (omega (arith, c.requires.0, three c.before.before.before.before), rw c.lane_row-4.ensures (lane_near _ _ c.requires.1.1))
 
 returns : tie.Need-returns
 returns c =

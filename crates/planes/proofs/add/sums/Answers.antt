@@ -17,5 +17,5 @@ sum-requires-4 c = passed w16 (c.requires.each.at 3) tt tt
 
 pub returns : goal.returns
 returns c =
-    let e : (k : ℕ) (q : ℕ) → clip_z (pos q +ℤ round w16 (get_or c.args.t3 k (pos 0))) ≡ clip_z (pos q +ℤ get_or c.args.t3 k (pos 0)) = λ k q. ap (λ (r : ℤ). clip_z (pos q +ℤ r)) (there w16 (c.requires.each.at k) tt).eq in
+    let e : (k : ℕ) (q : ℕ) → clip_z (pos q +ℤ round w16 (get_or c.args.r k (pos 0))) ≡ clip_z (pos q +ℤ get_or c.args.r k (pos 0)) = λ k q. ap (λ (r : ℤ). clip_z (pos q +ℤ r)) (there w16 (c.requires.each.at k) tt).eq in
     four_sums _ _ _ (c.sum.ensures ∙ e 0 _) (c.sum-2.ensures ∙ e 1 _) (c.sum-3.ensures ∙ e 2 _) (c.sum-4.ensures ∙ e 3 _)

@@ -11,7 +11,7 @@ pub loop-i-init : goal.loop-i-init
 loop-i-init c = (omega arith, marked_none c.requires.1)
 
 pub loop-i-preserved : goal.loop-i-preserved
-loop-i-preserved c = (omega arith, marked_next (omega arith) (zero (get_or c.args.t3 c.loop-i.i (pos 0)) c.coded-1.given) c.loop-i.invariant.1)
+loop-i-preserved c = (omega arith, marked_next (omega arith) (zero (get_or c.args.some c.loop-i.i (pos 0)) c.coded-1.given) c.loop-i.invariant.1)
 
 pub returns : goal.returns
 returns c = let e : c.loop-i.i ≡ 8 = omega arith in rw e at c.loop-i.invariant.1

@@ -18,13 +18,13 @@ decreases_loop p₀ w x y right modes coded r c i₀ p i = 16 - i
 -- where the sub-block lies, before it is predicted and after
 lies : (c : tie.After-sub_block-s invariant_loop decreases_loop) → Lies (length c.loop-i.p) c.args.w c.sub_block-s.result
 lies c =
-    rw (c.loop-i.invariant.1, length_blocks) (sub_lies (inr refl) (omega arith) c.requires.square c.sub_block-s.ensures)
+    rw (c.loop-i.invariant.1, length_blocks) (sub_lies (inr refl) (omega arith) c.requires.0 c.sub_block-s.ensures)
 
 still : (c : tie.After-predict_small invariant_loop decreases_loop) → Lies (length c.predict_small.new.p) c.args.w c.sub_block-s.result
 still c = rw (c.predict_small.ensures, length_painted) (lies c.before.before.before.before)
 
 predict-small-requires : tie.Need-predict_small-requires invariant_loop decreases_loop
-predict-small-requires c κs = (lies c.before.before.before, λ e. omega (arith, not_last c.loop-i.i e, c.requires.square.columns, c.sub_block-s.ensures.across))
+predict-small-requires c κs = (lies c.before.before.before, λ e. omega (arith, not_last c.loop-i.i e, c.requires.0.columns, c.sub_block-s.ensures.across))
 
 -- the first coefficient, as it is read
 abbrev turn : tie.After-add-arg-in-loop-i-2-1 invariant_loop decreases_loop → tie.After-sub_block-s invariant_loop decreases_loop
@@ -54,4 +54,4 @@ returns : tie.Need-returns invariant_loop decreases_loop
 returns c = let e : c.loop-i.i ≡ 16 = omega arith in (rw e at c.loop-i.invariant.1, rw e at c.loop-i.invariant.2)
 
 pub small_blocks_spec : {M : Type 1} → statement M
-small_blocks_spec = tie.close (tie.spec invariant_loop decreases_loop (λ c. (omega arith, sym (blocks_none _ _ _ _ _ _ _), λ j h. absurd (omega arith))) (λ c κs. (inr refl, (omega arith, (c.requires.square.columns, c.requires.square.wide, c.requires.square.high)))) (λ c. omega arith) predict-small-requires (λ c. omega arith) (λ c. omega arith) (λ c. omega (arith, c.requires.ready.room)) add-requires (λ c. omega arith) (λ c. omega arith) loop-again (λ c. rw c.loop-i.invariant.1 (length_blocks _ _ _ _ _ _ _ _)) returns)
+small_blocks_spec = tie.close (tie.spec invariant_loop decreases_loop (λ c. (omega arith, sym (blocks_none _ _ _ _ _ _ _), λ j h. absurd (omega arith))) (λ c κs. (inr refl, (omega arith, (c.requires.0.columns, c.requires.0.wide, c.requires.0.high)))) (λ c. omega arith) predict-small-requires (λ c. omega arith) (λ c. omega arith) (λ c. omega (arith, c.requires.1.room)) add-requires (λ c. omega arith) (λ c. omega arith) loop-again (λ c. rw c.loop-i.invariant.1 (length_blocks _ _ _ _ _ _ _ _)) returns)

@@ -5,7 +5,7 @@ use Rattle.planes.proofs.put.put_row.Tie as tie
 
 -- the other
 eight : (c : tie.Else-size-eq16) → c.args.size ≡ 8
-eight c = ⊎_elim (λ e. e) (λ e. absurd (c.if-size-eq16.false e)) c.requires.size
+eight c = ⊎_elim (λ e. e) (λ e. absurd (c.if-size-eq16.false e)) c.requires.0
 
 returns : tie.Need-returns-then-size-eq16
 returns c = rw c.if-size-eq16.true c.put.ensures
@@ -14,4 +14,4 @@ returns-2 : tie.Need-returns-else-size-eq16
 returns-2 c = rw (eight c.before.before.before.before) c.put-else-size-eq16.ensures
 
 pub put_row_spec : {M : Type 1} → statement M
-put_row_spec = tie.close (tie.spec (λ c κs. omega (arith, c.requires.size_in_bounds, c.if-size-eq16.true)) (λ c κs. omega (arith, c.requires.size_in_bounds, eight c.before)) (λ c. search rules) returns (λ c. search rules) returns-2)
+put_row_spec = tie.close (tie.spec (λ c κs. omega (arith, c.requires.1, c.if-size-eq16.true)) (λ c κs. omega (arith, c.requires.1, eight c.before)) (λ c. search rules) returns (λ c. search rules) returns-2)

@@ -78,10 +78,10 @@ returns : tie.Need-returns-in_default invariant_loop decreases_loop
 returns c = gone_none _ _ c.args.stop.answer (state_of c.args.stop.reader c.args.stop.readers c.args.stop.left (memory_of c.args.y.now c.args.u.now c.args.v.now c.args.columns.now c.args.modes.now c.args.strengths.now)) c.in_default.in_default-own.keys2 c.finished.ensures
 
 mul-blocks : tie.Need-overflow_mul-blocks invariant_loop decreases_loop
-mul-blocks c = omega (arith, mul-le-mul c.requires.shared.wide c.requires.shared.high)
+mul-blocks c = omega (arith, mul-le-mul c.requires.1.0.wide c.requires.1.0.high)
 
 loop-holds : tie.Need-loop-k-init invariant_loop decreases_loop
-loop-holds c = going_start _ _ _ (tokens_upto c.in-NoTokens.is c.requires.answer_bound) c.requires.live
+loop-holds c = going_start _ _ _ (tokens_upto c.in-NoTokens.is c.requires.1.1.1) c.requires.1.1.0
 
 turn-requires : tie.Need-turn-m-requires invariant_loop decreases_loop
 turn-requires c κs = rebuilt_asks (pic c.before.before.before.before.before.before.before.before.before.before) (state c.before.before.before.before.before.before.before.before.before.before) c.loop-k.k (shared c.before.before.before.before.before.before.before.before.before.before) c.loop-k.invariant.live (less c.before.before.before.before.before.before.before.before.before) (tasked c.before.before.before.before.before.before) c.part-first.ensures

@@ -27,15 +27,15 @@ painted c = let l = c.rebuild-m.new.1.1.1.1.1 in record { y = l.0; u = l.1.0; v 
 answer : (c : tie.After-rebuild-m) → record { answer = c.rebuild-m.result; planes = painted c } ≡ to_macroblock_called (planes_in (before c)) (step c)
 answer c =
     rebuild_is _ _ _ _ _ _ _ c.rebuild-m.ensures
-    (column_is _ _ c.read_column-found.ensures (start c).requires.room.columns)
+    (column_is _ _ c.read_column-found.ensures (start c).requires.1.1.1.columns)
     c.beside-left.ensures
-    (start c).requires.legible (start c).requires.laid
+    (start c).requires.0 (start c).requires.1.1.0
 
 ends : (c : tie.After-rebuild-m) → (x : Finished) → step c ≡ finished x → Ends (start c).args.first.now (start c).requires.1.0.tokens (planes_in (before c)) x
 ends c x e =
-    ends_rebuilt _ (start c).requires.held.tokens _ _ _ _ _ (start c).requires.legible (start c).requires.laid
+    ends_rebuilt _ (start c).requires.1.0.tokens _ _ _ _ _ (start c).requires.0 (start c).requires.1.1.0
     (λ i. (c.shared_slice_known-1.given i).fits)
-    (start c).requires.held.valid x e
+    (start c).requires.1.0.valid x e
 
 read-column-requires : tie.Need-read_column-found-requires
 read-column-requires c κs = search rules

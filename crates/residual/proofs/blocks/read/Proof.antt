@@ -9,12 +9,12 @@ skipped-requires : tie.Need-skipped-next-requires
 skipped-requires c κs = search rules
 
 returns : tie.Need-returns-then-skip
-returns c = read_skipped c.args.s.now c.args.table.now c.args.f c.args.small c.args.skip c.args.r c.args.top c.args.left c.requires.flags.1 c.if-skip.true c.skipped-next.ensures
+returns c = read_skipped c.args.s.now c.args.table.now c.args.f c.args.small c.args.skip c.args.r c.args.top c.args.left c.requires.1.1 c.if-skip.true c.skipped-next.ensures
 
 -- what the first part is given
 begun : (b : tie.Start) → (Held b.args.s.now b.args.table.now (first b.args.r b.args.top b.args.left) b.args.flat.now)
 begun b =
-    first_held b.args.s.now b.args.table.now b.args.f b.args.small b.args.skip b.args.r b.args.top b.args.left b.requires.flags.1 b.requires.valid.0 b.requires.valid.1 b.requires.flags.0.0 b.requires.flags.0.1
+    first_held b.args.s.now b.args.table.now b.args.f b.args.small b.args.skip b.args.r b.args.top b.args.left b.requires.1.1 b.requires.0.0 b.requires.0.1 b.requires.1.0.0 b.requires.1.0.1
 
 dc-stage-requires : tie.Need-dc_stage-t-requires
 dc-stage-requires c κs = begun c.before.before.before.before
@@ -23,7 +23,7 @@ same_length : tie.Need-shape_of-flat-then-not-t
 same_length c = search rules
 
 returns-2 : tie.Need-returns-then-not-t
-returns-2 c = read_lost c.args.s.now c.args.table.now c.args.f c.args.small c.args.skip c.args.r c.args.top c.args.left c.requires.flags.1 c.if-skip.false c.dc_stage-t.result _ c.dc_stage-t.ensures (not-true _ c.if-not-t.true)
+returns-2 c = read_lost c.args.s.now c.args.table.now c.args.f c.args.small c.args.skip c.args.r c.args.top c.args.left c.requires.1.1 c.if-skip.false c.dc_stage-t.result _ c.dc_stage-t.ensures (not-true _ c.if-not-t.true)
 
 -- what the first part leaves to the others
 abbrev start : tie.After-dc_stage-t → tie.Start

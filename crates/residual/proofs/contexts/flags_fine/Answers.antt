@@ -8,7 +8,7 @@ pub loop-i-init : goal.loop-i-init
 loop-i-init c = (omega arith, refl)
 
 pub loop-i-preserved : goal.loop-i-preserved
-loop-i-preserved c = (omega arith, allowed c.args.t1 c.loop-i.i c.loop-i.invariant.1)
+loop-i-preserved c = (omega arith, allowed c.args.flags c.loop-i.i c.loop-i.invariant.1)
 
 pub returns : goal.returns
 returns c = let e : c.loop-i.i ≡ 9 = omega arith in rw e at c.loop-i.invariant.1

@@ -13,10 +13,10 @@ decreases_loop out₀ flat n from j₀ out j = 16 * n - j
 
 -- the number that a turn lays stands among the blocks
 abbrev lane : (c : tie.In-loop-j invariant_loop decreases_loop) → (c.loop-j.j % c.args.n < c.args.n) × (c.loop-j.j / c.args.n < 16)
-lane c = lane_from c.args.n c.loop-j.j c.requires.n_nonzero.0.0 c.loop-j-test.true
+lane c = lane_from c.args.n c.loop-j.j c.requires.1.0.0 c.loop-j-test.true
 
 loop-holds : tie.Need-loop-j-init invariant_loop decreases_loop
-loop-holds c = (c.requires.out_len.0, omega arith, sym (placed_none _ _ _))
+loop-holds c = (c.requires.0.0, omega arith, sym (placed_none _ _ _))
 
 mul-loop : tie.Need-overflow_mul-n invariant_loop decreases_loop
 mul-loop c = omega arith
@@ -43,7 +43,7 @@ shared-slice-copy-out-out : tie.Need-bounds-flat-from invariant_loop decreases_l
 shared-slice-copy-out-out c = omega (arith, (lane c).0, (lane c).1)
 
 cast-out : tie.Need-overflow_cast-out invariant_loop decreases_loop
-cast-out c = fit (there w32 (c.requires.n_nonzero.1.at _) tt) tt
+cast-out c = fit (there w32 (c.requires.1.1.at _) tt) tt
 
 add-t16 : tie.Need-overflow_add-from invariant_loop decreases_loop
 add-t16 c = omega arith
@@ -61,10 +61,10 @@ loop-less : tie.Need-loop-j-smaller invariant_loop decreases_loop
 loop-less c = omega arith
 
 loop-again : tie.Need-loop-j-preserved invariant_loop decreases_loop
-loop-again c = (simp length-set c.loop-j.invariant.0, omega arith, stored_next _ _ _ _ c.loop-j.invariant.2 (rounded w16 (there w32 (c.requires.n_nonzero.1.at _) tt) tt).eq)
+loop-again c = (simp length-set c.loop-j.invariant.0, omega arith, stored_next _ _ _ _ c.loop-j.invariant.2 (rounded w16 (there w32 (c.requires.1.1.at _) tt) tt).eq)
 
 same_length : tie.Need-shape_of-out invariant_loop decreases_loop
-same_length c = c.loop-j.invariant.0 ∙ sym c.requires.out_len.0
+same_length c = c.loop-j.invariant.0 ∙ sym c.requires.0.0
 
 returns : tie.Need-returns invariant_loop decreases_loop
 returns c = let e : c.loop-j.j ≡ 16 * c.args.n = omega arith in rw e at c.loop-j.invariant.2

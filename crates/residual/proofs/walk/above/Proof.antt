@@ -19,7 +19,7 @@ shared-slice-read-bit : tie.Need-bounds-table-at
 shared-slice-read-bit c = search rules
 
 bit-requires : tie.Need-bit-a-requires
-bit-requires c κs = (c.requires.norms_value.0, ranged_fill _ c.fill-v.ensures c.requires.norms_value.1)
+bit-requires c κs = (c.requires.1.0, ranged_fill _ c.fill-v.ensures c.requires.1.1)
 
 category-requires : tie.Need-category-requires
 category-requires c κs = search rules

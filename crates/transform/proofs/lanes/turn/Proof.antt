@@ -14,7 +14,7 @@ abbrev decreases_loop : tie.decreases-loop-i
 decreases_loop c n t₀ i₀ t i = n - i
 
 fit : (c : tie.After-lane invariant_loop decreases_loop) → SmallIn (lane_of c.args.n c.args.c.now c.loop-i.i)
-fit c = lane_small _ _ c.requires.each
+fit c = lane_small _ _ c.requires.1
 
 loop-again : tie.Need-loop-i-preserved invariant_loop decreases_loop
 loop-again c = (omega arith, c.put_lane.ensures ∙ turned_stages _ _ _ c.loop-i.i c.loop-i.invariant.1 c.lane.ensures c.first_pass.ensures c.second_pass.ensures)

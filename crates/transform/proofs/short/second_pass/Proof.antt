@@ -6,7 +6,7 @@ use Rattle.transform.proofs.short.second_pass.Statement.{statement}
 use Rattle.transform.proofs.short.second_pass.Tie as tie
 
 -- what a line requires at row y
-ask : (c : tie.Start) (y : ℕ) → Each (negsuc 7999) (pos 8000) (get_or c.args.t1 y []) × In (pos 0) (pos 4) (pos 4)
+ask : (c : tie.Start) (y : ℕ) → Each (negsuc 7999) (pos 8000) (get_or c.args.g y []) × In (pos 0) (pos 4) (pos 4)
 ask c y = (record { at = c.requires.at y }, numeral_in _ tt)
 
 returns : tie.Need-returns

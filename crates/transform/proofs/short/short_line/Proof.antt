@@ -7,10 +7,10 @@ use Rattle.transform.proofs.short.short_line.Tie as tie
 
 -- a, b, c, d and bias
 abbrev line : tie.After-d-1 → ℕ → Var
-line p i = known (there w16 (p.requires.each.at i) tt)
+line p i = known (there w16 (p.requires.0.at i) tt)
 
 abbrev ρ : tie.After-d-1 → List Var → List Var
-ρ p more = line p 0 ∷ line p 1 ∷ line p 2 ∷ line p 3 ∷ known (there w16 p.requires.fact tt) ∷ more
+ρ p more = line p 0 ∷ line p 1 ∷ line p 2 ∷ line p 3 ∷ known (there w16 p.requires.1 tt) ∷ more
 
 -- what `sine_part` and `cosine_part` answer
 abbrev part : (k : ℕ) {x r : ℤ} → In (negsuc 7999) (pos 8000) x → r ≡ scaled_of (pos k) (round w16 x)
@@ -18,7 +18,7 @@ abbrev part : (k : ℕ) {x r : ℤ} → In (negsuc 7999) (pos 8000) x → r ≡ 
 part k {x} i e t = known (answered w16 (e ∙ ap (scaled_of (pos k)) (there w16 i tt).eq) (scaled_near k x i) t)
 
 abbrev at : (p : tie.After-d-1) (i : ℕ) → In (negsuc 7999) (pos 8000) (line p i).z
-at p i = p.requires.each.at i
+at p i = p.requires.0.at i
 
 abbrev ρ2 : tie.After-cosine_part → List Var → List Var
 ρ2 q more =
