@@ -12,7 +12,7 @@ pub loop-j-init : goal.loop-j-init
 loop-j-init c = (omega arith, refl, sym (turns_none _ _), sym (turns_none _ _))
 
 pub inner_edge-requires : goal.inner_edge-requires
-inner_edge-requires c = let long = length_turns c.args.upright c.args.g c.args.w c.args.x c.args.y c.args.n c.loop-j.j in record { square = rw (c.loop-j.invariant.2, long c.args.p.now) c.requires.square; beside = (beside_same (ap length c.loop-j.invariant.2 ∙ long c.args.p.now) (ap length c.loop-j.invariant.3 ∙ long c.args.q.now) c.requires.beside, omega (arith, c.loop-j.invariant.1, c.loop-j-test)); j_bound =  }
+inner_edge-requires c = let long = length_turns c.args.upright c.args.g c.args.w c.args.x c.args.y c.args.n c.loop-j.j in record { square = rw (c.loop-j.invariant.2, long c.args.p.now) c.requires.square; beside = beside_same (ap length c.loop-j.invariant.2 ∙ long c.args.p.now) (ap length c.loop-j.invariant.3 ∙ long c.args.q.now) c.requires.beside; j_bound = omega (arith, c.loop-j.invariant.1, c.loop-j-test) }
 
 pub loop-j-preserved : goal.loop-j-preserved
 loop-j-preserved c = (omega arith, refl, c.inner_edge.ensures.p_after ∙ rw c.loop-j.invariant.2 (turns_next _ _ _), c.inner_edge.ensures.q_after ∙ rw c.loop-j.invariant.3 (turns_next _ _ _))

@@ -13,11 +13,12 @@ slice_bounds-coded-end c = omega (arith, table_long c.requires.all_value)
 
 pub coded-requires : goal.coded-requires
 coded-requires c =
-    record { valid = c.requires.valid; t_value = (
-    ap (λ (ps : List ℕ). tree_of ps b_tree 0) (part_is c.args.top c.args.left c.requires.all_value c.requires.top_bound.0 c.requires.top_bound.1 c.place-at.result (c.place-at.result + 9) c.place-at.ensures.0 refl)
-    ∙ tree_fixed (probabilities c.args.top c.args.left) b_tree 0 (rw (probabilities_length c.args.top c.args.left) (lit≤ tt)) refl,
-    byte_leaves_lem b_tree refl,
-    ); t_value_2 =  }
+    record {
+      valid = c.requires.valid;
+      t_value = ap (λ (ps : List ℕ). tree_of ps b_tree 0) (part_is c.args.top c.args.left c.requires.all_value c.requires.top_bound.0 c.requires.top_bound.1 c.place-at.result (c.place-at.result + 9) c.place-at.ensures.0 refl)
+          ∙ tree_fixed (probabilities c.args.top c.args.left) b_tree 0 (rw (probabilities_length c.args.top c.args.left) (lit≤ tt)) refl;
+      t_value_2 = byte_leaves_lem b_tree refl;
+    }
 
 pub returns : goal.returns
 returns c =
