@@ -22,13 +22,13 @@ squares-requires : tie.Need-squares-requires
 squares-requires c κs = (luma_whole (good c.before.before), luma_beside _)
 
 returns-2 : tie.Need-returns-then-simple
-returns-2 c = done _ _ _ _ _ (zero c.before.before.before.before.before.before.before) (picture_simple _ _ _ _ _ c.if-simple.true c.squares.ensures.p_after)
+returns-2 c = done _ _ _ _ _ (zero c.before.before.before.before.before.before.before) (picture_simple _ _ _ _ _ c.if-simple.true c.squares.ensures.0)
 
 squares-requires-2 : tie.Need-squares-requires-2
 squares-requires-2 c κs = let f = good c.before.before.before.before.before.before.before.before.before in (blue_whole f, chroma_beside f)
 
 returns-3 : tie.Need-returns
-returns-3 c = done _ _ _ _ _ (zero c.before.before.before.before.before.before.before.before.before.before.before.before.before.before) (picture_normal _ _ _ _ _ c.if-simple.false c.squares.ensures.p_after c.squares-2.ensures.p_after c.squares-2.ensures.q_after)
+returns-3 c = done _ _ _ _ _ (zero c.before.before.before.before.before.before.before.before.before.before.before.before.before.before) (picture_normal _ _ _ _ _ c.if-simple.false c.squares.ensures.0 c.squares-2.ensures.0 c.squares-2.ensures.1)
 
 pub deblock_spec : {M : Type 1} → statement M
 deblock_spec = tie.close (tie.spec (λ c κs. search rules) returns (λ c. search rules) squares-requires (λ c. search rules) returns-2 squares-requires-2 (λ c. search rules) (λ c. search rules) (λ c. search rules) returns-3)

@@ -85,12 +85,12 @@ fine c f =
 returns-4 : tie.Need-returns-then-small
 returns-4 c =
     let l = (good c.before.before.before.before.before.before.before).luma c.if-small.true in
-    done _ _ _ _ _ _ _ _ _ (fine c.before.before.before.before.before.before.before.before.before (first_all (start c.before.before.before.before.before.before.before.before.before).args.coefficients.now l (all c.before.before.before.before.before.before) c.small_square.ensures.first_fit)) c.scaled-x.ensures c.scaled-y.ensures
-    (c.small_square.ensures.p_after ∙ ap (square_painted (start c.before.before.before.before.before.before.before.before.before).args.plane.now (start c.before.before.before.before.before.before.before.before.before).args.stride c.scaled-x.result c.scaled-y.result 16 true 0 (start c.before.before.before.before.before.before.before.before.before).args.modes.now) (blocks_all (start c.before.before.before.before.before.before.before.before.before).args.coefficients.now l (all c.before.before.before.before.before.before))
+    done _ _ _ _ _ _ _ _ _ (fine c.before.before.before.before.before.before.before.before.before (first_all (start c.before.before.before.before.before.before.before.before.before).args.coefficients.now l (all c.before.before.before.before.before.before) c.small_square.ensures.1)) c.scaled-x.ensures c.scaled-y.ensures
+    (c.small_square.ensures.0 ∙ ap (square_painted (start c.before.before.before.before.before.before.before.before.before).args.plane.now (start c.before.before.before.before.before.before.before.before.before).args.stride c.scaled-x.result c.scaled-y.result 16 true 0 (start c.before.before.before.before.before.before.before.before.before).args.modes.now) (blocks_all (start c.before.before.before.before.before.before.before.before.before).args.coefficients.now l (all c.before.before.before.before.before.before))
     ∙ small_any _ _ _ _ _ _ _ _ _ c.if-small.true l)
 
 returns-5 : tie.Need-returns-else-small
-returns-5 c = done _ _ _ _ _ _ _ _ _ (fine c.before.before.before.before.before.before.before.before.before c.large_square.ensures.first_fit) c.scaled-x.ensures c.scaled-y.ensures (c.large_square.ensures.p_after ∙ large_any _ _ _ _ _ _ _ _ _ c.if-small.false)
+returns-5 c = done _ _ _ _ _ _ _ _ _ (fine c.before.before.before.before.before.before.before.before.before c.large_square.ensures.1) c.scaled-x.ensures c.scaled-y.ensures (c.large_square.ensures.0 ∙ large_any _ _ _ _ _ _ _ _ _ c.if-small.false)
 
 pub paint_spec : {M : Type 1} → statement M
 paint_spec = tie.close (tie.spec (λ c κs. search rules) returns (λ c κs. size c) returns-2 (λ c κs. size c.before.before) returns-3 coded-blocks-requires (λ c κs. search rules) (λ c κs. search rules) (λ c κs. search rules) (λ c κs. let f = few c in (f.0, f.2)) (λ c κs. let f = few c.before in (f.1, f.2)) small-square-requires large-square-requires (λ c. search rules) returns-4 (λ c. search rules) returns-5)

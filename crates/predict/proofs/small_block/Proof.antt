@@ -25,6 +25,7 @@ past m zero p = omega arith
 past m (suc n) p = let h = past m n p.0 in let f = p.1 in omega arith
 
 pub small_block_spec : {M : Type 1} → statement M
+unfolding ve_block rd_block vr_block ld_block vl_block hd_block
 small_block_spec = tie.close (tie.spec (λ c κs. search rules) (λ c κs. search rules) (λ c κs. search rules) (λ c κs. search rules) (λ c κs. search rules) (λ c κs. search rules) (λ c κs. refl) (λ c κs. search rules) (λ c κs. search rules) (λ c κs. search rules) (λ c κs. refl) (λ c κs. search rules) (λ c κs. search rules) (λ c κs. search rules) (λ c κs. refl) (λ c κs. search rules) (λ c κs. search rules) (λ c κs. search rules) (λ c κs. refl) (λ c κs. search rules) (λ c κs. search rules) (λ c κs. search rules) (λ c κs. refl) (λ c κs. search rules) (λ c κs. search rules) (λ c κs. search rules) (λ c κs. refl) (λ c κs. search rules) (λ c κs. search rules) (λ c κs. search rules) (λ c κs. refl) (λ c κs. search rules) (λ c κs. search rules) (λ c κs. search rules) (λ c κs. refl) (λ c. arm c.before.before.before 0 c.in-0.is c.dc_block.ensures) (λ c. arm c.before.before.before 1 c.in-1.is c.tm_block.ensures) (λ c. way c.before.before.before.before.before.before 2 0 5 _ c.in-2.is
     c.stretched-f.ensures c.twos.ensures c.threes.ensures c.both.ensures c.pick.ensures refl) (λ c. way c.before.before.before.before.before.before 3 0 0 _ c.in-3.is
     c.stretched-f.ensures c.twos-in-3.ensures c.threes-in-3.ensures c.both-in-3.ensures c.pick-in-3.ensures (he_directed c.args.e)) (λ c. way c.before.before.before.before.before.before 4 0 1 _ c.in-4.is

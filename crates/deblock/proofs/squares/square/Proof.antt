@@ -62,15 +62,15 @@ inners-requires-2 : tie.Need-inners-requires-then-inside-2
 inners-requires-2 c κs = let s = start c.before.before.before.before.before in let l = long3 c.before.before.before in (rw l.0 s.pre.0, beside_same l.0 l.1 s.pre.1.1.0)
 
 same_length : tie.Need-shape_of-p-then-inside-2
-same_length c = rw c.inners-then-inside-2.ensures.p_after (length_inners _ _ _ _ _ _ _) ∙ (long3 c.before.before.before.before.before.before.before.before).0
+same_length c = rw c.inners-then-inside-2.ensures.0 (length_inners _ _ _ _ _ _ _) ∙ (long3 c.before.before.before.before.before.before.before.before).0
 
 same-length-2 : tie.Need-shape_of-q-then-inside-2
-same-length-2 c = rw c.inners-then-inside-2.ensures.q_after (length_inners _ _ _ _ _ _ _) ∙ (long3 c.before.before.before.before.before.before.before.before).1
+same-length-2 c = rw c.inners-then-inside-2.ensures.1 (length_inners _ _ _ _ _ _ _) ∙ (long3 c.before.before.before.before.before.before.before.before).1
 
 returns : tie.Need-returns-then-inside-2
 returns c = (
-  square_is _ _ _ _ _ _ _ (first c.before.before.before.before.before.before.before.before.before.before).0 (second c.before.before.before.before.before.before.before.before.before).0 (third c.before.before.before.before.before.before.before.before).0 (when_yes _ _ c.if-inside-2.true-raw (rw (← c.inner_of-inner.ensures) c.inners-then-inside-2.ensures.p_after)),
-  square_is _ _ _ _ _ _ _ (first c.before.before.before.before.before.before.before.before.before.before).1 (second c.before.before.before.before.before.before.before.before.before).1 (third c.before.before.before.before.before.before.before.before).1 (when_yes _ _ c.if-inside-2.true-raw (rw (← c.inner_of-inner.ensures) c.inners-then-inside-2.ensures.q_after)),
+  square_is _ _ _ _ _ _ _ (first c.before.before.before.before.before.before.before.before.before.before).0 (second c.before.before.before.before.before.before.before.before.before).0 (third c.before.before.before.before.before.before.before.before).0 (when_yes _ _ c.if-inside-2.true-raw (rw (← c.inner_of-inner.ensures) c.inners-then-inside-2.ensures.0)),
+  square_is _ _ _ _ _ _ _ (first c.before.before.before.before.before.before.before.before.before.before).1 (second c.before.before.before.before.before.before.before.before.before).1 (third c.before.before.before.before.before.before.before.before).1 (when_yes _ _ c.if-inside-2.true-raw (rw (← c.inner_of-inner.ensures) c.inners-then-inside-2.ensures.1)),
 )
 
 same-length-3 : tie.Need-shape_of-p-else-inside-2

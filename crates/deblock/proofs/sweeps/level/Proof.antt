@@ -13,13 +13,13 @@ copy-requires : tie.Need-copy-requires
 copy-requires c κs = λ i h. (omega arith, row_room _ _ 7 16 c.requires.0 i (omega arith))
 
 copy-requires-2 : tie.Need-copy-requires-then-sweep
-copy-requires-2 c κs = λ i h. (row_room _ _ 7 16 c.requires.0 i (omega arith), rw (swept_long _ (part c.before.before.before.before) c.sweep.ensures.t_after) (omega arith))
+copy-requires-2 c κs = λ i h. (row_room _ _ 7 16 c.requires.0 i (omega arith), rw (swept_long _ (part c.before.before.before.before) c.sweep.ensures.0) (omega arith))
 
 returns : tie.Need-returns-then-sweep
-returns c = level_end _ _ _ (part c.before.before.before.before.before.before.before) c.requires.1 c.sweep.ensures.t_after c.copy-then-sweep.ensures
+returns c = level_end _ _ _ (part c.before.before.before.before.before.before.before) c.requires.1 c.sweep.ensures.0 c.copy-then-sweep.ensures
 
 returns-2 : tie.Need-returns-else-sweep
-returns-2 c = part_still _ (part c.before.before) c.sweep.ensures.t_after (c.sweep.ensures.t_unchanged c.if-sweep.false)
+returns-2 c = part_still _ (part c.before.before) c.sweep.ensures.0 (c.sweep.ensures.1 c.if-sweep.false)
 
 pub level_spec : {M : Type 1} → statement M
 level_spec = tie.close (tie.spec (λ c. search rules) copy-requires (λ c. search rules) (λ c κs. search rules) (λ c. search rules) copy-requires-2 (λ c. search rules) returns (λ c. search rules) returns-2)

@@ -20,18 +20,18 @@ copy-requires-2 c κs =
     λ i h. (rw long (omega arith), row_room _ _ 7 8 c.requires.1 i (omega arith))
 
 copy-requires-3 : tie.Need-copy-requires-then-sweep
-copy-requires-3 c κs = λ i h. (row_room _ _ 7 8 c.requires.0 i (omega arith), rw (swept_long _ (parts c.before.before.before.before).0 c.sweep.ensures.t_after) (omega arith))
+copy-requires-3 c κs = λ i h. (row_room _ _ 7 8 c.requires.0 i (omega arith), rw (swept_long _ (parts c.before.before.before.before).0 c.sweep.ensures.0) (omega arith))
 
 copy-requires-4 : tie.Need-copy-requires-then-sweep-2
-copy-requires-4 c κs = λ i h. (row_room _ _ 7 8 c.requires.1 i (omega arith), rw (swept_long _ (parts c.before.before.before.before.before.before.before.before.before).0 c.sweep.ensures.t_after) (omega arith))
+copy-requires-4 c κs = λ i h. (row_room _ _ 7 8 c.requires.1 i (omega arith), rw (swept_long _ (parts c.before.before.before.before.before.before.before.before.before).0 c.sweep.ensures.0) (omega arith))
 
 returns : tie.Need-returns-then-sweep
-returns c = (level_end _ _ _ (parts c.before.before.before.before.before.before.before.before.before.before.before.before).0 c.requires.2 c.sweep.ensures.t_after c.copy-then-sweep.ensures, level_end _ _ _ (parts c.before.before.before.before.before.before.before.before.before.before.before.before).1 c.requires.2 c.sweep.ensures.t_after c.copy-then-sweep-2.ensures)
+returns c = (level_end _ _ _ (parts c.before.before.before.before.before.before.before.before.before.before.before.before).0 c.requires.2 c.sweep.ensures.0 c.copy-then-sweep.ensures, level_end _ _ _ (parts c.before.before.before.before.before.before.before.before.before.before.before.before).1 c.requires.2 c.sweep.ensures.0 c.copy-then-sweep-2.ensures)
 
 returns-2 : tie.Need-returns-else-sweep
 returns-2 c =
-    let still = c.sweep.ensures.t_unchanged c.if-sweep.false in
-    (part_still _ (parts c.before.before).0 c.sweep.ensures.t_after still, part_still _ (parts c.before.before).1 c.sweep.ensures.t_after still)
+    let still = c.sweep.ensures.1 c.if-sweep.false in
+    (part_still _ (parts c.before.before).0 c.sweep.ensures.0 still, part_still _ (parts c.before.before).1 c.sweep.ensures.0 still)
 
 pub level_pair_spec : {M : Type 1} → statement M
 level_pair_spec = tie.close (tie.spec (λ c. search rules) copy-requires (λ c. search rules) copy-requires-2 (λ c. search rules) (λ c κs. search rules) (λ c. search rules) copy-requires-3 (λ c. search rules) copy-requires-4 (λ c. search rules) (λ c. search rules) returns (λ c. search rules) (λ c. search rules) returns-2)

@@ -18,11 +18,11 @@ copy-requires-2 c κs = λ i h. (row_room _ _ 15 8 c.requires.0 i (omega arith),
 
 returns : tie.Need-returns-then-sweep
 returns c =
-    upright_end _ _ c.args.g (part c.before.before.before.before.before.before.before.before.before) c.requires.1 c.sweep.ensures.t_after
+    upright_end _ _ c.args.g (part c.before.before.before.before.before.before.before.before.before) c.requires.1 c.sweep.ensures.0
     (c.copy-then-sweep.ensures ∙ ap (λ (b : List ℕ). rows_copied c.args.p.now c.args.at c.args.w b 0 8 8 16) c.rows-b.ensures)
 
 returns-2 : tie.Need-returns-else-sweep
-returns-2 c = part_still _ (part c.before.before) c.sweep.ensures.t_after (c.sweep.ensures.t_unchanged c.if-sweep.false)
+returns-2 c = part_still _ (part c.before.before) c.sweep.ensures.0 (c.sweep.ensures.1 c.if-sweep.false)
 
 pub upright_spec : {M : Type 1} → statement M
 upright_spec = tie.close (tie.spec (λ c. search rules) copy-requires (λ c κs. search rules) (λ c. search rules) (λ c κs. search rules) (λ c κs. search rules) (λ c. search rules) copy-requires-2 (λ c. search rules) returns (λ c. search rules) returns-2)

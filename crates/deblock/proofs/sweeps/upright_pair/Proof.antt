@@ -27,14 +27,14 @@ copy-requires-4 c κs = λ i h. (row_room _ _ 7 8 c.requires.1 i (omega arith), 
 
 returns : tie.Need-returns-then-sweep
 returns c = (
-  upright_end _ _ c.args.g (parts c.before.before.before.before.before.before.before.before.before.before.before.before.before.before).0 c.requires.2 c.sweep.ensures.t_after (c.copy-then-sweep.ensures ∙ ap (λ (r : List ℕ). rows_copied c.args.p.now c.args.at c.args.w r 0 8 8 8) c.rows-b.ensures),
-  upright_end _ _ c.args.g (parts c.before.before.before.before.before.before.before.before.before.before.before.before.before.before).1 c.requires.2 c.sweep.ensures.t_after (c.copy-then-sweep-2.ensures ∙ ap (λ (r : List ℕ). rows_copied c.args.q.now c.args.at c.args.w r 64 8 8 8) c.rows-b.ensures),
+  upright_end _ _ c.args.g (parts c.before.before.before.before.before.before.before.before.before.before.before.before.before.before).0 c.requires.2 c.sweep.ensures.0 (c.copy-then-sweep.ensures ∙ ap (λ (r : List ℕ). rows_copied c.args.p.now c.args.at c.args.w r 0 8 8 8) c.rows-b.ensures),
+  upright_end _ _ c.args.g (parts c.before.before.before.before.before.before.before.before.before.before.before.before.before.before).1 c.requires.2 c.sweep.ensures.0 (c.copy-then-sweep-2.ensures ∙ ap (λ (r : List ℕ). rows_copied c.args.q.now c.args.at c.args.w r 64 8 8 8) c.rows-b.ensures),
 )
 
 returns-2 : tie.Need-returns-else-sweep
 returns-2 c =
-    let still = c.sweep.ensures.t_unchanged c.if-sweep.false in
-    (part_still _ (parts c.before.before).0 c.sweep.ensures.t_after still, part_still _ (parts c.before.before).1 c.sweep.ensures.t_after still)
+    let still = c.sweep.ensures.1 c.if-sweep.false in
+    (part_still _ (parts c.before.before).0 c.sweep.ensures.0 still, part_still _ (parts c.before.before).1 c.sweep.ensures.0 still)
 
 pub upright_pair_spec : {M : Type 1} → statement M
 upright_pair_spec = tie.close (tie.spec (λ c. search rules) copy-requires (λ c. search rules) copy-requires-2 (λ c κs. search rules) (λ c. search rules) (λ c κs. search rules) (λ c κs. search rules) (λ c. search rules) copy-requires-3 (λ c. search rules) copy-requires-4 (λ c. search rules) (λ c. search rules) returns (λ c. search rules) (λ c. search rules) returns-2)

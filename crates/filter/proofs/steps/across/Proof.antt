@@ -5,7 +5,7 @@ use Rattle.filter.proofs.steps.across.Statement.{statement}
 use Rattle.filter.proofs.steps.across.Tie as tie
 
 abbrev ρ : tie.After-minus → List Var
-ρ c = known (called w16 c.minus.ensures.value c.minus.ensures.fact tt) ∷ []
+ρ c = known (called w16 c.minus.ensures.0 c.minus.ensures.1 tt) ∷ []
 
 mul-result : tie.Need-overflow_mul-result
 mul-result c = fits w16 (ρ c) (3 ⊙ v 0) tt

@@ -7,8 +7,8 @@ use Rattle.filter.proofs.steps.tapped.Tie as tie
 -- the step across the edge, and the outer taps
 abbrev ρ : tie.After-signed_byte → List Var
 ρ c =
-    known (called w16 c.across.ensures.value c.across.ensures.fact tt)
-    ∷ known (answered w16 (c.signed_byte.ensures ∙ ap (λ (z : ℤ). signed_byte_z z) (called w16 c.minus.ensures.value c.minus.ensures.fact tt).eq) (signed_in 127 _) tt) ∷ []
+    known (called w16 c.across.ensures.0 c.across.ensures.1 tt)
+    ∷ known (answered w16 (c.signed_byte.ensures ∙ ap (λ (z : ℤ). signed_byte_z z) (called w16 c.minus.ensures.0 c.minus.ensures.1 tt).eq) (signed_in 127 _) tt) ∷ []
 
 add-result : tie.Need-overflow_add-result
 add-result c = fits w16 (ρ c) (v 0 ⊕ v 1) tt

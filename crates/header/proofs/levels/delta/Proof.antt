@@ -31,13 +31,13 @@ add-result : tie.Need-overflow_add-result
 add-result c = fits w32 (ρ c.before.before.before.before.before.before) (v 0 ⊕ v 1) tt
 
 returns-2 : tie.Need-returns-then-small
-returns-2 c = is w32 (ρ c.before.before.before.before.before.before) (v 0 ⊕ v 1) tt ∙ sym (delta_on _ _ (said _ 20 c.requires.1 c.present.ensures (not-false _ c.if-not-present.false-raw)) ∙ ap (level_deltas _) c.if-small.true)
+returns-2 c = is w32 (ρ c.before.before.before.before.before.before) (v 0 ⊕ v 1) tt ∙ sym (delta_on _ _ (said _ 20 c.requires.1 c.present.ensures (not-false _ c.if-not-present.false-raw)) ∙ ap (level_deltas c.args.h.now) c.if-small.true)
 
 shared-slice-copy-out-result-3 : tie.Need-bounds-h-22-2
 shared-slice-copy-out-result-3 c = search rules
 
 returns-3 : tie.Need-returns
-returns-3 c = machine _ 22 c.requires.1 ∙ sym (delta_on _ _ (said _ 20 c.requires.1 c.present.ensures (not-false _ c.if-not-present.false-raw)) ∙ ap (level_deltas _) c.if-small.false)
+returns-3 c = machine _ 22 c.requires.1 ∙ sym (delta_on _ _ (said _ 20 c.requires.1 c.present.ensures (not-false _ c.if-not-present.false-raw)) ∙ ap (level_deltas c.args.h.now) c.if-small.false)
 
 pub delta_spec : {M : Type 1} → statement M
 delta_spec = tie.close (tie.spec shared-slice-copy-out-present present-requires returns shared-slice-copy-out-result shared-slice-copy-out-result-2 add-result returns-2 shared-slice-copy-out-result-3 returns-3)

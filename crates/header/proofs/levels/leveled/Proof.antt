@@ -31,7 +31,7 @@ shifted-requires c κs = inside_read (delta_is c)
 returns : tie.Need-returns
 returns c =
     c.shifted.ensures
-    ∙ level_is _ _ _ (c.clamp_to.ensures ∙ ap (up_to 63) (back w32 c.segmented.type-inv ∙ c.segmented.ensures)) (delta_is c.before).eq
+    ∙ level_is _ _ _ (c.clamp_to.ensures ∙ ap (up_to 63) (back w32 c.segmented.type_inv ∙ c.segmented.ensures)) (delta_is c.before).eq
 
 pub leveled_spec : {M : Type 1} → statement M
 leveled_spec = tie.close (tie.spec add-segmented segmented-requires clamp-to-requires delta-requires shifted-requires returns)

@@ -9,7 +9,7 @@ use Rattle.header.proofs.entries.present.Reads as present-reads
 
 -- the base, and the segment's own
 abbrev ρ : tie.Start → List Var
-ρ c = known (there w32 (c.requires.1.at c.args.base) tt) ∷ known (there w32 (c.requires.1.at c.args.own_val) tt) ∷ []
+ρ c = known (there w32 (c.requires.1.at c.args.base) tt) ∷ known (there w32 (c.requires.1.at c.args.own) tt) ∷ []
 
 shared-slice-copy-out-present : tie.Need-bounds-h-2
 shared-slice-copy-out-present c = search rules

@@ -41,7 +41,7 @@ loop-again : tie.Need-loop-i-preserved invariant_loop decreases_loop
 loop-again c =
     let h : c.loop-i.i < c.args.m * c.args.m = omega (arith, c.loop-i-test) in (
       omega arith,
-      large_turn c.requires.1.1 _ _ _ _ c.loop-i.i h c.sub_block-s.ensures (lies c.before.before.before.before.before.before.before).square.columns refl refl (dc c.before.before.before).eq _ c.loop-i.invariant.1 c.add.ensures.bytes c.add.ensures.p_after,
+      large_turn c.requires.1.1 _ _ _ _ c.loop-i.i h c.sub_block-s.ensures (lies c.before.before.before.before.before.before.before).square.columns refl refl (dc c.before.before.before).eq _ c.loop-i.invariant.1 c.add.ensures.1 c.add.ensures.0,
       below_next (λ (j : ℕ). Fits16 (get_or c.args.c.now (c.args.from + j) (pos 0))) c.loop-i.i (inside (dc c.before.before.before)) c.loop-i.invariant.2,
     )
 

@@ -46,7 +46,7 @@ loop-again c =
     let l = t.before.before.loop in (
       omega arith,
       small_turn s.pre.1 _ _ _ l.i (omega arith) t.sub-block.ensures refl (dc c.before.before.before).eq s.args.right s.args.modes.now _
-          l.inv.1 (lies t) c.predict_small.ensures c.add.ensures.bytes c.add.ensures.p_after,
+          l.inv.1 (lies t) c.predict_small.ensures c.add.ensures.1 c.add.ensures.0,
       below_next (λ (j : ℕ). Fits16 (get_or s.args.c.now (0 + j) (pos 0))) l.i (subst (λ (k : ℕ). Fits16 (get_or s.args.c.now k (pos 0))) (sym (zero-add l.i)) (inside (dc c.before.before.before))) l.inv.2,
     )
 
