@@ -1,12 +1,13 @@
 -- Lists by their elements: a list built from a rule, an array that a loop fills, a constant list (`replicate n v`, which is what the
 -- code's `[v; n]` is). What one store or a part of a list does stands in lib.ListN and lib.Seq (`get_or-set_same`, `set-set`, `ext_get_or`, ..).
 use Prim.Native.Nat.{ℕ, zero, suc, ◌+◌, ◌≤◌, ◌<◌}
-use Rattle.std.specs.Prelude.{◌≡◌, List, [], ◌∷◌, length, get_or, set, replicate}
+use Rattle.std.specs.Prelude.{◌≡◌, List, [], ◌∷◌, ◌++◌, length, get_or, set, take, drop, replicate}
 use Rattle.std.proofs.Math.Path.{refl, ap}
-use Rattle.std.proofs.Common.{sym, ◌∙◌, ap₂, arith, length-set, ext_get_or, get_or-set_same, get_or-set_other}
+use Rattle.std.proofs.Common.{sym, ◌∙◌, ap₂, arith, length-set, ext_get_or, get_or-set_same, get_or-set_other, take_all}
 use Rattle.std.proofs.Math.Decide.{ℕ_discrete}
 use Rattle.std.proofs.lemmas.List.{length-replicate}
 use Rattle.std.proofs.Math.ListN.{get_or-eq_default}
+use Rattle.std.proofs.Math.Seq.{take-length}
 
 -- f 0, f 1, .. f (n - 1)
 unfoldable pub build {ℓ} : {A : Type ℓ} → ℕ → (ℕ → A) → List A
@@ -106,3 +107,7 @@ byte_at s i = get_or s i 0
 -- every element is a byte
 abbrev pub Bytes : List ℕ → Type 0
 Bytes s = (i : ℕ) → get_or s i 0 < 256
+
+-- what `copy` leaves where there is room for all
+pub copy_whole : (from to : List ℕ) → length from ≤ length to → take (length to) from ++ drop (length from) to ≡ take (length from) from ++ drop (length from) to
+copy_whole from to h = ap (λ (l : List ℕ). l ++ drop (length from) to) (take_all (length to) from h ∙ sym (take-length from))

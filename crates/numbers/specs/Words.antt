@@ -20,7 +20,7 @@ pub use Rattle.std.proofs.lemmas.List.{get_or-replicate, length-replicate, drop-
 pub use Rattle.std.proofs.Math.Seq.{append_snoc, drop-append-add, drop-append_seam, drop-length, get_or-append_seam, length-sets, set_out, take-append_seam, take-length}
 pub use Rattle.std.proofs.lemmas.List.Edits.{sets, sets-eq}
 unfoldable pub use Rattle.numbers.specs.Lists.{build}
-pub use Rattle.numbers.specs.Lists.{listed, Filled, ◌∷≡◌, set_keeps, length_build, build_listed, get_or_build, get_or_build_past, built, build_same, filled_none, filled_next, filled_all, get_or_constant, constant, build_constant, byte_at, Bytes}
+pub use Rattle.numbers.specs.Lists.{listed, Filled, ◌∷≡◌, set_keeps, length_build, build_listed, get_or_build, get_or_build_past, built, build_same, filled_none, filled_next, filled_all, get_or_constant, constant, build_constant, byte_at, Bytes, copy_whole}
 unfoldable pub use Rattle.numbers.specs.Runs.{placed, copied}
 pub use Rattle.numbers.specs.Runs.{Off, off_less, placed_none, placed_next, length_placed, placed_in, placed_off, placed_keeps, placed_self, placed_same, copied_placed, copied_none, copied_next, length_copied, copied_keeps, copied_in, copied_off}
 unfoldable pub use Rattle.numbers.specs.Stores.{stored_at}

@@ -13,6 +13,7 @@ ghost use Rattle.choices.specs.Choices.{call_of};
 ghost use Rattle.recode.specs.Recode.{recoded_refused, recode_of, one_tile_of, recode_ended};
 
 use crate::tokens::recode_tokens;
+use numbers::copy;
 use picture::decode;
 use reader::boolean::Reader;
 use tile::partitions::part;
@@ -111,7 +112,7 @@ pub fn recode(
     if written.number != 0 {
         return refused(written.number);
     }
-    bytes::copy(first, out);
+    copy(first, out);
     let after = one_tile(tile, n, written.len);
     Recoded {
         number: 0,

@@ -14,6 +14,7 @@ ghost use Rattle.recode_frame.specs.RecodeFrame.{three_bytes, no_frame, frame_en
 ghost use Rattle.recode_frame.specs.First.{Sized, IsTaken, Measured, Placed, Numbered, Lays};
 
 use crate::first::rewrite;
+use numbers::copy;
 use recode::tokens::recode_tokens;
 use take::take;
 use tile::partitions::part;
@@ -90,7 +91,7 @@ fn lay(bytes: &[u8], tile: Tile, header: &[i32], out: &mut [u8], n: usize)
     ensures { Lays bytes.now tile header.now out.old n out.new }
 {
     let head = part(bytes, Span { start: 0, len: 10 });
-    bytes::copy(head, &mut out[..]);
+    copy(head, &mut out[..]);
     put_tag(bytes, n, &mut out[..]);
     let end = 10 + n;
     rewrite(part(bytes, tile.first), tile, header, &mut out[10..end]);

@@ -3,6 +3,8 @@ ghost use Rattle.std.specs.Prelude.{◌≡◌, ◌+◌, ◌%◌, ◌≤◌, leng
 ghost use Rattle.webp.specs.Webp.{wrap_of};
 ghost use Rattle.webp.specs.Write.{head_of, laid};
 
+use numbers::copy;
+
 // How many bytes were written, or the number of a refusal.
 #[derive(Clone, Copy)]
 pub enum WrapAnswer {
@@ -53,7 +55,7 @@ fn lay(out: &mut [u8], at: usize, b: &[u8])
     requires { at + length b.now ≤ length out.old }
     ensures { out.new ≡ laid out.old at b.now }
 {
-    bytes::copy(b, &mut out[at..]);
+    copy(b, &mut out[at..]);
 }
 
 // Writes the file around `frame` at the start of `out`; what lies behind it in `out` is left alone.

@@ -14,56 +14,55 @@ use Rattle.numbers.proofs.wrap16.Statement.{statement}
 use Rattle.numbers.proofs.wrap16.Tie as tie
 
 -- the argument, as the two tests bound it
-abbrev good : tie.Then1 → Var
-good c = known (between (negsuc 999999999) (pos 1000000000) (any w64 c.before.ranges.v) c.if1.true)
+abbrev good : tie.Then-v → Var
+good c = known (between (negsuc 999999999) (pos 1000000000) (any w64 c.ranges.v) c.if-v.true)
 
-abbrev ρ : tie.Then1 → List Var
+abbrev ρ : tie.Then-v → List Var
 ρ c = good c ∷ []
 
 abbrev u : E
 u = rem (v 0 ⊕ lit (pos 4294967296)) 65536
 
 -- u, with what the test says of it: below 32768, and not below
-abbrev small : tie.Then2 → Var
-small c = known (lt_left (know w64 (ρ c.before) u tt) (num (pos 32768)) c.if2.true)
+abbrev small : tie.Then-u-lt32768 → Var
+small c = known (lt_left (know w64 (ρ c.before) u tt) (num (pos 32768)) c.if-u-lt32768.true)
 
-abbrev large : tie.Else2 → Var
-large c = known (ge_left (know w64 (ρ c.before) u tt) (num (pos 32768)) c.if2.false)
+abbrev large : tie.Else-u-lt32768 → Var
+large c = known (ge_left (know w64 (ρ c.before) u tt) (num (pos 32768)) c.if-u-lt32768.false)
 
-abbrev less : tie.Else2 → Var
+abbrev less : tie.Else-u-lt32768 → Var
 less c = known (know w64 (large c ∷ []) (v 0 ⊖ lit (pos 65536)) tt)
 
-add-u : tie.Need-overflow-add-u
+add-u : tie.Need-overflow_add-u
 add-u c = fits w64 (ρ c) (v 0 ⊕ lit (pos 4294967296)) tt
 
-rem-u : tie.Need-nonzero-rem-u
+rem-u : tie.Need-nonzero_rem-u
 rem-u c = fits w64 (ρ c) u tt
 
-cast-small : tie.Need-overflow-cast-t10
+cast-small : tie.Need-overflow_cast-result
 cast-small c = fit (small c).is tt
 
-sub-large : tie.Need-overflow-sub-t11
+sub-large : tie.Need-overflow_sub-result
 sub-large c = fits w64 (large c ∷ []) (v 0 ⊖ lit (pos 65536)) tt
 
-cast-large : tie.Need-overflow-cast-t12
+cast-large : tie.Need-overflow_cast-result-else-u-lt32768
 cast-large c = fit (less c).is tt
 
-returns : tie.Need-returns
+returns : tie.Need-returns-then-u-lt32768
 returns c =
     let i = inside (good c.before).is in
     rw (wrapped_good i, wrapped_source i)
-    (simp (lt_is (small c).is (num (pos 32768)) c.if2.true) (ap Value (rounded w32 (small c).is tt).eq))
+    (simp (lt_is (small c).is (num (pos 32768)) c.if-u-lt32768.true) (ap Value (rounded w32 (small c).is tt).eq))
 
-returns-2 : tie.Need-returns-2
+returns-2 : tie.Need-returns-else-u-lt32768
 returns-2 c =
     let i = inside (good c.before).is in
     rw (wrapped_good i, wrapped_source i)
-    (simp (lt_is (large c).is (num (pos 32768)) c.if2.false) (ap Value (rounded w32 (less c).is tt).eq))
+    (simp (lt_is (large c).is (num (pos 32768)) c.if-u-lt32768.false) (ap Value (rounded w32 (less c).is tt).eq))
 
-returns-3 : tie.Need-returns-3
+returns-3 : tie.Need-returns-else-v
 unfolding wrap16_of
-returns-3 c = simp (between_is (negsuc 999999999) (pos 1000000000) (any w64 c.before.ranges.v) c.if1.false)
+returns-3 c = simp (between_is (negsuc 999999999) (pos 1000000000) (any w64 c.ranges.v) c.if-v.false)
 
 pub wrap16_spec : {M : Type 1} → statement M
-wrap16_spec =
-    tie.close (tie.spec add-u rem-u cast-small sub-large cast-large returns returns-2 returns-3)
+wrap16_spec = tie.close (tie.spec add-u rem-u cast-small sub-large cast-large returns returns-2 returns-3)

@@ -1,5 +1,5 @@
 -- `small_block` meets its contract, mode by mode.
-use Rattle.numbers.specs.Words.{ℕ, zero, suc, ◌≤◌, arith, ◌≡◌, refl, sym, ◌∙◌, ap, List, needs}
+use Rattle.numbers.specs.Words.{ℕ, zero, suc, ◌≤◌, arith, ◌≡◌, refl, sym, ◌∙◌, ap, List, rules}
 use Rattle.predict.specs.Predict.{small_block_of, ve_block, rd_block, vr_block, ld_block, vl_block, hd_block}
 use Rattle.predict.specs.Pieces.{stretched_of, twos_of, threes_of, both_of, picked_of}
 use Rattle.predict.specs.PredictLaws.{directed_of, directed, he_directed, hu_directed, small_past}
@@ -26,34 +26,14 @@ past m (suc n) p = let h = past m n p.0 in let f = p.1 in omega arith
 
 pub small_block_spec : {M : Type 1} → statement M
 unfolding ve_block rd_block vr_block ld_block vl_block hd_block
-small_block_spec =
-    tie.close
-    (tie.spec (λ c κs. search needs) (λ c κs. search needs) (λ c κs. search needs)
-    (λ c κs. search needs) (λ c κs. search needs) (λ c κs. search needs) (λ c κs. refl)
-    (λ c κs. search needs) (λ c κs. search needs) (λ c κs. search needs) (λ c κs. refl)
-    (λ c κs. search needs) (λ c κs. search needs) (λ c κs. search needs) (λ c κs. refl)
-    (λ c κs. search needs) (λ c κs. search needs) (λ c κs. search needs) (λ c κs. refl)
-    (λ c κs. search needs) (λ c κs. search needs) (λ c κs. search needs) (λ c κs. refl)
-    (λ c κs. search needs) (λ c κs. search needs) (λ c κs. search needs) (λ c κs. refl)
-    (λ c κs. search needs) (λ c κs. search needs) (λ c κs. search needs) (λ c κs. refl)
-    (λ c κs. search needs) (λ c κs. search needs) (λ c κs. search needs) (λ c κs. refl)
-    (λ c. arm c.before.before.before 0 c.before.match.keys1 c.dc-block.ensures)
-    (λ c. arm c.before.before.before 1 c.before.match.keys2 c.tm-block.ensures)
-    (λ c. way c.before.before.before.before.before.before 2 0 5 _ c.before.before.before.before.match.keys3
-    c.before.before.before.before.before.stretched.ensures c.before.before.before.twos.ensures c.before.before.threes.ensures c.before.both.ensures c.pick.ensures refl)
-    (λ c. way c.before.before.before.before.before.before 3 0 0 _ c.before.before.before.before.match.keys4
-    c.before.before.before.before.before.stretched.ensures c.before.before.before.twos2.ensures c.before.before.threes2.ensures c.before.both2.ensures c.pick2.ensures (he_directed c.before.before.before.before.before.before.args.e))
-    (λ c. way c.before.before.before.before.before.before 4 0 1 _ c.before.before.before.before.match.keys5
-    c.before.before.before.before.before.stretched.ensures c.before.before.before.twos3.ensures c.before.before.threes3.ensures c.before.both3.ensures c.pick3.ensures refl)
-    (λ c. way c.before.before.before.before.before.before 5 5 2 _ c.before.before.before.before.match.keys6
-    c.before.before.before.before.before.stretched.ensures c.before.before.before.twos4.ensures c.before.before.threes4.ensures c.before.both4.ensures c.pick4.ensures refl)
-    (λ c. way c.before.before.before.before.before.before 6 0 6 _ c.before.before.before.before.match.keys7
-    c.before.before.before.before.before.stretched.ensures c.before.before.before.twos5.ensures c.before.before.threes5.ensures c.before.both5.ensures c.pick5.ensures refl)
-    (λ c. way c.before.before.before.before.before.before 7 6 6 _ c.before.before.before.before.match.keys8
-    c.before.before.before.before.before.stretched.ensures c.before.before.before.twos6.ensures c.before.before.threes6.ensures c.before.both6.ensures c.pick6.ensures refl)
-    (λ c. way c.before.before.before.before.before.before 8 1 1 _ c.before.before.before.before.match.keys9
-    c.before.before.before.before.before.stretched.ensures c.before.before.before.twos7.ensures c.before.before.threes7.ensures c.before.both7.ensures c.pick7.ensures refl)
-    (λ c. directed c.before.before.before.before.before.before.args.e 0 0 _
-    c.before.before.before.before.before.stretched.ensures c.before.before.before.twos8.ensures c.before.before.threes8.ensures c.before.both8.ensures c.pick8.ensures
-    ∙ hu_directed c.before.before.before.before.before.before.args.e
-    ∙ sym (small_past c.before.before.before.before.before.before.args.mode c.before.before.before.before.before.before.args.e (past _ 9 c.before.before.before.before.match.rest))))
+small_block_spec = tie.close (tie.spec (λ c κs. search rules) (λ c κs. search rules) (λ c κs. search rules) (λ c κs. search rules) (λ c κs. search rules) (λ c κs. search rules) (λ c κs. refl) (λ c κs. search rules) (λ c κs. search rules) (λ c κs. search rules) (λ c κs. refl) (λ c κs. search rules) (λ c κs. search rules) (λ c κs. search rules) (λ c κs. refl) (λ c κs. search rules) (λ c κs. search rules) (λ c κs. search rules) (λ c κs. refl) (λ c κs. search rules) (λ c κs. search rules) (λ c κs. search rules) (λ c κs. refl) (λ c κs. search rules) (λ c κs. search rules) (λ c κs. search rules) (λ c κs. refl) (λ c κs. search rules) (λ c κs. search rules) (λ c κs. search rules) (λ c κs. refl) (λ c κs. search rules) (λ c κs. search rules) (λ c κs. search rules) (λ c κs. refl) (λ c. arm c.before.before.before 0 c.in-0.is c.dc_block.ensures) (λ c. arm c.before.before.before 1 c.in-1.is c.tm_block.ensures) (λ c. way c.before.before.before.before.before.before 2 0 5 _ c.in-2.is
+    c.stretched-f.ensures c.twos.ensures c.threes.ensures c.both.ensures c.pick.ensures refl) (λ c. way c.before.before.before.before.before.before 3 0 0 _ c.in-3.is
+    c.stretched-f.ensures c.twos-in-3.ensures c.threes-in-3.ensures c.both-in-3.ensures c.pick-in-3.ensures (he_directed c.args.e)) (λ c. way c.before.before.before.before.before.before 4 0 1 _ c.in-4.is
+    c.stretched-f.ensures c.twos-in-4.ensures c.threes-in-4.ensures c.both-in-4.ensures c.pick-in-4.ensures refl) (λ c. way c.before.before.before.before.before.before 5 5 2 _ c.in-5.is
+    c.stretched-f.ensures c.twos-in-5.ensures c.threes-in-5.ensures c.both-in-5.ensures c.pick-in-5.ensures refl) (λ c. way c.before.before.before.before.before.before 6 0 6 _ c.in-6.is
+    c.stretched-f.ensures c.twos-in-6.ensures c.threes-in-6.ensures c.both-in-6.ensures c.pick-in-6.ensures refl) (λ c. way c.before.before.before.before.before.before 7 6 6 _ c.in-7.is
+    c.stretched-f.ensures c.twos-in-7.ensures c.threes-in-7.ensures c.both-in-7.ensures c.pick-in-7.ensures refl) (λ c. way c.before.before.before.before.before.before 8 1 1 _ c.in-8.is
+    c.stretched-f.ensures c.twos-in-8.ensures c.threes-in-8.ensures c.both-in-8.ensures c.pick-in-8.ensures refl) (λ c. directed c.args.e 0 0 _
+    c.stretched-f.ensures c.twos-in_default.ensures c.threes-in_default.ensures c.both-in_default.ensures c.pick-in_default.ensures
+    ∙ hu_directed c.args.e
+    ∙ sym (small_past c.args.mode c.args.e (past _ 9 c.in_default.in_default-own.rest))))

@@ -1,4 +1,4 @@
-use Rattle.numbers.specs.Words.{◌≡◌, refl, ◌∙◌, ap, needs}
+use Rattle.numbers.specs.Words.{◌≡◌, refl, ◌∙◌, ap, rules}
 use Rattle.reader.specs.Reading.{given, run}
 use Rattle.modes.specs.declared.answers.Stage.{Stage}
 use Rattle.modes.specs.Modes.{modes_of, macroblock_of}
@@ -14,53 +14,37 @@ use Rattle.rebuilt.proofs.from_modes.Lts as lts
 use Rattle.macroblock.proofs.ending.nothing.Reads as nothing-reads
 use Rattle.modes.proofs.whole.read_modes.Reads as read-modes-reads
 
-read-modes-requires : tie.Need-read-modes-requires
-read-modes-requires c κs = search needs
+read-modes-requires : tie.Need-read_modes-read-requires
+read-modes-requires c κs = search rules
 
-enum-known-answer : tie.Need-enum-known-answer
-enum-known-answer c = search needs
+enum-known-answer : tie.Need-enum_known-answer
+enum-known-answer c = search rules
 
 nothing-requires : tie.Need-nothing-requires
-nothing-requires c κs = search needs
+nothing-requires c κs = search rules
 
-abbrev start : tie.After-read-modes → tie.Start
-start c = c.before.before.before.before.before.before.before.before.before.before.before
+abbrev start : tie.After-read_modes-read → tie.Start
+start c = c.before.before.before.before.before.before.before.before.before.before.before.before
 
 -- what the modes' answer says of the grammar
-is : (c : tie.After-read-modes) → (let a = (start c).args in run (modes_of a.frame.announced a.around.top.modes a.around.left.modes) a.first.now a.readers.first ≡ stage_given c.read_modes_lem.result.answer c.read_modes_lem.new.1.1.1.1.1.0)
-is c = let p = (start c).requires.0 in read _ _ _ _ _ _ p.reader p.contexts c.read_modes_lem.ensures.0
+is : (c : tie.After-read_modes-read) → (run (modes_of (start c).args.frame.announced (start c).args.around.top.modes (start c).args.around.left.modes) (start c).args.first.now (start c).args.readers.first ≡ stage_given c.read_modes-read.result.answer c.read_modes-read.new.modes)
+is c = let p = (start c).requires.0 in read _ _ _ _ _ _ p.reader p.contexts c.read_modes-read.ensures.0
 
-gave : (c : tie.After-known-told) → (let d = c.before.before.before in let a = (start d).args in run (modes_of a.frame.announced a.around.top.modes a.around.left.modes) a.first.now a.readers.first ≡ given (macroblock_of c.before.answer.given.0.0 d.read_modes_lem.new.1.1.1.1.1.0) c.before.answer.given.0.1.0)
-gave c = let d = c.before.before.before in is d ∙ ap (λ (x : Stage). stage_given x d.read_modes_lem.new.1.1.1.1.1.0) c.before.answer.given.1
+gave : (c : tie.In-Read) → (run (modes_of (start c.before).args.frame.announced (start c.before).args.around.top.modes (start c.before).args.around.left.modes) (start c.before).args.first.now (start c.before).args.readers.first ≡ given (macroblock_of c.in-Read.kinds c.read_modes-read.new.modes) c.in-Read.next)
+gave c = let d = c.before.before.before in is d ∙ ap (λ (x : Stage). stage_given x d.read_modes_lem.new.1.1.1.1.1.0) c.in-Read.is
 
-returns : tie.Need-returns
+returns : tie.Need-returns-in_default
 returns c =
-    let d = c.before.before in
-    let g = is d ∙ not_stage (tag_of stage-answer.the_type) (λ k r. refl) d.read_modes_lem.result.answer d.read_modes_lem.new.1.1.1.1.1.0 c.before.match.keys2 in
+    let g = is c.before.before ∙ not_stage (tag_of stage-answer.the_type) (λ k r. refl) c.read_modes-read.result.answer c.read_modes-read.new.modes c.in_default.in_default-own.keys2 in
     bare_missing _ _ _ _ _ _ g c.nothing.ensures
 
-returns-2 : tie.Need-returns-2
+returns-2 : tie.Need-returns
 returns-2 c =
-    let k = c.before.before.before.before.before.before.before.before.before.before.before.before in
-    let d = k.before.before.before in
-    let a = (start d).args in
-    let p = (start d).requires.0 in
-    let e = read_ended _ _ _ _ _ _ p.sound.announced p.reader p.contexts (λ i. (d.before.before.before.before.before.before.before.before.before.before.shared-slice-known.given i).fits) d.read_modes_lem.ensures.0 k.before.answer.given.1 in
-    let m = macroblock_of k.before.answer.given.0.0 d.read_modes_lem.new.1.1.1.1.1.0 in
-    c.before.before.before.before.before.before.complete.ensures
-    ∙ bare_done a.frame a.place (planes_of a.y.now a.u.now a.v.now) m k.before.answer.given.0.1.0 a.readers.token p.sound (start d).requires.1 e.value
-    ∙ bare_given _ _ _ _ _ _ (gave k)
+    let e = read_ended _ _ _ _ _ _ (start c.before.before.before.before.before.before.before.before.before.before.before.before.before).requires.0.sound.announced (start c.before.before.before.before.before.before.before.before.before.before.before.before.before).requires.0.reader (start c.before.before.before.before.before.before.before.before.before.before.before.before.before).requires.0.contexts (λ i. (c.shared_slice_known-1.given i).fits) c.read_modes-read.ensures.0 c.in-Read.is in
+    let m = macroblock_of c.in-Read.kinds c.read_modes-read.new.modes in
+    c.complete.ensures
+    ∙ bare_done (start c.before.before.before.before.before.before.before.before.before.before.before.before.before).args.frame (start c.before.before.before.before.before.before.before.before.before.before.before.before.before).args.place (planes_of (start c.before.before.before.before.before.before.before.before.before.before.before.before.before).args.y.now (start c.before.before.before.before.before.before.before.before.before.before.before.before.before).args.u.now (start c.before.before.before.before.before.before.before.before.before.before.before.before.before).args.v.now) m c.in-Read.next (start c.before.before.before.before.before.before.before.before.before.before.before.before.before).args.readers.token (start c.before.before.before.before.before.before.before.before.before.before.before.before.before).requires.0.sound (start c.before.before.before.before.before.before.before.before.before.before.before.before.before).requires.1 e.value
+    ∙ bare_given _ _ _ _ _ _ (gave c.before.before.before.before.before.before.before.before.before.before.before.before)
 
 pub from_modes_spec : {M : Type 1} → statement M
-from_modes_spec =
-    tie.close
-    (tie.spec
-    read-modes-requires
-    enum-known-answer
-    nothing-requires
-    returns
-    (λ c κs. search needs)
-    (λ c. search needs)
-    (λ c. search needs)
-    (λ c. search needs)
-    returns-2)
+from_modes_spec = tie.close (tie.spec read-modes-requires enum-known-answer nothing-requires returns (λ c κs. search rules) (λ c. search rules) (λ c. search rules) (λ c. search rules) returns-2)

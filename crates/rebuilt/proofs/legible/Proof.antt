@@ -1,24 +1,23 @@
 use Rattle.macroblock.specs.Rebuilt.{legible_of}
 use Rattle.macroblock.specs.Macroblock.{FrameSizes, AroundSizes}
 use Rattle.macroblock.specs.DecodeLaws.{frame_sized}
-use Rattle.numbers.specs.Words.{needs}
+use Rattle.numbers.specs.Words.{rules}
 use Rattle.rebuilt.proofs.legible.Statement.{statement}
 use Rattle.rebuilt.proofs.legible.Tie as tie
 
 -- what the types of the frame and of the contexts say
 frame_known : (c : tie.Start) → FrameSizes c.args.frame
-frame_known c = let g = c.well_formed_lem.1.1.0 in frame_sized c.args.frame (search (needs, g)) (search (needs, g)) (λ i. search (needs, g)) (search (needs, g))
+frame_known c = let g = c.well_formed.1.1.0 in frame_sized c.args.frame (search (rules, g)) (search (rules, g)) (λ i. search (rules, g)) (search (rules, g))
 
 around_known : (c : tie.Start) → AroundSizes c.args.around
-around_known c = let g = c.well_formed_lem.1.1.1 in record { top = search (needs, g); left = search (needs, g) }
+around_known c = let g = c.well_formed.1.1.1 in record { top = search (rules, g); left = search (rules, g) }
 
 returns : tie.Need-returns
 unfolding legible_of
-returns c =
-    let a = c.before in (
-      rw (a.before.valid.ensures, a.around-fine.ensures, c.frame-fine.ensures),
-      (frame_known c.before.before.before.before, around_known c.before.before.before.before),
-    )
+returns c = (
+  rw (c.valid.ensures, c.around_fine.ensures, c.frame_fine.ensures),
+  (frame_known c.before.before.before.before, around_known c.before.before.before.before),
+)
 
 pub legible_spec : {M : Type 1} → statement M
-legible_spec = tie.close (tie.spec (λ c κs. search needs) (λ c κs. search needs) (λ c κs. search needs) returns)
+legible_spec = tie.close (tie.spec (λ c κs. search rules) (λ c κs. search rules) (λ c κs. search rules) returns)

@@ -1,4 +1,4 @@
-use Rattle.numbers.specs.Words.{◌≡◌, sym, ◌∙◌, true, not-false, not-true, length, needs}
+use Rattle.numbers.specs.Words.{◌≡◌, sym, ◌∙◌, true, not-false, not-true, length, rules}
 use Rattle.macroblock.specs.Macroblock.{place_fine}
 use Rattle.macroblock.specs.DecodeLaws.{legible_out, laid_out_lem}
 use Rattle.macroblock.specs.Rebuilt.{legible_of}
@@ -13,66 +13,47 @@ use Rattle.rebuilt.proofs.from_modes.Reads as from-modes-reads
 use Rattle.macroblock.proofs.ending.nothing.Reads as nothing-reads
 
 legible-requires : tie.Need-legible-requires
-legible-requires c κs = search needs
+legible-requires c κs = search rules
 
 nothing-requires : tie.Need-nothing-requires
-nothing-requires c κs = search needs
+nothing-requires c κs = search rules
 
-returns : tie.Need-returns
-returns c = rebuild_illegible _ _ _ _ _ _ (sym c.before.before.legible.ensures.0 ∙ not-true _ c.before.if1.true) c.nothing.ensures
+returns : tie.Need-returns-then-not-legible
+returns c = rebuild_illegible _ _ _ _ _ _ (sym c.legible.ensures.0 ∙ not-true _ c.if-not-legible.true-raw) c.nothing.ensures
 
 laid-requires : tie.Need-laid-requires
-laid-requires c κs = search needs
+laid-requires c κs = search rules
 
-nothing-requires-2 : tie.Need-nothing-requires-2
-nothing-requires-2 c κs = search needs
+nothing-requires-2 : tie.Need-nothing-requires-then-not-laid
+nothing-requires-2 c κs = search rules
 
-returns-2 : tie.Need-returns-2
-returns-2 c = rebuild_unlaid _ _ _ _ _ _ (sym c.before.before.laid.ensures ∙ not-true _ c.before.if2.true) c.nothing2.ensures
+returns-2 : tie.Need-returns-then-not-laid
+returns-2 c = rebuild_unlaid _ _ _ _ _ _ (sym c.laid.ensures ∙ not-true _ c.if-not-laid.true-raw) c.nothing-then-not-laid.ensures
 
-abbrev start : tie.Else2 → tie.Start
+abbrev start : tie.Else-not-laid → tie.Start
 start e = e.before.before.before.before.before.before.before.before.before
 
 -- what both checks say where they have passed
-able : (e : tie.Else2) → (let a = (start e).args in legible_of a.first.now a.readers.first a.frame a.around ≡ true)
-able e = sym e.before.before.before.legible.ensures.0 ∙ not-false _ e.before.before.if1.false
+able : (e : tie.Else-not-laid) → (legible_of (start e).args.first.now (start e).args.readers.first (start e).args.frame (start e).args.around ≡ true)
+able e = sym e.legible.ensures.0 ∙ not-false _ e.if-not-legible.false-raw
 
-fine : (e : tie.Else2) → (let a = (start e).args in place_fine (length a.y.now) (length a.u.now) (length a.v.now) a.place ≡ true)
-fine e = sym e.before.laid.ensures ∙ not-false _ e.if2.false
+fine : (e : tie.Else-not-laid) → (place_fine (length (start e).args.y.now) (length (start e).args.u.now) (length (start e).args.v.now) (start e).args.place ≡ true)
+fine e = sym e.laid.ensures ∙ not-false _ e.if-not-laid.false-raw
 
-from-modes-requires : tie.Need-from-modes-requires
-from-modes-requires c κs =
-    let e = c.before.before.before in
-    let l = e.before.before.before.legible.ensures.1 in
-    (legible_out _ _ _ _ l.0 l.1 (able e), laid_out_lem _ _ (fine e))
+from-modes-requires : tie.Need-from_modes-requires
+from-modes-requires c κs = (legible_out _ _ _ _ c.legible.ensures.1.0 c.legible.ensures.1.1 (able c.before.before.before), laid_out_lem _ _ (fine c.before.before.before))
 
-same_length : tie.Need-same-length
-same_length c = search needs
+same_length : tie.Need-shape_of-y
+same_length c = search rules
 
-same-length-2 : tie.Need-same-length-2
-same-length-2 c = search needs
+same-length-2 : tie.Need-shape_of-u
+same-length-2 c = search rules
 
-same-length-3 : tie.Need-same-length-3
-same-length-3 c = search needs
+same-length-3 : tie.Need-shape_of-v
+same-length-3 c = search rules
 
-returns-3 : tie.Need-returns-3
-returns-3 c =
-    let d = c.before.before.before.before.before.before in
-    let e = d.before.before.before.before in
-    d.from_modes_lem.ensures ∙ rebuild_passed _ _ _ _ _ _ (able e) (fine e)
+returns-3 : tie.Need-returns
+returns-3 c = c.from_modes.ensures ∙ rebuild_passed _ _ _ _ _ _ (able c.before.before.before.before.before.before.before.before.before.before) (fine c.before.before.before.before.before.before.before.before.before.before)
 
 pub rebuild_spec : {M : Type 1} → statement M
-rebuild_spec =
-    tie.close
-    (tie.spec
-    legible-requires
-    nothing-requires
-    returns
-    laid-requires
-    nothing-requires-2
-    returns-2
-    from-modes-requires
-    same_length
-    same-length-2
-    same-length-3
-    returns-3)
+rebuild_spec = tie.close (tie.spec legible-requires nothing-requires returns laid-requires nothing-requires-2 returns-2 from-modes-requires same_length same-length-2 same-length-3 returns-3)

@@ -1,4 +1,4 @@
-use Rattle.numbers.specs.Words.{needs}
+use Rattle.numbers.specs.Words.{rules}
 use Rattle.lent.specs.Memory.{Memory, memory_of}
 use Rattle.choices.specs.Choices.{Call, call_of}
 use Rattle.survey.specs.SurveyLaws.{survey_long, survey_most, survey_found}
@@ -11,23 +11,16 @@ call c = let a = c.args in call_of a.bytes.now a.tile a.header.now
 abbrev lent : tie.Start → Memory
 lent c = let a = c.args in memory_of a.y.now a.u.now a.v.now a.columns.now a.modes.now a.strengths.now
 
-returns : tie.Need-returns
-returns c = let s = c.before.before.before.before.before.before.before.before.before in survey_long (call s) (lent s) _ c.if1.true
+returns : tie.Need-returns-then-counts-ne-COUNTS
+returns c = survey_long (call c.before.before.before.before.before.before.before.before.before) (lent c.before.before.before.before.before.before.before.before.before) _ c.if-counts-ne-COUNTS.true
 
-tally-requires : tie.Need-tally-requires
-tally-requires c κs =
-    let d = c.before.before.before.before.before.before.before.before.before.before.before.before.before.before.before.before.before in
-    let s = d.before.before.before.before.before.before.before.before.before.before.before.before.before.before.before.before in
-    survey_most (call s) (lent s) d.decode.ensures.0 c.before.before.finished.ensures
+tally-requires : tie.Need-tally-added-requires
+tally-requires c κs = survey_most (call c.before.before.before.before.before.before.before.before.before.before.before.before.before.before.before.before.before.before.before.before.before.before.before.before.before.before.before.before.before.before.before) (lent c.before.before.before.before.before.before.before.before.before.before.before.before.before.before.before.before.before.before.before.before.before.before.before.before.before.before.before.before.before.before.before) c.decode-d.ensures.0 c.finished-finished.ensures
 
-returns-2 : tie.Need-returns-2
+returns-2 : tie.Need-returns
 returns-2 c =
-    let k = c.before.before.before.before.before.before.before.before.before in
-    let d = k.before.before.before.before.before.before.before.before.before.before.before.before.before.before.before in
-    let room = d.before.before.before.before.before.before.before in
-    let s = room.before.before.before.before.before.before.before.before.before in
-    survey_found (call s) (lent s) s.args.counts.now room.if1.false d.decode.ensures.0 d.decode.ensures.1
-    k.before.number.ensures k.finished.ensures c.before.before.before.before.before.before.tally.ensures c.before.before.before.add.ensures _ c.told.ensures
+    survey_found (call c.before.before.before.before.before.before.before.before.before.before.before.before.before.before.before.before.before.before.before.before.before.before.before.before.before.before.before.before.before.before.before.before.before.before.before.before.before.before) (lent c.before.before.before.before.before.before.before.before.before.before.before.before.before.before.before.before.before.before.before.before.before.before.before.before.before.before.before.before.before.before.before.before.before.before.before.before.before.before) c.args.counts.now c.if-counts-ne-COUNTS.false c.decode-d.ensures.0 c.decode-d.ensures.1
+    c.number-number.ensures c.finished-finished.ensures c.tally-added.ensures c.add-full.ensures _ c.told-told.ensures
 
 pub survey_spec : {M : Type 1} → statement M
-survey_spec = tie.close (tie.spec returns (λ c κs. search needs) (λ c κs. search needs) (λ c κs. search needs) tally-requires (λ c. search needs) (λ c κs. search needs) (λ c κs. search needs) (λ c. search needs) (λ c. search needs) (λ c. search needs) (λ c. search needs) (λ c. search needs) (λ c. search needs) (λ c. search needs) returns-2)
+survey_spec = tie.close (tie.spec returns (λ c κs. search rules) (λ c κs. search rules) (λ c κs. search rules) tally-requires (λ c. search rules) (λ c κs. search rules) (λ c κs. search rules) (λ c. search rules) (λ c. search rules) (λ c. search rules) (λ c. search rules) (λ c. search rules) (λ c. search rules) (λ c. search rules) returns-2)

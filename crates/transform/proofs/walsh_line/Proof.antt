@@ -1,15 +1,14 @@
 -- `walsh_line` meets its contract: each sum and difference fits 32 bits.
-use Rattle.numbers.specs.Words.{ℕ, refl, List, [], ◌∷◌, ◌∷≡◌, Var, is, E, fits, ◌⊕◌, ◌⊖◌, v, known, there, w32, needs}
+use Rattle.numbers.specs.Words.{ℕ, refl, List, [], ◌∷◌, ◌∷≡◌, Var, is, E, fits, ◌⊕◌, ◌⊖◌, v, known, there, w32, rules}
 use Rattle.transform.specs.Transform.{pass_of}
 use Rattle.transform.proofs.walsh_line.Statement.{statement}
 use Rattle.transform.proofs.walsh_line.Tie as tie
 
 -- a, b, c, d and bias
-abbrev ρ : tie.After-d → List Var
+abbrev ρ : tie.After-d-1 → List Var
 ρ p =
-    let s = p.before.before.before.before in
-    let r : ℕ → Var = λ i. known (there w32 (s.requires.0.at i) tt) in
-    r 0 ∷ r 1 ∷ r 2 ∷ r 3 ∷ known (there w32 s.requires.1 tt) ∷ []
+    let r : ℕ → Var = λ i. known (there w32 (p.requires.0.at i) tt) in
+    r 0 ∷ r 1 ∷ r 2 ∷ r 3 ∷ known (there w32 p.requires.1 tt) ∷ []
 
 abbrev a1 : E
 a1 = v 0 ⊕ v 3 ⊕ v 4
@@ -28,10 +27,4 @@ unfolding pass_of
 returns p = is w32 (ρ p) (a1 ⊕ b1) tt ∷≡ is w32 (ρ p) (d1 ⊕ c1) tt ∷≡ is w32 (ρ p) (a1 ⊖ b1) tt ∷≡ is w32 (ρ p) (d1 ⊖ c1) tt ∷≡ refl
 
 pub walsh_line_spec : {M : Type 1} → statement M
-walsh_line_spec =
-    tie.close
-    (tie.spec (λ p. search needs) (λ p. search needs) (λ p. search needs) (λ p. search needs)
-    (λ p. fits w32 (ρ p) (v 0 ⊕ v 3) tt) (λ p. fits w32 (ρ p) a1 tt) (λ p. fits w32 (ρ p) b1 tt) (λ p. fits w32 (ρ p) c1 tt)
-    (λ p. fits w32 (ρ p) (v 0 ⊖ v 3) tt) (λ p. fits w32 (ρ p) d1 tt)
-    (λ p. fits w32 (ρ p) (a1 ⊕ b1) tt) (λ p. fits w32 (ρ p) (d1 ⊕ c1) tt) (λ p. fits w32 (ρ p) (a1 ⊖ b1) tt) (λ p. fits w32 (ρ p) (d1 ⊖ c1) tt)
-    returns)
+walsh_line_spec = tie.close (tie.spec (λ p. search rules) (λ p. search rules) (λ p. search rules) (λ p. search rules) (λ p. fits w32 (ρ p) (v 0 ⊕ v 3) tt) (λ p. fits w32 (ρ p) a1 tt) (λ p. fits w32 (ρ p) b1 tt) (λ p. fits w32 (ρ p) c1 tt) (λ p. fits w32 (ρ p) (v 0 ⊖ v 3) tt) (λ p. fits w32 (ρ p) d1 tt) (λ p. fits w32 (ρ p) (a1 ⊕ b1) tt) (λ p. fits w32 (ρ p) (d1 ⊕ c1) tt) (λ p. fits w32 (ρ p) (a1 ⊖ b1) tt) (λ p. fits w32 (ρ p) (d1 ⊖ c1) tt) returns)

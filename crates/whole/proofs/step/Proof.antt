@@ -1,4 +1,4 @@
-use Rattle.numbers.specs.Words.{◌≡◌, refl, ◌∙◌, ap, needs}
+use Rattle.numbers.specs.Words.{◌≡◌, refl, ◌∙◌, ap, rules}
 use Rattle.reader.specs.Reading.{given, run, count}
 use Rattle.modes.specs.declared.answers.Stage.{Stage}
 use Rattle.modes.specs.Modes.{modes_of, macroblock_of}
@@ -16,66 +16,50 @@ use Rattle.whole.proofs.stopped.Reads as stopped-reads
 use Rattle.whole.proofs.with_tokens.Reads as with-tokens-reads
 use Rattle.modes.proofs.whole.read_modes.Reads as read-modes-reads
 
-read-modes-requires : tie.Need-read-modes-requires
-read-modes-requires c κs = search needs
+read-modes-requires : tie.Need-read_modes-read-requires
+read-modes-requires c κs = search rules
 
-enum-known-answer : tie.Need-enum-known-answer
-enum-known-answer c = search needs
+enum-known-answer : tie.Need-enum_known-answer
+enum-known-answer c = search rules
 
 stopped-requires : tie.Need-stopped-requires
-stopped-requires c κs = search needs
+stopped-requires c κs = search rules
 
-abbrev start : tie.After-read-modes → tie.Start
+abbrev start : tie.After-read_modes-read → tie.Start
 start c = c.before.before.before.before.before.before.before.before.before.before.before.before.before.before.before
 
 -- what the modes' answer says of the grammar
-is : (c : tie.After-read-modes) → (let a = (start c).args in run (modes_of a.frame.announced a.around.top.modes a.around.left.modes) a.first.now a.readers.first ≡ stage_given c.read_modes_lem.result.answer c.read_modes_lem.new.1.1.1.1.1.0)
-is c = let p = (start c).requires.0 in read _ _ _ _ _ _ p.reader p.contexts c.read_modes_lem.ensures.0
+is : (c : tie.After-read_modes-read) → (run (modes_of (start c).args.frame.announced (start c).args.around.top.modes (start c).args.around.left.modes) (start c).args.first.now (start c).args.readers.first ≡ stage_given c.read_modes-read.result.answer c.read_modes-read.new.modes)
+is c = let p = (start c).requires.0 in read _ _ _ _ _ _ p.reader p.contexts c.read_modes-read.ensures.0
 
 -- and its count
-counted : (c : tie.After-read-modes) → (let a = (start c).args in c.read_modes_lem.result.reads ≡ count (modes_of a.frame.announced a.around.top.modes a.around.left.modes) a.first.now a.readers.first)
-counted c = let p = (start c).requires.0 in c.read_modes_lem.ensures.1 ∙ reads_good _ _ _ _ _ p.reader p.contexts
+counted : (c : tie.After-read_modes-read) → (c.read_modes-read.result.reads ≡ count (modes_of (start c).args.frame.announced (start c).args.around.top.modes (start c).args.around.left.modes) (start c).args.first.now (start c).args.readers.first)
+counted c = let p = (start c).requires.0 in c.read_modes-read.ensures.1 ∙ reads_good _ _ _ _ _ p.reader p.contexts
 
-gave : (c : tie.After-known-told) → (let d = c.before.before.before in let a = (start d).args in run (modes_of a.frame.announced a.around.top.modes a.around.left.modes) a.first.now a.readers.first ≡ given (macroblock_of c.before.answer.given.0.0 d.read_modes_lem.new.1.1.1.1.1.0) c.before.answer.given.0.1.0)
-gave c = let d = c.before.before.before in is d ∙ ap (λ (x : Stage). stage_given x d.read_modes_lem.new.1.1.1.1.1.0) c.before.answer.given.1
+gave : (c : tie.In-Read) → (run (modes_of (start c.before).args.frame.announced (start c.before).args.around.top.modes (start c.before).args.around.left.modes) (start c.before).args.first.now (start c.before).args.readers.first ≡ given (macroblock_of c.in-Read.kinds c.read_modes-read.new.modes) c.in-Read.next)
+gave c = let d = c.before.before.before in is d ∙ ap (λ (x : Stage). stage_given x d.read_modes_lem.new.1.1.1.1.1.0) c.in-Read.is
 
-returns : tie.Need-returns
+returns : tie.Need-returns-in_default
 returns c =
-    let d = c.before.before in
-    let g = is d ∙ not_stage (tag_of stage-answer.the_type) (λ k r. refl) d.read_modes_lem.result.answer d.read_modes_lem.new.1.1.1.1.1.0 c.before.match.keys2 in
-    (whole_missing _ _ _ _ _ _ _ _ g c.stopped.ensures.0, c.stopped.ensures.1 ∙ reads_no_modes _ _ _ _ _ _ g (counted d))
+    let g = is c.before.before ∙ not_stage (tag_of stage-answer.the_type) (λ k r. refl) c.read_modes-read.result.answer c.read_modes-read.new.modes c.in_default.in_default-own.keys2 in
+    (whole_missing _ _ _ _ _ _ _ _ g c.stopped.ensures.0, c.stopped.ensures.1 ∙ reads_no_modes _ _ _ _ _ _ g (counted c.before.before))
 
-with-tokens-requires : tie.Need-with-tokens-requires
-with-tokens-requires c κs = let d = c.before.before.before.before.before.before in
-    let p = (start d).requires.0 in
-    let e = read_ended _ _ _ _ _ _ p.sound.announced p.reader p.contexts (λ i. (d.before.before.before.before.before.before.before.before.before.before.before.before.before.before.shared-slice-known.given i).fits) d.read_modes_lem.ensures.0 c.before.before.before.before.answer.given.1 in
-    (record { token = p.token; size = p.size; top = p.top; left = p.left; sound = p.sound }, (e.value, (start d).requires.1))
+with-tokens-requires : tie.Need-with_tokens-requires
+with-tokens-requires c κs =
+    let e = read_ended _ _ _ _ _ _ (start c.before.before.before.before).requires.0.sound.announced (start c.before.before.before.before).requires.0.reader (start c.before.before.before.before).requires.0.contexts (λ i. (c.shared_slice_known-1.given i).fits) c.read_modes-read.ensures.0 c.in-Read.is in
+    (record { token = (start c.before.before.before.before).requires.0.token; size = (start c.before.before.before.before).requires.0.size; top = (start c.before.before.before.before).requires.0.top; left = (start c.before.before.before.before).requires.0.left; sound = (start c.before.before.before.before).requires.0.sound }, (e.value, (start c.before.before.before.before).requires.1))
 
-same_length : tie.Need-same-length
-same_length c = search needs
+same_length : tie.Need-shape_of-y
+same_length c = search rules
 
-same-length-2 : tie.Need-same-length-2
-same-length-2 c = search needs
+same-length-2 : tie.Need-shape_of-u
+same-length-2 c = search rules
 
-same-length-3 : tie.Need-same-length-3
-same-length-3 c = search needs
+same-length-3 : tie.Need-shape_of-v
+same-length-3 c = search rules
 
-returns-2 : tie.Need-returns-2
-returns-2 c =
-    let w = c.before.before.before.before.before.before in
-    let k = w.before.before.before.before in
-    (w.with-tokens.ensures.0 ∙ whole_tokens _ _ _ _ _ _ _ _ (gave k), w.with-tokens.ensures.1 ∙ reads_both _ _ _ _ _ _ (gave k) (counted k.before.before.before) refl)
+returns-2 : tie.Need-returns
+returns-2 c = (c.with_tokens.ensures.0 ∙ whole_tokens _ _ _ _ _ _ _ _ (gave c.before.before.before.before.before.before.before.before.before.before), c.with_tokens.ensures.1 ∙ reads_both _ _ _ _ _ _ (gave c.before.before.before.before.before.before.before.before.before.before) (counted c.before.before.before.before.before.before.before.before.before.before.before) refl)
 
 pub step_spec : {M : Type 1} → statement M
-step_spec =
-    tie.close
-    (tie.spec
-    read-modes-requires
-    enum-known-answer
-    stopped-requires
-    returns
-    with-tokens-requires
-    same_length
-    same-length-2
-    same-length-3
-    returns-2)
+step_spec = tie.close (tie.spec read-modes-requires enum-known-answer stopped-requires returns with-tokens-requires same_length same-length-2 same-length-3 returns-2)

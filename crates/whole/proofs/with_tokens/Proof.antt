@@ -1,4 +1,4 @@
-use Rattle.numbers.specs.Words.{◌≡◌, refl, sym, ◌∙◌, ap, replicate, pos, needs}
+use Rattle.numbers.specs.Words.{◌≡◌, refl, sym, ◌∙◌, ap, replicate, pos, rules}
 use Rattle.reader.specs.Reading.{given, run, count}
 use Rattle.reader.specs.ReadingLaws.{Bytes}
 use Rattle.header.specs.declared.quantizers.Factors.{Factors}
@@ -22,94 +22,71 @@ use Rattle.whole.proofs.stopped.Reads as stopped-reads
 use Rattle.residual.proofs.decode.Reads as decode_reads_lem
 
 index-requires : tie.Need-index-requires
-index-requires c κs = search needs
+index-requires c κs = search rules
 
-factors-of-requires : tie.Need-factors-of-requires
-factors-of-requires c κs = search needs
+factors-of-requires : tie.Need-factors_of-f-requires
+factors-of-requires c κs = search rules
 
-slice-aggregate-decode : tie.Need-slice-aggregate-decode
-slice-aggregate-decode c = search needs
+slice-aggregate-decode : tie.Need-slice_bounds-decode-end
+slice-aggregate-decode c = search rules
 
-decode-requires : tie.Need-decode-requires
-decode-requires c κs = search needs
+decode-requires : tie.Need-decode-read-requires
+decode-requires c κs = search rules
 
-enum-known-answer : tie.Need-enum-known-answer
-enum-known-answer c = search needs
+enum-known-answer : tie.Need-enum_known-answer
+enum-known-answer c = search rules
 
 stopped-requires : tie.Need-stopped-requires
-stopped-requires c κs = search needs
+stopped-requires c κs = search rules
 
-abbrev start : tie.After-c2 → tie.Start
+abbrev start : tie.After-c-2-1 → tie.Start
 start c = c.before.before.before.before.before.before.before.before.before.before.before.before.before.before.before
 
 -- what is lent are bytes
-tokens_bytes : (c : tie.After-c2) → Bytes (start c).args.tokens.now
-tokens_bytes c i = (c.before.before.before.before.before.before.before.before.before.before.before.before.before.before.shared-slice-known.given i).fits
+tokens_bytes : (c : tie.After-c-2-1) → Bytes (start c).args.tokens.now
+tokens_bytes c i = (c.shared_slice_known-1.given i).fits
 
-table_bytes : (c : tie.After-c2) → Bytes (start c).args.table.now
-table_bytes c i = (c.before.before.before.before.before.before.before.before.before.before.before.before.before.shared-slice-known2.given i).fits
+table_bytes : (c : tie.After-c-2-1) → Bytes (start c).args.table.now
+table_bytes c i = (c.shared_slice_known-2-1.given i).fits
 
 -- what the residual's answer says of the grammar
-is : (c : tie.After-c2) → (let a = (start c).args in run (residual_of a.table.now (factors_at a.frame a.m.kinds.segment) a.m.kinds.small a.m.kinds.skip a.around.top.flags a.around.left.flags) a.tokens.now a.t ≡ from_residual (macroblock_blocks c.before.decode.new.1.1.1.1.1.1.1.1.0) c.before.decode.result.residual)
+is : (c : tie.After-c-2-1) → (run (residual_of (start c).args.table.now (factors_at (start c).args.frame (start c).args.m.kinds.segment) (start c).args.m.kinds.small (start c).args.m.kinds.skip (start c).args.around.top.flags (start c).args.around.left.flags) (start c).args.tokens.now (start c).args.t ≡ from_residual (macroblock_blocks c.decode-read.new.out) c.decode-read.result.residual)
 is c =
-    let a = (start c).args in
-    let p = (start c).requires.0 in
-    ap (λ (f : Factors). run (residual_of a.table.now f a.m.kinds.small a.m.kinds.skip a.around.top.flags a.around.left.flags) a.tokens.now a.t) (sym (c.before.before.before.factors-of.ensures ∙ ap (factors_at a.frame) c.before.before.before.before.index.ensures))
-    ∙ decoded _ _ _ _ _ _ _ _ _ p.token (record { size = p.size; top_flags = p.top; left_flags = p.left; long = refl }) (tokens_bytes c) (table_bytes c) c.before.decode.ensures.0
+    ap (λ (f : Factors). run (residual_of (start c).args.table.now f (start c).args.m.kinds.small (start c).args.m.kinds.skip (start c).args.around.top.flags (start c).args.around.left.flags) (start c).args.tokens.now (start c).args.t) (sym (c.factors_of-f.ensures ∙ ap (factors_at (start c).args.frame) c.index.ensures))
+    ∙ decoded _ _ _ _ _ _ _ _ _ (start c).requires.0.token (record { size = (start c).requires.0.size; top_flags = (start c).requires.0.top; left_flags = (start c).requires.0.left; long = refl }) (tokens_bytes c) (table_bytes c) c.decode-read.ensures.0
 
 -- and its count
-counted : (c : tie.After-c2) → (let a = (start c).args in c.before.decode.result.reads ≡ macroblock_token_reads a.tokens.now a.t a.frame a.table.now a.around (given (macroblock_of a.m.kinds a.m.modes) a.m.next))
+counted : (c : tie.After-c-2-1) → (c.decode-read.result.reads ≡ macroblock_token_reads (start c).args.tokens.now (start c).args.t (start c).args.frame (start c).args.table.now (start c).args.around (given (macroblock_of (start c).args.m.kinds (start c).args.m.modes) (start c).args.m.next))
 counted c =
-    let a = (start c).args in
-    let p = (start c).requires.0 in
-    ResidualLaws.decode_reads_lem _ _ _ _ _ _ _ _ _ p.token (record { size = p.size; top_flags = p.top; left_flags = p.left; long = refl }) c.before.decode.ensures.1
-    ∙ ap (λ (f : Factors). count (residual_of a.table.now f a.m.kinds.small a.m.kinds.skip a.around.top.flags a.around.left.flags) a.tokens.now a.t) (c.before.before.before.factors-of.ensures ∙ ap (factors_at a.frame) c.before.before.before.before.index.ensures)
+    ResidualLaws.decode_reads_lem _ _ _ _ _ _ _ _ _ (start c).requires.0.token (record { size = (start c).requires.0.size; top_flags = (start c).requires.0.top; left_flags = (start c).requires.0.left; long = refl }) c.decode-read.ensures.1
+    ∙ ap (λ (f : Factors). count (residual_of (start c).args.table.now f (start c).args.m.kinds.small (start c).args.m.kinds.skip (start c).args.around.top.flags (start c).args.around.left.flags) (start c).args.tokens.now (start c).args.t) (c.factors_of-f.ensures ∙ ap (factors_at (start c).args.frame) c.index.ensures)
 
-abbrev at_c2 : tie.After-known-told → tie.After-c2
-at_c2 c = c.before.before.before.before
+abbrev at_c2 : tie.In-Done → tie.After-c-2-1
+at_c2 c = c.before.before
 
 -- the coefficients, the flags and the reader that it gave
-gave : (c : tie.After-known-told) → (let d = at_c2 c in let x = d.before.decode.result.residual in let a = (start d).args in run (residual_of a.table.now (factors_at a.frame a.m.kinds.segment) a.m.kinds.small a.m.kinds.skip a.around.top.flags a.around.left.flags) a.tokens.now a.t ≡ given (record { top = x.top; left = x.left; coefficients = macroblock_blocks d.before.decode.last.1.1.1.1.1.1.1.1.0; empty = c.before.answer.given.0.1.0 }) c.before.answer.given.0.0)
+gave : (c : tie.In-Done) → (let d = at_c2 c in let x = d.before.decode.result.residual in run (residual_of (start d).args.table.now (factors_at (start d).args.frame (start d).args.m.kinds.segment) (start d).args.m.kinds.small (start d).args.m.kinds.skip (start d).args.around.top.flags (start d).args.around.left.flags) (start d).args.tokens.now (start d).args.t ≡ given (record { top = x.top; left = x.left; coefficients = macroblock_blocks d.before.decode.last.1.1.1.1.1.1.1.1.0; empty = c.in-Done.empty }) c.in-Done.after)
 gave c =
     let d = at_c2 c in
-    is d ∙ ap (from_ended d.before.decode.result.residual.top d.before.decode.result.residual.left (macroblock_blocks d.before.decode.last.1.1.1.1.1.1.1.1.0)) c.before.answer.given.1
+    is d ∙ ap (from_ended d.before.decode.result.residual.top d.before.decode.result.residual.left (macroblock_blocks d.before.decode.last.1.1.1.1.1.1.1.1.0)) c.in-Done.is
 
-returns : tie.Need-returns
-returns c =
-    let d = c.before.before.before in
-    let a = (start d).args in (
-      tokens_missing a.tokens.now a.t a.frame a.table.now a.around a.place (macroblock_of a.m.kinds a.m.modes) _ _ (is d ∙ not_done (tag_of ended-answer.the_type) (λ r empty. refl) _ _ _ d.before.decode.result.residual.answer c.before.match.keys2) c.stopped.ensures.0,
-      c.stopped.ensures.1 ∙ ap (reads_made a.m.reads) (counted d),
-    )
+returns : tie.Need-returns-in_default
+returns c = (
+  tokens_missing (start c.before.before.before).args.tokens.now (start c.before.before.before).args.t (start c.before.before.before).args.frame (start c.before.before.before).args.table.now (start c.before.before.before).args.around (start c.before.before.before).args.place (macroblock_of (start c.before.before.before).args.m.kinds (start c.before.before.before).args.m.modes) _ _ (is c.before.before.before ∙ not_done (tag_of ended-answer.the_type) (λ r empty. refl) _ _ _ c.decode-read.result.residual.answer c.in_default.in_default-own.keys2) c.stopped.ensures.0,
+  c.stopped.ensures.1 ∙ ap (reads_made (start c.before.before.before).args.m.reads) (counted c.before.before.before),
+)
 
-returns-2 : tie.Need-returns-2
+returns-2 : tie.Need-returns
 returns-2 c =
-    let k = c.before.before.before.before.before.before.before.before.before.before.before.before.before in
-    let d = at_c2 k in
-    let a = (start d).args in
-    let p = (start d).pre in
-    let e = decode_ends _ _ _ _ _ _ _ _ (replicate 384 (pos 0)) p.0.token (record { size = p.0.size; top_flags = p.0.top; left_flags = p.0.left; long = refl }) (tokens_bytes d) (table_bytes d) (gave k) in
-    let m = macroblock_of a.m.kinds a.m.modes in
-    let q = planes_of a.y.now a.u.now a.v.now in (
-      c.before.before.before.before.before.before.complete.ensures
-          ∙ complete_good a.frame a.place q m a.m.next _ _ p.0.sound p.1.1 (painting p.1.0 e.value)
-          ∙ tokens_done a.tokens.now a.t a.frame a.table.now a.around a.place m a.m.next q (gave k),
-      ap (reads_made a.m.reads) (counted d),
+    let d = at_c2 c.before.before.before.before.before.before.before.before.before.before.before.before.before in
+    let e = decode_ends _ _ _ _ _ _ _ _ (replicate 384 (pos 0)) (start d).requires.0.token (record { size = (start d).requires.0.size; top_flags = (start d).requires.0.top; left_flags = (start d).requires.0.left; long = refl }) (tokens_bytes d) (table_bytes d) (gave c.before.before.before.before.before.before.before.before.before.before.before.before.before) in
+    let m = macroblock_of (start d).args.m.kinds (start d).args.m.modes in
+    let q = planes_of (start d).args.y.now (start d).args.u.now (start d).args.v.now in (
+      c.complete.ensures
+          ∙ complete_good (start d).args.frame (start d).args.place q m (start d).args.m.next _ _ (start d).requires.0.sound (start d).requires.1.1 (painting (start d).requires.1.0 e.value)
+          ∙ tokens_done (start d).args.tokens.now (start d).args.t (start d).args.frame (start d).args.table.now (start d).args.around (start d).args.place m (start d).args.m.next q (gave c.before.before.before.before.before.before.before.before.before.before.before.before.before),
+      ap (reads_made (start d).args.m.reads) (counted d),
     )
 
 pub with_tokens_spec : {M : Type 1} → statement M
-with_tokens_spec =
-    tie.close
-    (tie.spec
-    index-requires
-    factors-of-requires
-    slice-aggregate-decode
-    decode-requires
-    enum-known-answer
-    stopped-requires
-    returns
-    (λ c κs. search needs)
-    (λ c. search needs)
-    (λ c. search needs)
-    (λ c. search needs)
-    returns-2)
+with_tokens_spec = tie.close (tie.spec index-requires factors-of-requires slice-aggregate-decode decode-requires enum-known-answer stopped-requires returns (λ c κs. search rules) (λ c. search rules) (λ c. search rules) (λ c. search rules) returns-2)

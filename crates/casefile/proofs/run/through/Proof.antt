@@ -1,12 +1,12 @@
-use Rattle.numbers.specs.Words.{needs}
+use Rattle.numbers.specs.Words.{rules}
 use Rattle.casefile.specs.RunLaws.{given_is}
 use Rattle.casefile.proofs.run.through.Statement.{statement}
 use Rattle.casefile.proofs.run.through.Tie as tie
 
-abbrev called : tie.After-slice-known12 → tie.After-decode
+abbrev called : tie.After-slice_known-12-1 → tie.After-decode-d
 called c = c.before.before.before.before.before.before.before.before.before.before.before.before
 
-abbrev given : tie.After-decode → tie.After-tile-of
+abbrev given : tie.After-decode-d → tie.After-tile_of
 given c = c.before.before.before.before.before.before.before.before
 
 returns : tie.Need-returns
@@ -16,7 +16,4 @@ returns c =
     given_is _ _ d.decode.ensures.0 g.tile-of.ensures g.before.header.ensures
 
 pub through_spec : {M : Type 1} → statement M
-through_spec =
-    tie.close
-    (tie.spec (λ c κs. search needs) (λ c κs. search needs) (λ c. search needs) (λ c κs. search needs) (λ c. search needs) (λ c. search needs)
-    (λ c. search needs) (λ c. search needs) (λ c. search needs) (λ c. search needs) returns)
+through_spec = tie.close (tie.spec (λ c κs. search rules) (λ c κs. search rules) (λ c. search rules) (λ c κs. search rules) (λ c. search rules) (λ c. search rules) (λ c. search rules) (λ c. search rules) (λ c. search rules) (λ c. search rules) returns)

@@ -1,27 +1,25 @@
 -- `refusal` meets its contract: each way out has the checks that passed before it, and its own.
-use Rattle.numbers.specs.Words.{◌≡◌, sym, ◌∙◌, true, not-false, not-true, needs}
+use Rattle.numbers.specs.Words.{◌≡◌, sym, ◌∙◌, true, not-false, not-true, rules}
 use Rattle.tile.specs.Tile.{sides_of}
 use Rattle.deblock.specs.ChecksLaws.{stop_side, stop_lengths, stop_limits, stop_none}
 use Rattle.deblock.proofs.checks.refusal.Statement.{statement}
 use Rattle.deblock.proofs.checks.refusal.Tie as tie
 
 -- the sides are fine
-fine : (c : tie.Else1) → let a = c.before.before.before.args in sides_of a.w a.h ≡ true
-fine c = sym c.before.sides-fine.ensures ∙ not-false _ c.if1.false
+fine : (c : tie.Else-not-sides_fine) → sides_of c.args.w c.args.h ≡ true
+fine c = sym c.sides_fine.ensures ∙ not-false _ c.if-not-sides_fine.false-raw
 
-returns : tie.Need-returns
-returns c = stop_side _ _ _ _ _ _ (sym c.before.sides-fine.ensures ∙ not-true _ c.if1.true)
+returns : tie.Need-returns-then-not-sides_fine
+returns c = stop_side _ _ _ _ _ _ (sym c.sides_fine.ensures ∙ not-true _ c.if-not-sides_fine.true-raw)
 
-returns-2 : tie.Need-returns-2
-returns-2 c = stop_lengths _ _ _ _ _ _ (fine c.before.before) (sym c.before.lengths-fine.ensures ∙ not-true _ c.if2.true)
+returns-2 : tie.Need-returns-then-not-lengths_fine
+returns-2 c = stop_lengths _ _ _ _ _ _ (fine c.before.before) (sym c.lengths_fine.ensures ∙ not-true _ c.if-not-lengths_fine.true-raw)
 
-returns-3 : tie.Need-returns-3
-returns-3 c = stop_limits _ _ _ _ _ _ (fine c.before.before.before.before) (sym c.before.before.before.lengths-fine.ensures ∙ not-false _ c.before.before.if2.false) (sym c.before.limits-fine.ensures ∙ not-true _ c.if3.true)
+returns-3 : tie.Need-returns-then-not-limits_fine
+returns-3 c = stop_limits _ _ _ _ _ _ (fine c.before.before.before.before) (sym c.lengths_fine.ensures ∙ not-false _ c.if-not-lengths_fine.false-raw) (sym c.limits_fine.ensures ∙ not-true _ c.if-not-limits_fine.true-raw)
 
-returns-4 : tie.Need-returns-4
-returns-4 c = stop_none _ _ _ _ _ _ (fine c.before.before.before.before) (sym c.before.before.before.lengths-fine.ensures ∙ not-false _ c.before.before.if2.false) (sym c.before.limits-fine.ensures ∙ not-false _ c.if3.false)
+returns-4 : tie.Need-returns
+returns-4 c = stop_none _ _ _ _ _ _ (fine c.before.before.before.before) (sym c.lengths_fine.ensures ∙ not-false _ c.if-not-lengths_fine.false-raw) (sym c.limits_fine.ensures ∙ not-false _ c.if-not-limits_fine.false-raw)
 
 pub refusal_spec : {M : Type 1} → statement M
-refusal_spec =
-    tie.close
-    (tie.spec (λ c κs. search needs) returns (λ c κs. search needs) returns-2 (λ c κs. search needs) returns-3 returns-4)
+refusal_spec = tie.close (tie.spec (λ c κs. search rules) returns (λ c κs. search rules) returns-2 (λ c κs. search rules) returns-3 returns-4)

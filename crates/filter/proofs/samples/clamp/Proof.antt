@@ -13,21 +13,17 @@ klo s = known (any w16 s.ranges.lo)
 abbrev khi : tie.Start → Var
 khi s = known (any w16 s.ranges.hi)
 
-returns : tie.Need-returns
+returns : tie.Need-returns-then-v-lo
 unfolding clamp_z
-returns c = let s = c.before in simp (lt_is (kv s).is (klo s).is c.if1.true) (klo s).is.eq
+returns c = simp (lt_is (kv c.before).is (klo c.before).is c.if-v-lo.true) (klo c.before).is.eq
 
-returns-2 : tie.Need-returns-2
+returns-2 : tie.Need-returns-then-v-hi
 unfolding clamp_z
-returns-2 c =
-    let s = c.before.before in
-    simp (lt_is (kv s).is (klo s).is c.before.if1.false, lt_is (khi s).is (kv s).is c.if2.true) (khi s).is.eq
+returns-2 c = simp (lt_is (kv c.before.before).is (klo c.before.before).is c.if-v-lo.false, lt_is (khi c.before.before).is (kv c.before.before).is c.if-v-hi.true) (khi c.before.before).is.eq
 
-returns-3 : tie.Need-returns-3
+returns-3 : tie.Need-returns-else-v-hi
 unfolding clamp_z
-returns-3 c =
-    let s = c.before.before in
-    simp (lt_is (kv s).is (klo s).is c.before.if1.false, lt_is (khi s).is (kv s).is c.if2.false) (kv s).is.eq
+returns-3 c = simp (lt_is (kv c.before.before).is (klo c.before.before).is c.if-v-lo.false, lt_is (khi c.before.before).is (kv c.before.before).is c.if-v-hi.false) (kv c.before.before).is.eq
 
 pub clamp_spec : {M : Type 1} → statement M
 clamp_spec = tie.close (tie.spec returns returns-2 returns-3)

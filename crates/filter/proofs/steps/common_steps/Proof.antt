@@ -1,5 +1,5 @@
 -- `common_steps` meets its contract.
-use Rattle.numbers.specs.Words.{refl, ◌∙◌, ap, List, [], ◌∷◌, ◌∷≡◌, pos, neg_ℤ, num, inside, inside_read, wider, Var, is, fits, ◌⊕◌, lit, v, known, there, answered, w16, needs}
+use Rattle.numbers.specs.Words.{refl, ◌∙◌, ap, List, [], ◌∷◌, ◌∷≡◌, pos, neg_ℤ, num, inside, inside_read, wider, Var, is, fits, ◌⊕◌, lit, v, known, there, answered, w16, rules}
 use Rattle.filter.specs.Kernel.{eighth, sides, common_steps_of}
 use Rattle.filter.specs.KernelLaws.{eighth_in}
 use Rattle.filter.proofs.steps.common_steps.Statement.{statement}
@@ -12,20 +12,15 @@ abbrev ρ : tie.Start → List Var
 abbrev p : tie.After-eighth → Var
 p c = known (answered w16 (c.eighth.ensures ∙ ap eighth (is w16 (ρ c.before) (v 0 ⊕ lit (pos 3)) tt)) (eighth_in _) tt)
 
-abbrev q : tie.After-eighth2 → Var
-q c = known (answered w16 (c.eighth2.ensures ∙ ap eighth (is w16 (ρ c.before.before) (v 0 ⊕ lit (pos 4)) tt)) (eighth_in _) tt)
+abbrev q : tie.After-eighth-2 → Var
+q c = known (answered w16 (c.eighth-2.ensures ∙ ap eighth (is w16 (ρ c.before.before) (v 0 ⊕ lit (pos 4)) tt)) (eighth_in _) tt)
 
 sides-requires : tie.Need-sides-requires
 sides-requires c κs = let none = inside (wider (num (pos 0)) tt) in (inside_read (wider (q c).is tt), none, none)
 
 returns : tie.Need-returns
 unfolding sides common_steps_of
-returns c =
-    let b = c.before in
-    c.sides.ensures ∙ (refl ∷≡ refl ∷≡ refl ∷≡ (p b.before).is.eq ∷≡ ap neg_ℤ (q b).is.eq ∷≡ refl ∷≡ refl ∷≡ refl ∷≡ refl)
+returns c = c.sides.ensures ∙ (refl ∷≡ refl ∷≡ refl ∷≡ (p c.before.before).is.eq ∷≡ ap neg_ℤ (q c.before).is.eq ∷≡ refl ∷≡ refl ∷≡ refl ∷≡ refl)
 
 pub common_steps_spec : {M : Type 1} → statement M
-common_steps_spec =
-    tie.close
-    (tie.spec (λ c. fits w16 (ρ c) (v 0 ⊕ lit (pos 3)) tt) (λ c κs. search needs) (λ c. fits w16 (ρ c.before) (v 0 ⊕ lit (pos 4)) tt)
-    (λ c κs. search needs) sides-requires returns)
+common_steps_spec = tie.close (tie.spec (λ c. fits w16 (ρ c) (v 0 ⊕ lit (pos 3)) tt) (λ c κs. search rules) (λ c. fits w16 (ρ c.before) (v 0 ⊕ lit (pos 4)) tt) (λ c κs. search rules) sides-requires returns)

@@ -18,8 +18,7 @@ abbrev of : ℕ → E
 of k = shr (sum k) 7
 
 sides-requires : tie.Need-sides-requires
-sides-requires c κs =
-    (inside_read (wider (know w16 (ρ c) (of 27) tt) tt), inside_read (wider (know w16 (ρ c) (of 18) tt) tt), inside_read (wider (know w16 (ρ c) (of 9) tt) tt))
+sides-requires c κs = (inside_read (wider (know w16 (ρ c) (of 27) tt) tt), inside_read (wider (know w16 (ρ c) (of 18) tt) tt), inside_read (wider (know w16 (ρ c) (of 9) tt) tt))
 
 returns : tie.Need-returns
 unfolding part sides macroblock_steps_of
@@ -30,7 +29,4 @@ returns c =
     c.sides.ensures ∙ (refl ∷≡ far ∷≡ next ∷≡ near ∷≡ ap neg_ℤ near ∷≡ ap neg_ℤ next ∷≡ ap neg_ℤ far ∷≡ refl ∷≡ refl)
 
 pub macroblock_steps_spec : {M : Type 1} → statement M
-macroblock_steps_spec =
-    tie.close
-    (tie.spec (λ c. fits w16 (ρ c) (times 27) tt) (λ c. fits w16 (ρ c) (sum 27) tt) (λ c. fits w16 (ρ c) (times 18) tt)
-    (λ c. fits w16 (ρ c) (sum 18) tt) (λ c. fits w16 (ρ c) (times 9) tt) (λ c. fits w16 (ρ c) (sum 9) tt) sides-requires returns)
+macroblock_steps_spec = tie.close (tie.spec (λ c. fits w16 (ρ c) (times 27) tt) (λ c. fits w16 (ρ c) (sum 27) tt) (λ c. fits w16 (ρ c) (times 18) tt) (λ c. fits w16 (ρ c) (sum 18) tt) (λ c. fits w16 (ρ c) (times 9) tt) (λ c. fits w16 (ρ c) (sum 9) tt) sides-requires returns)

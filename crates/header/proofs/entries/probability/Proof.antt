@@ -18,16 +18,16 @@ remainder (negsuc n) f =
     let g : n < 2147483648 = omega (arith, f.sfits) in
     rw (le-ltb 4294967296 (suc n) (omega arith)) (omega arith)
 
-cast-result : tie.Need-overflow-cast-result
+cast-result : tie.Need-overflow_cast-result
 cast-result c = fit (any w32 c.ranges.entry) tt
 
-add-result : tie.Need-overflow-add-result
+add-result : tie.Need-overflow_add-result
 add-result c = fits w64 (ρ c) (v 0 ⊕ lit (pos 4294967296)) tt
 
-rem-result : tie.Need-nonzero-rem-result
+rem-result : tie.Need-nonzero_rem-result
 rem-result c = fits w64 (ρ c) sum tt
 
-cast-result-2 : tie.Need-overflow-cast-result-2
+cast-result-2 : tie.Need-overflow_cast-result-2
 cast-result-2 c = unsigned_asks (know w64 (ρ c) sum tt) tt
 
 returns : tie.Need-returns

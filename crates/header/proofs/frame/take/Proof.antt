@@ -1,4 +1,4 @@
-use Rattle.numbers.specs.Words.{◌≡◌, sym, ◌∙◌, ap, true, not-false, not-true, needs}
+use Rattle.numbers.specs.Words.{◌≡◌, sym, ◌∙◌, ap, true, not-false, not-true, rules}
 use Rattle.header.specs.Header.{header_of}
 use Rattle.header.specs.HeaderLaws.{header_length, header_each}
 use Rattle.numbers.specs.declared.Checked.TheVariants as T
@@ -11,22 +11,22 @@ use Rattle.header.proofs.frame.made.Reads as made_reads
 use Rattle.header.proofs.frame.none.Reads as none_reads
 use Rattle.header.proofs.entries.header_fine.Reads as header-fine-reads
 
-header-fine-requires : tie.Need-header-fine-requires
-header-fine-requires c κs = search needs
+header-fine-requires : tie.Need-header_fine-requires
+header-fine-requires c κs = search rules
 
 none-requires : tie.Need-none-requires
-none-requires c κs = search needs
+none-requires c κs = search rules
 
-returns : tie.Need-returns
-returns c = ap (λ f. record { answer = T.Refused; frame = f }) c.none.ensures ∙ sym (frame_refused_lem _ (sym c.before.before.header_fine_lem.ensures ∙ not-true _ c.before.if1.true))
+returns : tie.Need-returns-then-not-header_fine
+returns c = ap (λ f. record { answer = T.Refused; frame = f }) c.none.ensures ∙ sym (frame_refused_lem _ (sym c.header_fine.ensures ∙ not-true _ c.if-not-header_fine.true-raw))
 
-fine : (c : tie.Else1) → header_of c.before.before.args.h.now ≡ true
-fine c = sym c.before.header_fine_lem.ensures ∙ not-false _ c.if1.false
+fine : (c : tie.Else-not-header_fine) → header_of c.args.h.now ≡ true
+fine c = sym c.header_fine.ensures ∙ not-false _ c.if-not-header_fine.false-raw
 
 made-requires : tie.Need-made-requires
 made-requires c κs = (header_length _ (fine c), header_each _ (fine c))
 
-returns-2 : tie.Need-returns-2
+returns-2 : tie.Need-returns
 returns-2 c = ap (λ f. record { answer = T.Done; frame = f }) c.made.ensures ∙ sym (frame_good _ (fine c.before))
 
 pub take_spec : {M : Type 1} → statement M

@@ -1,16 +1,16 @@
 use Rattle.hookbarley.specs.CallsLaws.{survey_called_refused, survey_called_found}
-use Rattle.numbers.specs.Words.{needs}
+use Rattle.numbers.specs.Words.{rules}
 use Rattle.hookbarley.proofs.surveying.hookbarley_survey.Statement.{statement}
 use Rattle.hookbarley.proofs.surveying.hookbarley_survey.Tie as tie
 
-abbrev called : tie.After-tell-counts → tie.After-survey
+abbrev called : tie.After-tell_counts → tie.After-survey-s
 called c = c.before.before.before.before.before.before.before.before.before.before.before.before.before.before.before.before.before.before.before
 
-returns : tie.Need-returns
-returns c = survey_called_refused _ _ _ _ _ c.if1.true
+returns : tie.Need-returns-then-tile-ne-TILE_NUMBERS
+returns c = survey_called_refused _ _ _ _ _ c.if-tile-ne-TILE_NUMBERS.true
 
-returns-2 : tie.Need-returns-2
-returns-2 c = survey_called_found _ _ _ _ _ (called c).before.before.before.before.before.before.before.before.before.if1.false (called c).before.before.before.before.before.before.before.before.tile-of.ensures (called c).survey.ensures c.tell-counts.ensures
+returns-2 : tie.Need-returns
+returns-2 c = survey_called_found _ _ _ _ _ (called c).before.before.before.before.before.before.before.before.before.if1.false (called c).before.before.before.before.before.before.before.before.tile-of.ensures (called c).survey.ensures c.tell_counts.ensures
 
 pub hookbarley_survey_spec : {M : Type 1} → statement M
-hookbarley_survey_spec = tie.close (tie.spec returns (λ c κs. search needs) (λ c κs. search needs) (λ c κs. search needs) (λ c. (called c).survey.auto.1.1.1.0) (λ c. (called c).survey.auto.1.1.1.1.0) (λ c. (called c).survey.auto.1.1.1.1.1.0) (λ c. (called c).survey.auto.1.1.1.1.1.1.0) (λ c. (called c).survey.auto.1.1.1.1.1.1.1.0) (λ c. (called c).survey.auto.1.1.1.1.1.1.1.1.0) (λ c. (called c).survey.auto.1.1.1.1.1.1.1.1.1.0) returns-2)
+hookbarley_survey_spec = tie.close (tie.spec returns (λ c κs. search rules) (λ c κs. search rules) (λ c κs. search rules) (λ c. (called c).survey.auto.1.1.1.0) (λ c. (called c).survey.auto.1.1.1.1.0) (λ c. (called c).survey.auto.1.1.1.1.1.0) (λ c. (called c).survey.auto.1.1.1.1.1.1.0) (λ c. (called c).survey.auto.1.1.1.1.1.1.1.0) (λ c. (called c).survey.auto.1.1.1.1.1.1.1.1.0) (λ c. (called c).survey.auto.1.1.1.1.1.1.1.1.1.0) returns-2)

@@ -13,6 +13,4 @@ returns : tie.Need-returns
 returns c = let k = rounded w16 (know w32 (ρ c) eighth tt) tt in (k.eq, inside_read (wider k tt))
 
 pub mean_spec : {M : Type 1} → statement M
-mean_spec =
-    tie.close
-    (tie.spec (λ c. fit (any w16 c.ranges.dc) tt) (λ c. fits w32 (ρ c) (v 0 ⊕ lit (pos 4)) tt) (λ c. fit (know w32 (ρ c) eighth tt) tt) returns)
+mean_spec = tie.close (tie.spec (λ c. fit (any w16 c.ranges.dc) tt) (λ c. fits w32 (ρ c) (v 0 ⊕ lit (pos 4)) tt) (λ c. fit (know w32 (ρ c) eighth tt) tt) returns)

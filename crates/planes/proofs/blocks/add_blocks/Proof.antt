@@ -9,63 +9,46 @@ use Rattle.planes.proofs.Turns.{taken, large_turn}
 use Rattle.planes.proofs.blocks.add_blocks.Statement.{statement}
 use Rattle.planes.proofs.blocks.add_blocks.Tie as tie
 
-abbrev invariant_loop : tie.invariant_loop
-invariant_loop p₀ w x y m coded r c from i₀ i-end p i =
-    (i ≤ m * m) × (p ≡ blocks_painted (stand_rule w x y m) p₀ w x y m (square_blocks (4 * m) from c) i) × FirstFit c from i
+abbrev invariant_loop : tie.invariant-loop-i
+invariant_loop p₀ w x y m coded r c from i₀ i-end p i = (i ≤ m * m) × (p ≡ blocks_painted (stand_rule w x y m) p₀ w x y m (square_blocks (4 * m) from c) i) × FirstFit c from i
 
-abbrev decreases_loop : tie.decreases_loop
+abbrev decreases_loop : tie.decreases-loop-i
 decreases_loop p₀ w x y m coded r c from i₀ i-end p i = m * m - i
 
 -- where the sub-block lies
-lies : (c : tie.After-sub-block invariant_loop decreases_loop) → let a = c.before.before.before.before.args in Lies (length c.before.before.loop.p) a.w c.sub-block.result
+lies : (c : tie.After-sub_block-s invariant_loop decreases_loop) → Lies (length c.loop-i.p) c.args.w c.sub_block-s.result
 lies c =
-    let r = c.before.before.before.before.requires in
-    rw (c.before.before.loop.invariant.1, length_blocks) (sub_lies r.1.0 (omega (arith, c.before.loop-test)) r.0 c.sub-block.ensures)
+    rw (c.loop-i.invariant.1, length_blocks) (sub_lies c.requires.1.0 (omega (arith, c.loop-i-test)) c.requires.0 c.sub_block-s.ensures)
 
-sub-block-requires : tie.Need-sub-block-requires invariant_loop decreases_loop
-sub-block-requires c κs = let r = c.before.before.before.requires in (r.1.0, (omega (arith, c.loop-test), (r.0.columns, r.0.wide, r.0.high)))
+sub-block-requires : tie.Need-sub_block-s-requires invariant_loop decreases_loop
+sub-block-requires c κs = (c.requires.1.0, (omega (arith, c.loop-i-test), (c.requires.0.columns, c.requires.0.wide, c.requires.0.high)))
 
 -- the first coefficient, as it is read
-abbrev first : tie.After-add-arg3 invariant_loop decreases_loop → ℤ
-first c = let a = c.before.before.before.before.before.before.before.args in get_or a.c.now (a.from + c.before.before.before.before.before.loop.i) (pos 0)
+abbrev first : tie.After-add-arg-in-loop-i-2-1 invariant_loop decreases_loop → ℤ
+first c = let a = c.args in get_or a.c.now (a.from + c.loop-i.i) (pos 0)
 
-dc : (c : tie.After-add-arg3 invariant_loop decreases_loop) → Know (round w16 (first c)) (first c) (negsuc 32767) (pos 32767)
-dc c = taken (first c) c.add-arg3.given
+dc : (c : tie.After-add-arg-in-loop-i-2-1 invariant_loop decreases_loop) → Know (round w16 (first c)) (first c) (negsuc 32767) (pos 32767)
+dc c = taken (first c) c.add-arg-in-loop-i-2-1.given
 
 -- its number among all
-among : (c : tie.After-sub-block invariant_loop decreases_loop) → let a = c.before.before.before.before.args in (a.from + c.before.before.loop.i < 16) × (a.from + c.before.before.loop.i < length a.c.now)
-among c = let r = c.before.before.before.before.requires.1.1 in (omega (arith, r.few, c.before.loop-test), omega (arith, r.room, c.before.loop-test))
+among : (c : tie.After-sub_block-s invariant_loop decreases_loop) → (c.args.from + c.loop-i.i < 16) × (c.args.from + c.loop-i.i < length c.args.c.now)
+among c = let r = c.requires.1.1 in (omega (arith, r.few, c.loop-i-test), omega (arith, r.room, c.loop-i-test))
 
 add-requires : tie.Need-add-requires invariant_loop decreases_loop
-add-requires c κs =
-    let t = c.before.before.before in
-    let r = t.before.before.before.before.requires.1.1 in
-    (lies_block (lies t), ((among t).0, r.near))
+add-requires c κs = (lies_block (lies c.before.before.before.before), ((among c.before.before.before.before).0, c.requires.1.1.near))
 
-loop-again : tie.Need-loop-preserved invariant_loop decreases_loop
+loop-again : tie.Need-loop-i-preserved invariant_loop decreases_loop
 loop-again c =
-    let d = c.before.before in
-    let t = d.before.before.before.before in
-    let l = t.before.before.loop in
-    let s = t.before.before.before.before in
-    let h : l.i < s.args.m * s.args.m = omega (arith, t.before.loop-test) in (
+    let h : c.loop-i.i < c.args.m * c.args.m = omega (arith, c.loop-i-test) in (
       omega arith,
-      large_turn s.requires.1.1 _ _ _ _ l.i h t.sub-block.ensures (lies t).square.columns refl refl (dc d.before).eq _ l.invariant.1 d.add.ensures.1 d.add.ensures.0,
-      below_next (λ (j : ℕ). Fits16 (get_or s.args.c.now (s.args.from + j) (pos 0))) l.i (inside (dc d.before)) l.invariant.2,
+      large_turn c.requires.1.1 _ _ _ _ c.loop-i.i h c.sub_block-s.ensures (lies c.before.before.before.before.before.before.before).square.columns refl refl (dc c.before.before.before).eq _ c.loop-i.invariant.1 c.add.ensures.1 c.add.ensures.0,
+      below_next (λ (j : ℕ). Fits16 (get_or c.args.c.now (c.args.from + j) (pos 0))) c.loop-i.i (inside (dc c.before.before.before)) c.loop-i.invariant.2,
     )
 
 returns : tie.Need-returns invariant_loop decreases_loop
 returns c =
-    let m = c.before.before.before.args.m in
-    let e : c.before.loop.i ≡ m * m = omega arith in
-    let v = c.before.loop.invariant in
-    (rw e at v.1, rw e at v.2)
+    let e : c.loop-i.i ≡ c.args.m * c.args.m = omega arith in
+    (rw e at c.loop-i.invariant.1, rw e at c.loop-i.invariant.2)
 
 pub add_blocks_spec : {M : Type 1} → statement M
-add_blocks_spec =
-    tie.close
-    (tie.spec invariant_loop decreases_loop (λ c. omega (arith, sides_square c.before.requires.1.0)) (λ c. (omega arith, sym (blocks_none _ _ _ _ _ _ _), λ j h. absurd (omega arith)))
-    sub-block-requires (λ c. omega (arith, among c)) (λ c. (among c.before).0) (λ c. omega (arith, among c.before.before)) (λ c. (among c.before.before).1)
-    add-requires
-    (λ c. omega (arith, sides_square c.before.before.before.before.before.before.before.before.before.before.requires.1.0, c.before.before.before.before.before.before.before.loop-test))
-    (λ c. omega (arith, c.before.before.before.before.before.before.before.loop-test)) loop-again (λ c. rw c.before.loop.invariant.1 (length_blocks _ _ _ _ _ _ _ _)) returns)
+add_blocks_spec = tie.close (tie.spec invariant_loop decreases_loop (λ c. omega (arith, sides_square c.requires.1.0)) (λ c. (omega arith, sym (blocks_none _ _ _ _ _ _ _), λ j h. absurd (omega arith))) sub-block-requires (λ c. omega (arith, among c)) (λ c. (among c.before.before).0) (λ c. omega (arith, among c.before.before.before)) (λ c. (among c.before.before.before).1) add-requires (λ c. omega (arith, sides_square c.requires.1.0, c.loop-i-test)) (λ c. omega (arith, c.loop-i-test)) loop-again (λ c. rw c.loop-i.invariant.1 (length_blocks _ _ _ _ _ _ _ _)) returns)

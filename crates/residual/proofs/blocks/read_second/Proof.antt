@@ -1,5 +1,5 @@
 -- `read_second` meets its contract: with arguments in range the checked call is the grammar's block.
-use Rattle.numbers.specs.Words.{arith, replicate, pos, needs}
+use Rattle.numbers.specs.Words.{arith, replicate, pos, rules}
 use Rattle.residual.proofs.Tags.{not_ended}
 use Rattle.residual.proofs.Turns.{second_fine, second_lost, second_read}
 use Rattle.residual.specs.ResidualLaws.{zeros_sixteen}
@@ -8,66 +8,43 @@ use Rattle.residual.specs.ResidualSteps.{coded_read}
 use Rattle.residual.proofs.blocks.read_second.Statement.{statement}
 use Rattle.residual.proofs.blocks.read_second.Tie as tie
 
-second-kind-requires : tie.Need-second-kind-requires
-second-kind-requires c κs = search needs
+second-kind-requires : tie.Need-second_kind-k-requires
+second-kind-requires c κs = search rules
 
-context-at-requires : tie.Need-context-at-requires
-context-at-requires c κs = let h = c.before.before.before.requires in ((h.whole.top, h.whole.left), (omega arith, omega arith))
+context-at-requires : tie.Need-context_at-ctx-requires
+context-at-requires c κs = ((c.requires.whole.top, c.requires.whole.left), (omega arith, omega arith))
 
-decode-requires : tie.Need-decode-requires
-decode-requires c κs = search needs
+decode-requires : tie.Need-decode-b-requires
+decode-requires c κs = search rules
 
-enum-known-answer : tie.Need-enum-known-answer
-enum-known-answer c = search needs
+enum-known-answer : tie.Need-enum_known-answer
+enum-known-answer c = search rules
 
 -- the block as it was read
-part : (c : tie.After-decode) → (let n = c.before.before in let a = n.before.before.before.before.args in BlockPart a.table.now n.before.second-kind.result n.context-at.result (replicate 16 (pos 0)) a.s.now a.m.reader c.decode.result c.decode.new.1.1.1.1.1.1.1.1.0)
+part : (c : tie.After-decode-b) → (BlockPart c.args.table.now c.second_kind-k.result c.context_at-ctx.result (replicate 16 (pos 0)) c.args.s.now c.args.m.reader c.decode-b.result c.decode-b.new.out)
 part c =
-    let n = c.before.before in
-    let b = n.before.before.before.before in
-    coded_read _ _ _ _ _ _ b.requires.reader b.requires.size (second_fine b.args.f n.before.second-kind.ensures) n.context-at.ensures.1 zeros_sixteen c.decode.ensures
+    coded_read _ _ _ _ _ _ c.requires.reader c.requires.size (second_fine c.args.f c.second_kind-k.ensures) c.context_at-ctx.ensures.1 zeros_sixteen c.decode-b.ensures
 
-returns : tie.Need-returns
-returns c =
-    let x = c.before in
-    let n = x.before.before in
-    let k = n.before in
-    let a = k.before.before.before.args in
-    second_lost a.s.now a.table.now a.f a.m a.flat.now k.second-kind.ensures n.context-at.ensures.0 (part x) (not_ended _ x.decode.result.answer c.match.keys2)
+returns : tie.Need-returns-in_default
+returns c = second_lost c.args.s.now c.args.table.now c.args.f c.args.m c.args.flat.now c.second_kind-k.ensures c.context_at-ctx.ensures.0 (part c.before) (not_ended _ c.decode-b.result.answer c.in_default.in_default-own.keys2)
 
-transform-requires : tie.Need-transform-requires
-transform-requires c κs = search needs
+transform-requires : tie.Need-transform-t-requires
+transform-requires c κs = search rules
 
 spread-requires : tie.Need-spread-requires
-spread-requires c κs = search needs
+spread-requires c κs = search rules
 
-passed-requires : tie.Need-passed-requires
-passed-requires c κs = search needs
+passed-requires : tie.Need-passed-next-requires
+passed-requires c κs = search rules
 
-same_length : tie.Need-same-length
-same_length c = search needs
+same_length : tie.Need-shape_of-flat
+same_length c = search rules
 
-returns-2 : tie.Need-returns-2
+returns-2 : tie.Need-returns
 returns-2 c =
-    let t = c.before.before.before.before.before.before.before in
-    let x = t.before.before.before.before.before in
-    let k = x.before.before.before in
-    let b = k.before.before.before in
-    second_read b.args.s.now b.args.table.now b.args.f b.args.m b.args.flat.now k.second-kind.ensures x.before.before.context-at.ensures.0 (part x)
-    b.requires.reader (λ i. (k.before.before.shared-slice-known.given i).fits) (λ i. (k.before.shared-slice-known2.given i).fits)
-    t.before.before.before.answer.given.1 t.transform.ensures c.before.before.before.spread.ensures c.passed.ensures
+    second_read c.args.s.now c.args.table.now c.args.f c.args.m c.args.flat.now c.second_kind-k.ensures c.context_at-ctx.ensures.0 (part c.before.before.before.before.before.before.before.before.before.before)
+    c.requires.reader (λ i. (c.shared_slice_known-1.given i).fits) (λ i. (c.shared_slice_known-2-1.given i).fits)
+    c.in-Ended.is c.transform-t.ensures c.spread.ensures c.passed-next.ensures
 
 pub read_second_spec : {M : Type 1} → statement M
-read_second_spec =
-    tie.close
-    (tie.spec
-    second-kind-requires
-    context-at-requires
-    decode-requires
-    enum-known-answer
-    returns
-    transform-requires
-    spread-requires
-    passed-requires
-    same_length
-    returns-2)
+read_second_spec = tie.close (tie.spec second-kind-requires context-at-requires decode-requires enum-known-answer returns transform-requires spread-requires passed-requires same_length returns-2)

@@ -3,27 +3,27 @@ use Rattle.numbers.specs.Words.{pos, negsuc, Know, num, round, fit, rounded, any
 use Rattle.transform.proofs.lanes.nearest.Statement.{statement}
 use Rattle.transform.proofs.lanes.nearest.Tie as tie
 
-returns : tie.Need-returns
+returns : tie.Need-returns-then-v-ltminus32513
 unfolding clamp_z
-returns c = rw (lt_is (any w32 c.before.ranges.v) (num (negsuc 32512)) c.if1.true)
+returns c = rw (lt_is (any w32 c.ranges.v) (num (negsuc 32512)) c.if-v-ltminus32513.true)
 
-returns-2 : tie.Need-returns-2
+returns-2 : tie.Need-returns-then-v-gt32512
 unfolding clamp_z
 returns-2 c =
-    let k = any w32 c.before.before.ranges.v in
-    rw (lt_is k (num (negsuc 32512)) c.before.if1.false, lt_is (num (pos 32512)) k c.if2.true)
+    let k = any w32 c.ranges.v in
+    rw (lt_is k (num (negsuc 32512)) c.if-v-ltminus32513.false, lt_is (num (pos 32512)) k c.if-v-gt32512.true)
 
 -- past both tests
-kept : (c : tie.Else2) → Know (round w32 c.before.before.args.v) c.before.before.args.v (negsuc 32512) (pos 32512)
+kept : (c : tie.Else-v-gt32512) → Know (round w32 c.args.v) c.args.v (negsuc 32512) (pos 32512)
 kept c =
-    let k = any w32 c.before.before.ranges.v in
-    ge_right (num (pos 32512)) (ge_left k (num (negsuc 32512)) c.before.if1.false) c.if2.false
+    let k = any w32 c.ranges.v in
+    ge_right (num (pos 32512)) (ge_left k (num (negsuc 32512)) c.if-v-ltminus32513.false) c.if-v-gt32512.false
 
-returns-3 : tie.Need-returns-3
+returns-3 : tie.Need-returns
 unfolding clamp_z
 returns-3 c =
-    let k = any w32 c.before.before.ranges.v in
-    rw (lt_is k (num (negsuc 32512)) c.before.if1.false, lt_is (num (pos 32512)) k c.if2.false) (rounded w16 (kept c) tt).eq
+    let k = any w32 c.ranges.v in
+    rw (lt_is k (num (negsuc 32512)) c.if-v-ltminus32513.false, lt_is (num (pos 32512)) k c.if-v-gt32512.false) (rounded w16 (kept c) tt).eq
 
 pub nearest_spec : {M : Type 1} → statement M
 nearest_spec = tie.close (tie.spec returns returns-2 (λ c. fit (kept c) tt) returns-3)

@@ -17,6 +17,4 @@ returns : tie.Need-returns
 returns c = is w16 (ρ2 c) (v 0 ⊕ v 1) tt ∙ by_rest _
 
 pub sine_part_spec : {M : Type 1} → statement M
-sine_part_spec =
-    tie.close
-    (tie.spec (λ c. fit (there w16 c.requires tt) tt) (λ c. fits w32 (ρ c) (30068 ⊙ v 0) tt) (λ c. fits w32 (ρ c) rest tt) (λ c. fit (know w32 (ρ c) (shr rest 16) tt) tt) (λ c. fits w16 (ρ2 c) (v 0 ⊕ v 1) tt) returns)
+sine_part_spec = tie.close (tie.spec (λ c. fit (there w16 c.requires tt) tt) (λ c. fits w32 (ρ c) (30068 ⊙ v 0) tt) (λ c. fits w32 (ρ c) rest tt) (λ c. fit (know w32 (ρ c) (shr rest 16) tt) tt) (λ c. fits w16 (ρ2 c) (v 0 ⊕ v 1) tt) returns)

@@ -1,0 +1,6 @@
+use Rattle.casefile.specs.Measures.{fnv_step}
+use Rattle.casefile.proofs.measures.step.Goals as goal
+
+pub returns : goal.returns
+unfolding fnv_step
+returns c = c.times.ensures

@@ -1,0 +1,5 @@
+use Rattle.modes.proofs.Steps.{reads_modes}
+use Rattle.modes.proofs.quick.quick.Goals as goal
+
+pub returns : goal.returns
+returns c = reads_modes _ _ _ _ c.head-h.ensures c.luma-l.ensures c.chroma-c.ensures

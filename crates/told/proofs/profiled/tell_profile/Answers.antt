@@ -1,0 +1,5 @@
+use Rattle.told.specs.ToldLaws.{profile_told_lem}
+use Rattle.told.proofs.profiled.tell_profile.Goals as goal
+
+pub returns : goal.returns
+returns c = profile_told_lem c.args.answer c.number.ensures c.rule.ensures c.macroblock.ensures
