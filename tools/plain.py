@@ -7,13 +7,15 @@ In the sources (crates/*/src):
 - `ghost` stands in `ghost use` lines alone: no ghost value, and no ghost field, which would be a `requires` that nobody sees;
 - a contract names definitions: no `ghost use` line brings anything from a file of laws;
 - a crate is a library or a program; each file is in a module; and what another crate can call is in a public one: no `pub fn` anywhere else;
-- what C can call is `#[no_mangle] pub extern "C" fn hookbarley_..` in crate hookbarley, and nothing else is marked.
+- what C can call is `#[unsafe(no_mangle)] pub extern "C" fn hookbarley_..` in crate hookbarley_c, and nothing else is marked, but for what a type derives
+  and the line that has the prover try its tactics;
+- a `use` line of the code brings names as they are: none renamed, and never all of a module.
 In the sources and in the specs (crates/*/specs):
 - no block comment of antt's, no `--` inside a name and no text in quotes; no axiom, no `open`, and no operator for a variable;
 - a `use` line brings names as they are, from one module, or a module: it renames no name and brings no unnamed one;
 - a name of another module is brought by a `use` line, never written by its whole path;
-- `_≡_` is that of mathlib.Core.Path, and no operator of ours has `≡` for a part; a symbol of the kit's comes from one module of the kit's, and none of ours
-  is spelled like it, nor like a name of the prelude. In sources every symbol is the kit's;
+- `◌≡◌` is that of Rattle.std.specs.Prelude, and no operator of ours has `≡` for a part; a symbol of the kit's comes from one module of the kit's, and none
+  of ours is spelled like it, nor like a name that every file has. In sources every symbol is the kit's;
 - specs name the kit through crates/numbers/specs/Words.antt, which hands its names on and holds nothing else;
 - a file of specs stands in specs/ itself, a module of Lib.antt.
 Exit status 1 where something is not so.
@@ -21,15 +23,16 @@ Exit status 1 where something is not so.
 import re
 import sys
 
-from sources import FUNCTION, KIT, ROOT, Fault, blanked, modules, words
+from sources import FUNCTION, KIT, ROOT, SAME, Fault, blanked, modules, rust_uses, words
 
 SOURCES = sorted((ROOT / "crates").glob("*/src/**/*.rt"))
 SPECS = sorted((ROOT / "crates").glob("*/specs/**/*.antt"))
-USE = re.compile(r"(?P<module>[^\s{}*]+?)(?:\.\{(?P<names>[^{}]*)\}| as (?P<alias>[A-Za-z0-9-]+))?")
-LINE = re.compile(r"^( *)(?:(?:unfoldable )?(?:pub )?|ghost )use (.*?);?$", re.M)
-PATH = re.compile(rf"(?<![\w·.])(?:Rattle·\w|{KIT})")
+USE = re.compile(r"(?P<module>[^\s{}*]+?)(?:\.\{(?P<names>[^{}]*)\}| as (?P<alias>\w+))?")
+# a `use` line of specs, and one of a source's clauses
+LINES = {".antt": re.compile(r"^( *)(?:unfoldable )?(?:pub )?use (.*?)$", re.M), ".rt": re.compile(r"^( *)ghost use (.*?);?$", re.M)}
+PATH = re.compile(rf"(?<![\w.])(?:Rattle\.\w|{KIT})")
 # Names that every file has without a `use` line.
-PRELUDE = ("⊥", "Unit", "tt", "absurd", "¬_", "Dec", "Path", "Id", "IsProp", "∥_∥₁")
+PRELUDE = ("⊥", "Unit", "tt", "absurd", "¬", "¬◌", "×", "◌×◌", "→", "Dec", "Path", "Id", "IsProp", "∥◌∥₁")
 
 
 def crate_of(file):
@@ -62,14 +65,22 @@ def ghosts(_, text):
 
 
 def laws(_, text):
-    for m in re.finditer(r"ghost use (Rattle·[^;]*Laws)\.", text):
+    for m in re.finditer(r"ghost use (Rattle\.[^;{]*Laws)\.", text):
         yield f"{line_of(text, m.start())}: a contract names what stands in a file of laws, {m.group(1)}"
 
 
 def exported(file, text):
-    calls = re.findall(r'^#\[no_mangle\]\npub extern "C" fn hookbarley_\w+\(', text, re.M) if crate_of(file) == "hookbarley" else []
-    if len(calls) != len(re.findall(r"#!?\s*\[", text)) or len(calls) != len(re.findall(r"\bextern\b", text)):
-        yield 'an attribute or an `extern` that is not `#[no_mangle] pub extern "C" fn hookbarley_..` of crate hookbarley'
+    calls = re.findall(r'^#\[unsafe\(no_mangle\)\]\npub extern "C" fn hookbarley_\w+\(', text, re.M) if crate_of(file) == "hookbarley_c" else []
+    others = re.sub(r"^ *#\[derive\([\w:, ]+\)\]$|^#!\[tactic\(auto\)\]$", "", text, flags=re.M)
+    if len(calls) != len(re.findall(r"#!?\s*\[", others)) or len(calls) != len(re.findall(r"\bextern\b", text)):
+        yield 'an attribute or an `extern` that is not `#[unsafe(no_mangle)] pub extern "C" fn hookbarley_..` of crate hookbarley_c'
+
+
+def code_uses(_, text):
+    try:
+        rust_uses(text)
+    except Fault as fault:
+        yield str(fault)
 
 
 def in_modules():
@@ -87,7 +98,7 @@ def in_modules():
 
 
 def kit_by_words(file, text):
-    for line, m in uses(text) if crate_of(file) != "numbers" else []:
+    for line, m in uses(file, text) if crate_of(file) != "numbers" else []:
         if m and re.match(KIT, m.group("module")):
             yield f"{line}: a name of the kit's, and not through crates/numbers/specs/Words.antt"
 
@@ -112,52 +123,52 @@ def hidden(_, text):
         yield "an axiom"
     if re.search(r"^\s*open\b", text, re.M):
         yield "`open`: the fields of a record as names"
-    if re.search(r"[({](?:[^(){}:]* )?_[^\s_(){}:]+_(?: [^(){}:]*)? :|λ (?:[^.]* )?_[^\s_.]+_", text):
+    if re.search(r"[({](?:[^(){}:]* )?\S*◌\S*(?: [^(){}:]*)? :|λ (?:[^.]* )?[^\s.]*◌", text):
         yield "an operator that is bound and not declared"
 
 
-def uses(text):
-    """(line, match of USE or None) of each `use` line of specs, or `ghost use` line of a source; Rattle's own `use a::b;` is none."""
-    for m in LINE.finditer(text):
-        if not re.fullmatch(r"[\w:]+", m.group(2)) or "::" not in m.group(2):
-            yield line_of(text, m.start()), USE.fullmatch(m.group(2)) if not m.group(1) else None
+def uses(file, text):
+    """(line, match of USE or None) of each `use` line of specs, or `ghost use` line of a source."""
+    for m in LINES[file.suffix].finditer(text):
+        yield line_of(text, m.start()), USE.fullmatch(m.group(2)) if not m.group(1) else None
 
 
 def names_of(m):
     return [w.strip() for w in m.group("names").split(",")] if m.group("names") is not None else []
 
 
-def brought(_, text):
-    for line, m in uses(text):
+def brought(file, text):
+    for line, m in uses(file, text):
         if m is None or any(" " in name for name in names_of(m)):
             yield f"{line}: a `use` line that renames, brings all of a module or is not one line"
 
 
-def whole_paths(_, text):
-    for m in PATH.finditer(LINE.sub("", re.sub(r"--.*|//.*", "", text))):
+def whole_paths(file, text):
+    for m in PATH.finditer(LINES[file.suffix].sub("", re.sub(r"--.*|//.*", "", text))):
         yield f"a name by its whole path: {m.string[m.start():m.start() + 60].split()[0]}"
 
 
 def symbol(name):
-    return not re.fullmatch(r"[\w·′-]+", name.strip("«»")) or "_" in name
+    return not re.fullmatch(r"[\w'-]+", name.strip("«»"))
 
 
 def symbols():
     """Each symbol has one meaning."""
-    kit, out, handed = {"_≡_": "mathlib.Core.Path", **dict.fromkeys(PRELUDE, "Prim")}, [], words()
+    kit, out, handed = {"◌≡◌": "Rattle.std.specs.Prelude", **dict.fromkeys(PRELUDE, "Prim")}, [], words()
     for file in SPECS + SOURCES:
-        for line, m in uses(file.read_text()):
+        for line, m in uses(file, file.read_text()):
             for name in names_of(m) if m else []:
                 module = m.group("module")
-                module = handed.get(name, module) if module == "Rattle·numbers.specs.Words" else module
-                ours = module.startswith("Rattle·")
+                module = handed.get(name, module) if module == "Rattle.numbers.specs.Words" else module
+                module = SAME.get(module, module)
+                ours = not re.match(KIT, module)
                 if not (symbol(name) or name in PRELUDE) or (ours and file.suffix == ".antt" and name not in kit):
                     continue
                 if ours or kit.setdefault(name, module) != module:
                     out.append(f"{file.relative_to(ROOT)}: {line}: {name} of {module}" + (f", and not of {kit[name]}" if name in kit else ""))
     for file in SPECS:
         for name in re.findall(r"^\s*(?:abbrev |unfoldable |pub |record |data )*(\S+)(?: \{.*?\})? :", file.read_text(), re.M):
-            if name in kit or "≡" in name.split("_"):
+            if name in kit or "≡" in name.split("◌"):
                 out.append(f"{file.relative_to(ROOT)}: {name} is declared, a symbol of the kit's")
     return out
 
@@ -168,7 +179,7 @@ def main():
     except Fault as fault:
         faults = [str(fault)]
     everywhere = [antt_comments, brought, whole_paths]
-    for files, looks in ((SOURCES, [block_comments, quoted, lifetimes, ghosts, laws, exported, *everywhere]), (SPECS, [hidden, below, kit_by_words, *everywhere])):
+    for files, looks in ((SOURCES, [block_comments, quoted, lifetimes, ghosts, laws, exported, code_uses, *everywhere]), (SPECS, [hidden, below, kit_by_words, *everywhere])):
         for file in files:
             raw = file.read_text()
             text = blanked(raw) if file.suffix == ".rt" else raw

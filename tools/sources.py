@@ -5,7 +5,13 @@ from pathlib import Path
 ROOT = Path(__file__).resolve().parent.parent
 # The words that specs are written in, handed on by one file.
 WORDS = ROOT / "crates/numbers/specs/Words.antt"
-KIT = r"(?:mathlib|lib|native|Prim|package|mir|borrow)\."
+OURS = sorted(path.parent.name for path in (ROOT / "crates").glob("*/src"))
+# What the kit has: std's modules and those of its logic, and no crate of this repository.
+KIT = rf"(?:Rattle\.(?!(?:{'|'.join(OURS)})\.)|(?:mathlib|lib|native|Prim|package|mir|borrow|denote)\.|base\.(?=[A-Z]))"
+# What the kit's Prelude hands on, and what hands on the Prelude: one name, whichever of these a line has it from.
+PRELUDE = "Rattle.std.specs.Prelude"
+HANDED_ON = ("mathlib.Core.Path", "mathlib.Core.Bool", "mathlib.Core.List", "Prim.Native.Nat", "lib.ListN", "lib.Dec", "lib.IntN")
+SAME = dict.fromkeys((*HANDED_ON, "Rattle.core.specs.Prelude", "Rattle.std.proofs.Common", "Rattle.std.proofs.Math.ListN"), PRELUDE)
 
 
 class Fault(Exception):
@@ -49,7 +55,7 @@ def closing(text, at):
 def body(text, at):
     """Where the body begins of the function whose arguments end at `at`: at the first brace that opens no clause."""
     brace = text.index("{", at)
-    while re.search(r"\b(?:requires|ensures)\s*$", text[at:brace]):
+    while re.search(r"\b(?:requires|ensures|ghost)\*?\s+(?:\w+:?\s*)?$", text[at:brace]):
         at = closing(text, brace) + 1
         brace = text.index("{", at)
     return brace
@@ -59,13 +65,26 @@ def words():
     """From each name that Words.antt hands on to the module that it is of: the kit's, or one of crate numbers. The file holds nothing else."""
     out = {}
     for line in WORDS.read_text().splitlines():
-        m = re.fullmatch(rf"(?:unfoldable )?pub use ({KIT}\S+?|Rattle·numbers·specs\.specs\.[A-Z]\w*)\.\{{([^{{}}]*)\}}", line)
+        m = re.fullmatch(rf"(?:unfoldable )?pub use ({KIT}\S+?|Rattle\.numbers\.specs\.[A-Z]\w*)\.\{{([^{{}}]*)\}}", line)
         if not m and not line.startswith("-- "):
             raise Fault(f"{WORDS.relative_to(ROOT)}: more than names that are handed on: {line[:60]}")
         for name in m.group(2).split(", ") if m else []:
             if name in out or " " in name:
                 raise Fault(f"{WORDS.relative_to(ROOT)}: {name} is handed on twice, or renamed")
-            out[name] = m.group(1).replace("·specs.specs.", ".specs.")
+            out[name] = m.group(1)
+    return out
+
+
+def rust_uses(text):
+    """From each name that a source's own `use` lines bring to its path."""
+    out = {}
+    for line in re.findall(r"^(?:pub )?use ([^;]*);", blanked(text), re.M):
+        m = re.fullmatch(r"([\w:]+)::(?:\{([^{}]*)\}|(\w+))", " ".join(line.split()))
+        if not m:
+            raise Fault(f"a `use` line that brings more than names: {' '.join(line.split())}")
+        for name in (m.group(2) or m.group(3)).split(","):
+            if name.strip():
+                out[name.strip()] = f"{m.group(1)}::{name.strip()}"
     return out
 
 

@@ -14,7 +14,7 @@ def unknown(specs, entries):
     for e in entries:
         if isinstance(e.x, Item):
             words = Words(specs, e.x, statement=e.kind == "theorem").unknown
-            out += [f"{shown(e.x.file.path)}: {e.x.name} uses {w}" for w in dict.fromkeys(words) if w not in BUILT_IN and f"_{w}_" not in BUILT_IN]
+            out += [f"{shown(e.x.file.path)}: {e.x.name} uses {w}" for w in dict.fromkeys(words) if w not in BUILT_IN and f"◌{w}◌" not in BUILT_IN]
     return out
 
 

@@ -42,7 +42,7 @@ def file_order(specs):
         busy.add(key)
         file = specs.files[key]
         modules_used = [m for m, _ in file.names.values()] + list(file.aliases.values())
-        for other in sorted({m.group(1) + "/" + m.group(2) for m in (re.match(r"Rattle·(\w+)\.specs\.(\w+)$", x) for x in modules_used) if m}):
+        for other in sorted({m.group(1) + "/" + m.group(2) for m in (re.match(r"Rattle\.(\w+)\.specs\.(\w+)$", x) for x in modules_used) if m}):
             visit(other)
         place[key] = len(place)
 

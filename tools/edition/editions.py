@@ -96,7 +96,7 @@ class Editions:
 
     def check_answers(self, printed):
         """An answer's number and values are promised."""
-        items = [i for f in self.specs.files.values() for i in f.items if i.public and re.search(r"([nN]umber|[vV]alues)Of$", i.name)]
+        items = [i for f in self.specs.files.values() for i in f.items if i.public and re.search(r"(^|_)(number|values)_of$", i.name)]
         unused = [f"{shown(i.file.path)}: {i.name}" for i in items if i.id not in printed]
         if unused:
             raise Fault("no promise uses\n  " + "\n  ".join(unused))

@@ -11,7 +11,7 @@ FORMS = [
     ("`let x = e in ..`", "x stands for e in what follows"),
     ("`λ x. e`", "the function that gives e for x"),
     ("`do x ← m; ..`", "in sequence: m is read, x is what it gave, then the next; one to a line, or separated by `;`"),
-    ("`record { a = x; b = y }`, `r .a`", "a record given by its fields; the field a of a record r; `p .0` and `p .1` are the parts of a pair"),
+    ("`record { a = x; b = y }`, `r.a`", "a record given by its fields; the field a of a record r; `p.0` and `p.1` are the parts of a pair"),
     ("`record R: a : A; b : B`", "a record type with its fields; as a statement: all of them hold"),
     ("`data D: a : A → D; b : D`", "a type given by its cases; as a statement: one of them holds"),
     ("`theorem : statement`", "a statement that is proved; its proof is not printed"),
@@ -23,36 +23,29 @@ FORMS = [
     ("`Type 0`", "a type, or a statement"),
     ("`-- text`", "a sentence for the reader"),
 ]
-BUILT_IN = {"⊥": "what never holds; `A → ⊥`: A does not hold", "_×_": "both hold; of types, pairs `(a, b)`", "Unit": "what always holds", "tt": "the one value of `Unit`"}
+BUILT_IN = {"⊥": "what never holds; `A → ⊥`: A does not hold", "◌×◌": "both hold; of types, pairs `(a, b)`", "Unit": "what always holds", "tt": "the one value of `Unit`"}
 KIT = {
-    "Prim.Native.Nat": {
-        "ℕ": "0, 1, 2, ..", "zero": "0", "suc": "`suc n` is n + 1", "_+_": "sum", "_-_": "difference, 0 where it would be below 0", "_*_": "product",
-        "_/_": "quotient, rounded down; by 0 it is 0", "_%_": "remainder; by 0 it is the number itself", "_^_": "power", "_≤_": "at most, as a statement",
-        "_<_": "below, as a statement", "min": "the smaller", "max": "the larger",
-    },
-    "mathlib.Core.Bool": {
-        "Bool": "true or false", "true": "", "false": "", "not": "the other of the two", "_&&_": "both", "_||_": "one or both",
+    "Rattle.std.specs.Prelude": {
+        "ℕ": "0, 1, 2, ..", "zero": "0", "suc": "`suc n` is n + 1", "◌+◌": "sum", "◌-◌": "difference, 0 where it would be below 0", "◌*◌": "product",
+        "◌/◌": "quotient, rounded down; by 0 it is 0", "◌%◌": "remainder; by 0 it is the number itself", "◌^◌": "power", "◌≤◌": "at most, as a statement",
+        "◌<◌": "below, as a statement", "min": "the smaller", "max": "the larger",
+        "Bool": "true or false", "true": "", "false": "", "not": "the other of the two", "◌&&◌": "both", "◌||◌": "one or both",
         "cond": "`cond b x y`: x where b is true, else y",
-    },
-    "mathlib.Core.List": {"List": "a list", "[]": "the empty list", "_∷_": "`x ∷ l`: x, then the list l", "_++_": "one list, then another"},
-    "mathlib.Core.Path": {"_≡_": "equal, as a statement"},
-    "mathlib.Core.Logic": {"_⊎_": "one or the other holds"},
-    "lib.ListN": {
-        "length": "how many", "getD": "`getD l i d`: element i of l, counted from 0; d where there is none",
+        "List": "a list", "[]": "the empty list", "◌∷◌": "`x ∷ l`: x, then the list l", "◌++◌": "one list, then another",
+        "◌≡◌": "equal, as a statement", "◌⊎◌": "one or the other holds",
+        "length": "how many", "get_or": "`get_or l i d`: element i of l, counted from 0; d where there is none",
         "set": "`set l i x`: l with x for its element i; l where there is none",
         "take": "`take n l`: the first n", "drop": "`drop n l`: all but the first n", "replicate": "`replicate n x`: n times x",
+        "eqb": "equal, as a test", "ltb": "`ltb a b`: a below b, as a test", "leb": "`leb a b`: a at most b, as a test",
+        "ℤ": ".., -1, 0, 1, ..", "pos": "`pos n` is n", "negsuc": "`negsuc n` is -(n + 1)", "neg_ℤ": "the negative of", "nat_abs": "the magnitude of, as a ℕ",
+        "◌+ℤ◌": "sum", "◌-ℤ◌": "difference", "◌*ℤ◌": "product", "◌≤ℤ◌": "at most, as a statement",
     },
-    "lib.Dec": {"eqb": "equal, as a test", "ltb": "`ltb a b`: a below b, as a test", "leb": "`leb a b`: a at most b, as a test"},
-    "lib.IntN": {
-        "ℤ": ".., -1, 0, 1, ..", "pos": "`pos n` is n", "negsuc": "`negsuc n` is -(n + 1)", "negℤ": "the negative of", "natAbs": "the magnitude of, as a ℕ",
-        "_+ℤ_": "sum", "_-ℤ_": "difference", "_*ℤ_": "product",
+    "Rattle.std.specs.Int.Signed": {
+        "lt_z": "below, as a test", "le_z": "at most, as a test", "shr_z": "`shr_z z n`: z over n, rounded down",
+        "quot_z": "quotient, rounded towards 0", "rem_z": "its remainder",
     },
-    "lib.Signed": {
-        "_≤ℤ_": "at most, as a statement", "ltZ": "below, as a test", "leZ": "at most, as a test", "shrZ": "`shrZ z n`: z over n, rounded down",
-        "quotZ": "quotient, rounded towards 0", "remZ": "its remainder",
-    },
-    "lib.Count": {"leadingZeros": "`leadingZeros w n`: how many of the w bits of n stand above its highest 1"},
-    "lib.Bits": {"bitXor": "the bits of one number or of the other, not of both"},
+    "Rattle.std.specs.Int.Count": {"count_leading_zeros": "`count_leading_zeros w n`: how many of the w bits of n stand above its highest 1"},
+    "Rattle.std.specs.Int.Bits": {"bit_xor": "the bits of one number or of the other, not of both"},
 }
 
 

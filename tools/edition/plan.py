@@ -38,16 +38,16 @@ STATED = ("promises", "witnesses")
 INNER_HEADINGS = ["Lent records", "The parts of the bytes"]
 INNER_FILES = ["promises/Worked", "webp/Worked"] + ["witnesses/Witness" + x for x in ("", "Cost", "Calls", "Frame")]  # examples, computed
 INNER_THEOREMS = {
-    "numbers-bind": "the answers of the inner calls by number",
-    "refused-changes-nothing": "said once, of the call from C: `called-ends`",
-    "first-check-decides": "said once, of the call from C: `called-ends`",
-    "every-reason": "an example of each reason, computed",
-    "header-within": "a bound on what the header's own grammar asks",
-    "filter-rfc": "the kernel in a second wording",
-    "sample-source": "the source's wording",
-    "transformed-source": "the source's wording",
-    "residual-source": "the source's wording",
-    "step-source": "the source's wording",
+    "numbers_bind": "the answers of the inner calls by number",
+    "refused_changes_nothing": "said once, of the call from C: `called_ends`",
+    "first_check_decides": "said once, of the call from C: `called_ends`",
+    "every_reason": "an example of each reason, computed",
+    "header_within": "a bound on what the header's own grammar asks",
+    "filter_rfc": "the kernel in a second wording",
+    "sample_source": "the source's wording",
+    "transformed_source": "the source's wording",
+    "residual_source": "the source's wording",
+    "step_source": "the source's wording",
 }
 
 

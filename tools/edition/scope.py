@@ -72,7 +72,7 @@ class Words:
     @staticmethod
     def is_case(word, found):
         kind = getattr(found, "kind", None)
-        return kind == "data" or kind is None or word == found.name and word.startswith("_")
+        return kind == "data" or kind is None or word == found.name and "◌" in word
 
     def find(self, word):
         return self.specs.resolve(self.file, word)
@@ -147,9 +147,10 @@ class Words:
 
     def word(self, word):
         word = word if word in (".", "..") else word.rstrip(".")
-        if word in SIGNS or word in LANGUAGE or word.startswith(".") or re.fullmatch(r"\d+", word) or word in self.bound:
-            if word == "do" and self.find("_>>=_") is not None:
-                self.used["do"] = self.find("_>>=_")
+        whose = word.partition(".")[0]
+        if word in SIGNS or word in LANGUAGE or word.startswith(".") or re.fullmatch(r"\d+", word) or word in self.bound or whose in self.bound:
+            if word == "do" and self.find("◌>>=◌") is not None:
+                self.used["do"] = self.find("◌>>=◌")
             return
         found = self.find(word)
         if found is None:

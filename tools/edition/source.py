@@ -1,6 +1,8 @@
 """The specs files: their items (definitions, theorems), what each name of a file stands for, and what an item rests on."""
 import re
 
+from sources import SAME, rust_uses
+
 from . import ROOT, Fault, shown
 from .scope import Words
 
@@ -34,7 +36,7 @@ class Item:
         out = [self.lines[0]]
         for line in self.lines[1:]:
             words = line.strip().split(" ")
-            operator = self.name.startswith("_") and self.name.strip("_") in words and "=" in words and depth_of(line) == depth_of(self.lines[0])
+            operator = "◌" in self.name and self.name.strip("◌") in words and "=" in words and depth_of(line) == depth_of(self.lines[0])
             if words[0] in (self.name, "unfolding", "where") or operator:
                 break
             out.append(line)
@@ -105,11 +107,10 @@ class File:
             later = next((l for l in lines[i:] if l.strip()), "")
             return depth_of(later) > depth
         words = line.strip().split(" ")
-        operator = name.startswith("_") and name.strip("_") in words and "=" in words
+        operator = "◌" in name and name.strip("◌") in words and "=" in words
         return depth_of(line) > depth or (depth_of(line) == depth and (line.strip()[0] in "}])" or words[0] in (name, "unfolding") or operator))
 
     def use(self, line):
-        line = line.replace("·specs.specs.", ".specs.")
         m = re.match(r"(\S+?)\.\{(.*)\}$", line)
         if m:
             for word in m.group(2).split(","):
@@ -126,7 +127,8 @@ class Declared:
     def __init__(self, crate, path):
         *modules, self.name = path.split(".")
         self.path = ROOT / "crates" / crate / "src" / ("/".join(modules or ["lib"]) + ".rt")
-        m = re.search(rf"((?:^//[^\n]*\n)*)^((?:pub(?:\(crate\))? )?(?:struct|enum) {self.name} \{{.*?^\}})", self.path.read_text(), re.M | re.S)
+        declared = rf"((?:^//[^\n]*\n)*)(?:^#\[[^\n]*\]\n)*^((?:pub(?:\(crate\))? )?(?:struct|enum) {self.name} \{{.*?^\}})"
+        m = re.search(declared, self.path.read_text(), re.M | re.S)
         if not m:
             raise Fault(f"{shown(self.path)}: no type {self.name}")
         self.crate, self.id = crate, f"{crate}.{path}"
@@ -145,16 +147,16 @@ class Specs:
 
     def __init__(self):
         self.files = {f.key: f for f in (File(p) for p in sorted((ROOT / "crates").glob("*/specs/*.antt")))}
-        self.declared = {}
+        self.crates, self.declared = {f.crate for f in self.files.values()}, {}
 
     def find(self, module, word):
         """What `word` of a module is: an item, a declared type, or a name of the kit."""
-        m = re.match(r"Rattle·(\w+)\.specs\.(?:(declared)\.)?(\S+)$", module)
-        if not m:
-            return Kit(module, word)
+        m = re.match(r"Rattle\.(\w+)\.specs\.(?:(declared)\.)?(\S+)$", module)
+        if not m or m.group(1) not in self.crates:
+            return Kit(SAME.get(module, module), word)
         crate, declared, rest = m.groups()
         if declared:
-            return self.declare(crate, rest.removesuffix(".the-variants"))
+            return self.declare(crate, rest.removesuffix(".TheVariants"))
         file = self.files.get(f"{crate}/{rest}")
         if file is None:
             raise Fault(f"no file {rest}.antt in crates/{crate}/specs, which a `use` line names")
@@ -170,15 +172,15 @@ class Specs:
     def named_types(self, declared):
         """The types that a declared type names: of the same file, or of a `use` line. A constant, an array's length, is no type."""
         text, out = declared.path.read_text(), []
+        brought = rust_uses(text)
         for word in re.findall(r"\b[A-Z]\w*[a-z]\w*", re.sub(r"//.*", "", "\n".join(declared.lines))):
             if word == declared.name:
                 continue
             if re.search(rf"^(?:pub(?:\(crate\))? )?(?:struct|enum) {word} \{{", text, re.M):
                 out.append(self.declare(declared.crate, word if declared.path.stem == "lib" else f"{declared.path.stem}.{word}"))
-            m = re.search(rf"^use ([\w:]+)::{word};", text, re.M)
-            if m:
-                other, *modules = m.group(1).split("::")
-                out.append(self.declare(declared.crate if other in ("crate", "super") else other, ".".join(modules + [word])))
+            if word in brought:
+                other, *path = brought[word].split("::")
+                out.append(self.declare(declared.crate if other in ("crate", "super") else other, ".".join(path)))
         return out
 
     def resolve(self, file, word):
@@ -188,8 +190,8 @@ class Specs:
         alias, _, rest = word.partition(".")
         if rest and alias in file.aliases:
             return self.find(file.aliases[alias], rest)
-        for name in (word, f"_{word}_"):
-            if name in file.own:
+        for name in (word, f"◌{word}◌", alias):
+            if name and name in file.own:
                 return file.own[name]
             if name in file.names:
                 return self.find(*file.names[name])
