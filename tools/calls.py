@@ -3,8 +3,9 @@
 
   archive   all that NM (nm) finds defined for others in ARCHIVE; what it lacks itself may be memcpy and memset alone
   header    the prototypes of include/hookbarley.h that are not inline
-  crates    `#[no_mangle] pub extern "C" fn` in crates/hookbarley/src
-  promises  the lines `-- hookbarley::..` of crates/promises/specs/Determined.antt: what is proved of a call
+  crates    `#[unsafe(no_mangle)] pub extern "C" fn` in crates/hookbarley_c/src
+  promises  the lines `-- hookbarley::..` of crates/promises/specs/Determined.antt: what is proved of a call (tools/determined.py sees that the
+            exported one has the same contract)
   rust      the extern block of bindings/rust/src/lib.rs
 
 Of header, crates and rust the types of arguments and answer are compared too. Says what differs; exit status 1 where something does. The
@@ -71,8 +72,8 @@ def from_rattle(kind):
 def rattle_calls():
     """Name to (pairs of an argument's name and type, type of the answer), as the crate has them."""
     calls = {}
-    for path in sorted(glob.glob("crates/hookbarley/src/*.rt")):
-        found = re.findall(r'#\[no_mangle\]\s*pub extern "C" fn (\w+)\(([^)]*)\)\s*->\s*(\w+)', without_comments(read(path)))
+    for path in sorted(glob.glob("crates/hookbarley_c/src/*.rt")):
+        found = re.findall(r'#\[unsafe\(no_mangle\)\]\s*pub extern "C" fn (\w+)\(([^)]*)\)\s*->\s*(\w+)', without_comments(read(path)))
         for name, arguments, answer in found:
             calls[name] = ([tuple(part.strip() for part in a.split(":", 1)) for a in split(arguments)], answer)
     return calls

@@ -1,33 +1,35 @@
 #!/usr/bin/env python3
-"""Holds the must-fail edits to what is said of them: tools/faults.py [LOGS].
+"""Holds the must-fail edits to what is said of them: tools/faults.py [LOG].
 
 - The table of docs/PROMISES.md, "Faults that the prover must refuse", has one line for each edit, and an edit for each line; and there are not fewer
   than LEAST, so that none goes without a change of that number.
 - A folder must-fail holds edits alone, each of lines that rt reads. It changes code (in `promises`, which has none, a statement): never a proof, a
   definition or a contract; and each old text stands once in its file.
-- With LOGS, the folder that `rt ci` leaves (target/must-fail), the first error of each edit is read: a fact that was expected and another that
-  was found, in the proof of the function that the table names. A missing name, a shape that does not fit or something that was not admitted shows
-  nothing of the fault.
-Exit status 1 where something is not so. The gate runs it with the logs.
+- With LOG, what `rt ci` printed, the line on each edit is read: refused, and the beginning of the first error that it shows is a fact that does not
+  hold with the edit, in the proof of the function that the table names. A missing name, a shape that does not fit, something that was not admitted
+  or a limit of the prover shows nothing of the fault.
+Exit status 1 where something is not so. The gate runs it with the log.
 """
 import re
 import sys
 from pathlib import Path
 
-ROOT = Path(__file__).resolve().parent.parent
+from sources import ROOT, blanked
+
 LEAST = 113
 TABLE = "## Faults that the prover must refuse"
-NEXT = re.compile(r"^\S+?:\d+:\d+: (?:error|note)\b|^note:|^(?:fn|enum|struct|logic|library) ", re.M)
 
-# An equation, a bound, the contract of a function or of one that it calls, or an equation that specs name, as the checker writes its beginning.
-PLAIN = r"(?:mathlib\.Core\.Path\._≡_|Path|Prim\.Native\.Nat\._[<≤]_|\S*[Rr]eads\.(?:Post|Learnt)|\S*\.BlockSteps\.Numbered|[^`≡<≤]+ [≡<≤]) "
+# A goal for which there is no proof, as rt writes it at the code; two sides that are not equal, an equation or a bound that is not proved, as it
+# writes it at a proof file or a statement. rt cuts the line, so a fact is told by its beginning.
 FACTS = [
-    r"`\s*≟ `[^`]*`:?\s+does not hold",
-    rf"`search`: no proof of `{PLAIN}",
-    rf"what it leaves must be a path whose two ends are equal, and\s+`{PLAIN}",
-    r"All of that holds, and the goal fails, at",
-    r"it is not proved that what the function ensures holds when it returns",
+    r"^note: src/\S+:\d+:\d+: it is not proved that ",
+    r": error: (?:`[^`]*`: )?(?:as printed, the two types (?:first )?differ |the two types differ |`[^`]*` (?:`[^`]*` )?left a goal|the goal )",
+    r": error: (?:`[^`]*`: )?`(?:search|omega|grind|cc|simp)[^`]*`: (?:no proof|it is not|found no|could not|cannot)",
+    r"\bdoes not hold\b",
+    r"All of that holds, and the goal fails",
 ]
+# Types of two kinds, and what rests on something else.
+SHAPES = [r"\(expected\), at the start", r"\bdepends? on `", r"\bnot admitted\b", r"\bis not in scope\b", r"\bhas no \S+ that can be named\b", r"\bhas no (?:field|`)"]
 
 
 def edits():
@@ -95,53 +97,48 @@ def changes_code(crate, path):
     return None if found else "it changes nothing"
 
 
-def first_error(log):
-    """The first error of a log, with the lines that belong to it; where a function needs no proof file, the first note on what is not proved."""
-    start = re.search(r"^\S+?:\d+:\d+: error\b", log, re.M) or re.search(r"^note: \S+:\d+:\d+: it is not proved that ", log, re.M)
-    if not start:
-        return ""
-    end = NEXT.search(log, start.end())
-    return log[start.start():end.start() if end else len(log)]
+def function_at(path, edit, line):
+    """The function that the line of a source is in, as the edit leaves it."""
+    text = (edit.parents[1] / path).read_text()
+    for file, old, new in pairs(edit):
+        text = text.replace(old, new) if file == path else text
+    text = blanked(text)
+    starts = [(text.count("\n", 0, m.start()) + 1, m.group(1)) for m in re.finditer(r"\bfn (\w+)", text)]
+    return next((name for at, name in reversed(starts) if at <= line), None)
 
 
-def fact(error):
-    """Whether an error names the fact: two terms that are not equal, an equation or a bound that is not proved, numbers for which it fails, another
-    equation or bound than was asked. Types of other kinds are a shape, and so are needs in another order."""
-    words = error.split("\n  expected type", 1)[0]
-    if any(re.search(pattern, words) for pattern in FACTS):
-        return True
-    sides = re.findall(r"`([^`]*)`\s*\((?:expected|found)\)", words)
-    at_the_start = "(expected), at the start" in words and "computed as far as they go" not in words
-    if "the two types" in words and len(sides) > 1 and not at_the_start:
-        return not any(side.strip("( ").startswith("tie.") for side in sides)
-    asked = rf"(?:expected type|the expected one begins) `{PLAIN}"
-    return bool(re.search(asked, error) and re.search(rf"but this has type `{PLAIN}", error))
+def where(refusal, edit):
+    """The function whose proof fails, where the error stands in code or in a proof of one."""
+    proof = re.match(r"(?:note: )?\S*?proofs/(?:\S+/)?([^/\s]+)/(?:Answers|Invariants|Proof)\.antt:", refusal)
+    code = re.match(r"(?:note: )?(?:\./)?(src/\S+?):(\d+):\d+: ", refusal)
+    return proof.group(1) if proof else function_at(code.group(1), edit, int(code.group(2))) if code else None
 
 
-def refused(logs, crate, name, refusal):
+def refused(log, crate, name, path, refusal):
     """What is wrong with how an edit was refused; the table's line begins with the function whose proof fails."""
-    log = logs / crate / name / ".log"
-    if not log.is_file():
-        return "no log: it was not tried"
-    text = log.read_text()
-    if not re.search(r"^logic=not-proved", text, re.M):
-        return "it did not reach the prover, or was not refused"
-    error = first_error(text)
-    if not fact(error):
-        return "refused for no fact: " + re.sub(r"\s+", " ", error or "no error")[:300]
-    function = re.match(r"\S*/proofs/(?:\S+/)?([^/\s]+)/Proof\.antt:", error)
-    if function and not refusal.startswith(f"`{function.group(1)}`"):
-        return f"`{function.group(1)}` refuses it, and docs/PROMISES.md says {refusal}"
+    told = re.findall(rf"^rt: must-fail {crate}/{name}\.edit: (.*)$", log, re.M)
+    if len(told) != 1:
+        return "it was not tried" if not told else "it is told of twice"
+    said = re.match(r"refused, as it must be: (.*)", told[0])
+    if not said:
+        return f"not refused for a fact: {told[0][:300]}"
+    error = said.group(1)
+    if not any(re.search(fact, error) for fact in FACTS) or any(re.search(shape, error) for shape in SHAPES):
+        return f"refused for no fact: {error}"
+    function = where(error, path)
+    if function and not refusal.startswith(f"`{function}`"):
+        return f"`{function}` refuses it, and docs/PROMISES.md says {refusal}"
     return None
 
 
 def main():
     there = edits()
     lines = told()
+    logs = [Path(log).read_text(errors="replace") for log in sys.argv[1:]]
     refusals = dict(lines)
     faults = list(listed([(crate, name) for crate, name, _ in there], [name for name, _ in lines])) + list(strays())
     for crate, name, path in there:
-        looks = [changes_code(crate, path)] + [refused(Path(logs), crate, name, refusals.get((crate, name), "")) for logs in sys.argv[1:]]
+        looks = [changes_code(crate, path)] + [refused(log, crate, name, path, refusals.get((crate, name), "")) for log in logs]
         faults += [f"{crate}/{name}: {fault}" for fault in looks if fault]
     for fault in faults:
         print(f"faults: {fault}")

@@ -79,7 +79,7 @@ def rust_uses(text):
     """From each name that a source's own `use` lines bring to its path."""
     out = {}
     for line in re.findall(r"^(?:pub )?use ([^;]*);", blanked(text), re.M):
-        m = re.fullmatch(r"([\w:]+)::(?:\{([^{}]*)\}|(\w+))", " ".join(line.split()))
+        m = re.fullmatch(r"([\w:]+)::(?:\{ ?(\w+(?:, \w+)*),? ?\}|(\w+))", " ".join(line.split()))
         if not m:
             raise Fault(f"a `use` line that brings more than names: {' '.join(line.split())}")
         for name in (m.group(2) or m.group(3)).split(","):
