@@ -106,10 +106,10 @@ STEPS, PROBS, CODED = "crates/header/src/quantizers.rt", "crates/frame/src/table
 
 # the name in the prose, the name in section 20, how many numbers, where the definition is, where the code is
 NUMBERS = [
-    ("dc_qlookup", "dc_q_lookup", 128, (HEADER, "dcSteps"), (STEPS, "DC")),
-    ("ac_qlookup", "ac_q_lookup", 128, (HEADER, "acSteps"), (STEPS, "AC")),
-    ("coeff_update_probs", "k_coeff_entropy_update_probs", 1056, (FRAME, "updateProbs"), (PROBS, "UPDATES")),
-    ("default_coeff_probs", "k_default_coeff_probs", 1056, (FRAME, "defaultProbs"), (PROBS, "DEFAULTS")),
+    ("dc_qlookup", "dc_q_lookup", 128, (HEADER, "dc_steps"), (STEPS, "DC")),
+    ("ac_qlookup", "ac_q_lookup", 128, (HEADER, "ac_steps"), (STEPS, "AC")),
+    ("coeff_update_probs", "k_coeff_entropy_update_probs", 1056, (FRAME, "update_probs"), (PROBS, "UPDATES")),
+    ("default_coeff_probs", "k_default_coeff_probs", 1056, (FRAME, "default_probs"), (PROBS, "DEFAULTS")),
     ("coeff_bands", "bands_x", 16, (BLOCK, "bands"), (CODED, "BANDS")),
 ]
 
@@ -160,10 +160,10 @@ class Comparison:
     def small_modes(self):
         """The 900 probabilities: in the RFC's order, and with both modes renumbered as the code has them"""
         a, an = self.pair("kf_bmode_prob", "kf_b_mode_probs", 900)
-        self.same("kf_bmode_prob", a, self.repo.list(TABLE, "rfcTable"), an, TABLE)
+        self.same("kf_bmode_prob", a, self.repo.list(TABLE, "rfc_table"), an, TABLE)
         to_rfc = [SMALL.index(m) for m in range(10)]
         permuted = [a[(to_rfc[x] * 10 + to_rfc[y]) * 9 + j] for x in range(10) for y in range(10) for j in range(9)]
-        written = re.search(r"rfcNumbers = (.*)", self.repo.read(TABLE)).group(1)
+        written = re.search(r"rfc_numbers = (.*)", self.repo.read(TABLE)).group(1)
         numbers = [int(x) for x in written.replace("[]", "").replace("∷", " ").split()]
         self.same("the RFC's numbers of the small modes", to_rfc, numbers, "RFC's enumeration, section 11.2", TABLE)
         self.same("kf_bmode_prob by the project's numbers", permuted, self.repo.const("crates/modes/src/table.rt", "BMODE"), an, "crates/modes/src/table.rt")
@@ -192,7 +192,7 @@ class Comparison:
         root = [int(re.search(r"large ← symbol (\d+)", modes).group(1))]
         large = {}
         for chroma in ("false", "true"):
-            written = re.search(r"largeMode " + chroma + r" = tree \(([\d ∷]*)\[\]\)", modes).group(1)
+            written = re.search(r"large_mode_of " + chroma + r" = tree \(([\d ∷]*)\[\]\)", modes).group(1)
             large[chroma] = [int(x) for x in written.replace("∷", " ").split()]
         self.same("kf_ymode_prob", y, root + large["false"], yn, MODES)
         self.same("kf_uv_mode_prob", uv, large["true"], un, MODES)
@@ -210,11 +210,11 @@ class Comparison:
         assert yt[0] == ("leaf", NAMES["B_PRED"]) and yt[1] == 2
         large, small, token = "crates/modes/src/large.rt", "crates/modes/src/small.rt", "crates/reader/src/token.rt"
         for what, t, name, spec, source in (
-                ("mb_segment_tree", tree(seg, [0, 1, 2, 3]), sn, (MODES, "segTree"), (large, "SEG_TREE")),
-                ("kf_ymode_tree below the root", below_root(tree(yt, LARGE + [None])), ytn, (MODES, "yTree"), (large, "Y_TREE")),
-                ("uv_mode_tree", tree(ut, LARGE), utn, (MODES, "uvTree"), (large, "UV_TREE")),
-                ("bmode_tree", tree(bt, SMALL), btn, (MODES, "bTree"), (small, "B_TREE")),
-                ("coeff_tree", tree(ct, TOKEN), ctn, ("crates/reader/specs/Token.antt", "tokenTree"), (token, "TOKEN_TREE"))):
+                ("mb_segment_tree", tree(seg, [0, 1, 2, 3]), sn, (MODES, "seg_tree"), (large, "SEG_TREE")),
+                ("kf_ymode_tree below the root", below_root(tree(yt, LARGE + [None])), ytn, (MODES, "y_tree"), (large, "Y_TREE")),
+                ("uv_mode_tree", tree(ut, LARGE), utn, (MODES, "uv_tree"), (large, "UV_TREE")),
+                ("bmode_tree", tree(bt, SMALL), btn, (MODES, "b_tree"), (small, "B_TREE")),
+                ("coeff_tree", tree(ct, TOKEN), ctn, ("crates/reader/specs/Token.antt", "token_tree"), (token, "TOKEN_TREE"))):
             self.same(what, t, self.repo.list(*spec), name, spec[0])
             self.same(what, t, self.repo.const_tree(*source), name, source[0])
 
