@@ -1,9 +1,9 @@
 #!/usr/bin/env bash
 # Instructions a luma sample on the three tiles of bench/: bench/count.sh [PROGRAM [deblock]]. PROGRAM is examples/c/bench.c, linked;
-# without one target/unproved/bench. Some three seconds.
+# without one target/module/bench. Some three seconds.
 set -eu
 cd "$(dirname "$0")/.."
-program=$(realpath "${1:-target/unproved/bench}")
+program=$(realpath "${1:-target/module/bench}")
 mkdir -p target/bench
 plugin=target/bench/insncount.so
 [ $plugin -nt bench/insncount.c ] || gcc -shared -fPIC -O2 -o $plugin bench/insncount.c

@@ -1,4 +1,4 @@
-/* Hookbarley: a formally verified decoder for VP8 key-frame tiles (RFC 6386). Link libhookbarley.a (`rt staticlib hookbarley`, x86-64).
+/* Hookbarley: a formally verified decoder for VP8 key-frame tiles (RFC 6386). Link libhookbarley.a (tools/archive.sh, x86-64-v2).
  *
  * Every call returns an answer, whatever its arguments. The answer and every byte of lent memory are proved of the library's code. The proof
  * assumes what C cannot check; the caller must make sure of it:

@@ -40,9 +40,8 @@ def symbols(nm, which, archive):
 
 
 def in_archive(archive, nm):
-    """What the archive has for others. One of bench/unproved.sh has each call a second time, in the module, as `unproved_..`."""
-    defined = symbols(nm, "--defined-only", archive)
-    return dict.fromkeys(defined - {"unproved_" + name for name in defined})
+    """What the archive has for others."""
+    return dict.fromkeys(symbols(nm, "--defined-only", archive))
 
 
 def lacking(archive, nm):

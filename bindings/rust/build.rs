@@ -1,4 +1,4 @@
-//! Where libhookbarley.a is. In this order: the folder HOOKBARLEY_LIB; target/staticlib of the repository, where `rt staticlib hookbarley`
+//! Where libhookbarley.a is. In this order: the folder HOOKBARLEY_LIB; target/staticlib of the repository, where tools/archive.sh
 //! writes it; where pkg-config finds it (tools/install.sh, or the Debian package libhookbarley-dev).
 use std::env::var;
 use std::path::Path;

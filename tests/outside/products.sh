@@ -5,7 +5,6 @@
 # address or a sum and no multiplication. The vector forms that give products of 64 bits count too; they are looked for in crate `planes`
 # as well, into whose `paint` the compiler draws the transform of a whole square (there, 64 bits beside no vector are places in a plane);
 # and the sources of `transform` have no integer of 64 bits but places, `usize`, into which nothing is cast.
-# In an archive of bench/unproved.sh the crates are called crate_transform and crate_planes.
 set -u
 cd "$(dirname "$0")/../.." || exit 1
 
@@ -40,7 +39,7 @@ grep -qE "$wide" $out/product64.txt || { echo "a product of 64 bits was not foun
 
 # The transform in the archive.
 "$dump" -d -C --no-show-raw-insn "$ARCHIVE" 2>/dev/null |
-    awk '/^[0-9a-f]+ <.*>:$/ { on = /<(crate_)?transform::/; if (on) count++ } on { print } END { print count + 0 " functions" }' >$out/transform.txt
+    awk '/^[0-9a-f]+ <.*>:$/ { on = /<transform::/; if (on) count++ } on { print } END { print count + 0 " functions" }' >$out/transform.txt
 functions=$(tail -n 1 $out/transform.txt | cut -d' ' -f1)
 multiplies <$out/transform.txt >$out/products.txt
 products=$(wc -l <$out/products.txt)
@@ -53,7 +52,7 @@ if grep -E "$wide" $out/products.txt >&2; then
     exit 1
 fi
 # That of a square, eight blocks at once.
-"$dump" -d -C --no-show-raw-insn "$ARCHIVE" 2>/dev/null | awk '/^[0-9a-f]+ <.*>:$/ { on = /<(crate_)?planes::/ } on { print }' | grep -E '\sv?pmul' >$out/square.txt
+"$dump" -d -C --no-show-raw-insn "$ARCHIVE" 2>/dev/null | awk '/^[0-9a-f]+ <.*>:$/ { on = /<planes::/ } on { print }' | grep -E '\sv?pmul' >$out/square.txt
 together=$(grep -cE 'pmulhw\s' $out/square.txt)
 if [ "$together" -eq 0 ] || grep -E 'pmul(u?dq|lq)\s' $out/square.txt >&2; then
     echo "the products of a square: $together of sixteen bits together, or one of 64 bits" >&2

@@ -1,6 +1,6 @@
 #!/usr/bin/env bash
 # The tests from outside, through the archive: tests/outside/run.sh [ARCHIVE]. Builds the archive where it is not there
-# (`rt staticlib hookbarley`), installs what is missing (Debian packages, as root), runs on x86-64 and, by emulation, on Arm:
+# (tools/archive.sh), installs what is missing (Debian packages, as root), runs on x86-64 and, by emulation, on Arm:
 # the parts below, which README.md describes.
 # Settings: N (damaged inputs, 20000), SEED (of these; else drawn from the clock and printed).
 set -u

@@ -1,7 +1,7 @@
 //! Explanations called from Rust: every reason, and what is told beside what `filter` does.
 use hookbarley::{explain, filter, Pair, Rule};
 
-/// Limit 40, inner 5, threshold 2, as in crates/filter/specs/ExplainLaws.antt (`every-reason`).
+/// Limit 40, inner 5, threshold 2, as in crates/filter/specs/ExplainLaws.antt (`every_reason`).
 fn named(simple: bool, edge: bool, samples: [u8; 8]) -> Rule {
     explain(&samples, simple, edge, 40, 5, 2).rule
 }
