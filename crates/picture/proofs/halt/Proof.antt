@@ -27,10 +27,10 @@ abbrev framed : tie.After-rows → tie.After-frame-1
 framed c = c.before.before.before.before.before.before.before.before
 
 abbrev call : tie.Start → Call
-call c = let a = c.args in call_of a.bytes.now a.tile a.header.now
+call c = call_of c.args.bytes.now c.args.tile c.args.header.now
 
 abbrev lent : tie.Start → Memory
-lent c = let a = c.args in memory_of a.y.now a.u.now a.v.now a.columns.now a.modes.now a.strengths.now
+lent c = memory_of c.args.y.now c.args.u.now c.args.v.now c.args.columns.now c.args.modes.now c.args.strengths.now
 
 fine : (c : tie.After-frame-1) → refusal_of (call (start c)) (sizes_of (lent (start c))) ≡ 0
 fine c = sym (passed c).before.refusal.ensures ∙ (passed c).if1.false

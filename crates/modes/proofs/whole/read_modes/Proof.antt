@@ -28,7 +28,7 @@ abbrev start : tie.Else-not-contexts_fine → tie.Start
 start c = c.before.before.before.before.before.before.before
 
 good : (c : tie.Else-not-contexts_fine) → Valid (start c).args.s.now (start c).args.r
-good c = let e = c.before.before.before.before in valid_fact _ _ (sym e.before.valid.ensures ∙ not-false _ e.if1.false)
+good c = valid_fact _ _ (sym c.valid.ensures ∙ not-false _ c.if-not-valid.false-raw)
 
 fine : (c : tie.Else-not-contexts_fine) → contexts_of (start c).args.t4 (start c).args.t5 ≡ true
 fine c = sym c.contexts_fine.ensures ∙ not-false _ c.if-not-contexts_fine.false-raw

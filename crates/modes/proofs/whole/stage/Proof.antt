@@ -19,7 +19,7 @@ bytes c i = (c.shared_slice_known-1.given i).fits
 
 -- what each call gave, and that the reader after it is in range
 one : (c : tie.In-Read) → (Took (prefix (start c).args.a) (start c).args.s.now (start c).args.r (given c.in-Read.p c.in-Read.t) c.head-h.result.reads)
-one c = let t = c.head-h.ensures in took_told to_headed t (headed _ t.0 ∙ ap from_headed c.in-Read.is)
+one c = took_told to_headed c.head-h.ensures (headed _ c.head-h.ensures.0 ∙ ap from_headed c.in-Read.is)
 
 valid1 : (c : tie.In-Read) → Valid (start c).args.s.now c.in-Read.t
 valid1 c = (run_valid (prefix_within (start c).args.a (start c).requires.1.1) (bytes c) (start c).requires.0 (one c).gave).valid

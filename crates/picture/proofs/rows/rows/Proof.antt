@@ -28,16 +28,16 @@ abbrev inner : tie.After-turn-m invariant_loop decreases_loop → tie.In-loop-k 
 inner c = c.before.before.before.before.before.before.before.before.before.before.before
 
 abbrev pic : tie.At-loop-k invariant_loop decreases_loop → Picture
-pic c = let a = (start c).args in cut_out packed a.bytes.now a.tile a.frame a.table.now
+pic c = cut_out packed (start c).args.bytes.now (start c).args.tile (start c).args.frame (start c).args.table.now
 
 abbrev mem₀ : tie.At-loop-k invariant_loop decreases_loop → Memory
-mem₀ c = let a = (start c).args in memory_of a.y.now a.u.now a.v.now a.columns.now a.modes.now a.strengths.now
+mem₀ c = memory_of (start c).args.y.now (start c).args.u.now (start c).args.v.now (start c).args.columns.now (start c).args.modes.now (start c).args.strengths.now
 
 abbrev end : tie.At-loop-k invariant_loop decreases_loop → Total
 end c = total_of (pic c) (state_of (start c).args.tile.reader c.openers-readers.result c.empty-left.result (mem₀ c))
 
 abbrev state : tie.At-loop-k invariant_loop decreases_loop → State
-state c = let l = c.loop-k in state_of l.r l.readers l.left (memory_of l.y l.u l.v l.columns l.modes l.strengths)
+state c = state_of c.loop-k.r c.loop-k.readers c.loop-k.false (memory_of c.loop-k.y c.loop-k.u c.loop-k.v c.loop-k.columns c.loop-k.modes c.loop-k.strengths)
 
 shared : (c : tie.At-loop-k invariant_loop decreases_loop) → Shared (pic c)
 shared c = (start c).requires.0
@@ -70,7 +70,7 @@ pick_eight c =
 
 -- what the call is given is macroblock k's
 tasked : (c : tie.After-task_of invariant_loop decreases_loop) → c.task_of.result ≡ task_at (pic c.before.before.before.before.before) c.loop-k.k (state c.before.before.before.before.before)
-tasked c = let a = c.before.before.before.before.before in task_is (pic a) a.loop.k (state a) c.task_of.ensures (picked c.before.before.before) refl
+tasked c = task_is (pic c.before.before.before.before.before) c.loop-k.k (state c.before.before.before.before.before) c.task_of.ensures (picked c.before.before.before) refl
 
 tokens_are : (c : tie.After-token-tokens invariant_loop decreases_loop) → c.token-tokens.result.now ≡ (pic c.before.before.before).token (partition_of (pic c.before.before.before) c.loop-k.k)
 tokens_are c = c.token-tokens.ensures ∙ ap (pic c.before.before.before).token (picked c.before)
@@ -81,11 +81,11 @@ after c =
 
 -- and so is what it answered
 turned_is : (c : tie.After-turn-m invariant_loop decreases_loop) → (after c ≡ turned packed (inner c).loop-k.false (inner c).loop-k.k (column_of (pic (inner c).before) (inner c).loop-k.k) (state (inner c).before).mem (step_at (pic (inner c).before) (inner c).loop-k.k (state (inner c).before)))
-turned_is c = let a = (inner c).before in turn_at (pic a) a.loop.k (state a) _ _ c.turn-m.ensures.0 (tasked c.before.before.before.before.before.before.before) a.before.before.before.before.part.ensures (tokens_are c.before.before.before.before.before.before.before.before.before)
+turned_is c = turn_at (pic (inner c).before) (inner c).loop-k.k (state (inner c).before) _ _ c.turn-m.ensures.0 (tasked c.before.before.before.before.before.before.before) (inner c).part-first.ensures (tokens_are c.before.before.before.before.before.before.before.before.before)
 
 -- and what it read
 counted : (c : tie.After-turn-m invariant_loop decreases_loop) → (c.turn-m.result.reads ≡ reads_at_lem (pic (inner c).before) (inner c).loop-k.k (state (inner c).before))
-counted c = let a = (inner c).before in reads_in (pic a) a.loop.k (state a) _ _ c.turn-m.ensures.1 (tasked c.before.before.before.before.before.before.before) a.before.before.before.before.part.ensures (tokens_are c.before.before.before.before.before.before.before.before.before)
+counted c = reads_in (pic (inner c).before) (inner c).loop-k.k (state (inner c).before) _ _ c.turn-m.ensures.1 (tasked c.before.before.before.before.before.before.before) (inner c).part-first.ensures (tokens_are c.before.before.before.before.before.before.before.before.before)
 
 kept : (c : tie.After-turn-m invariant_loop decreases_loop) → KeptAll (after c).mem (mem₀ (inner c).before)
 kept c =

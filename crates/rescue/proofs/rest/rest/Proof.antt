@@ -28,13 +28,13 @@ abbrev begin : tie.At-loop-k invariant_loop decreases_loop → tie.Start invaria
 begin c = c.before.before.before.before.before.before.before.before.before.before.before.before.before.before.before.before.before.before
 
 abbrev pic : tie.At-loop-k invariant_loop decreases_loop → Picture
-pic c = let a = (begin c).args in pictured_of (call_of a.bytes.now a.tile a.header.now)
+pic c = pictured_of (call_of (begin c).args.bytes.now (begin c).args.tile (begin c).args.header.now)
 
 abbrev state : tie.At-loop-k invariant_loop decreases_loop → State
-state c = let l = c.loop-k in state_of l.r l.readers l.left (memory_of l.y l.u l.v l.columns l.modes l.strengths)
+state c = state_of c.loop-k.r c.loop-k.readers c.loop-k.false (memory_of c.loop-k.y c.loop-k.u c.loop-k.v c.loop-k.columns c.loop-k.modes c.loop-k.strengths)
 
 abbrev state₀ : tie.At-loop-k invariant_loop decreases_loop → State
-state₀ c = let a = (begin c).args in state_of a.stop.reader a.stop.readers a.stop.left (memory_of a.y.now a.u.now a.v.now a.columns.now a.modes.now a.strengths.now)
+state₀ c = state_of (begin c).args.stop.reader (begin c).args.stop.readers (begin c).args.stop.left (memory_of (begin c).args.y.now (begin c).args.u.now (begin c).args.v.now (begin c).args.columns.now (begin c).args.modes.now (begin c).args.strengths.now)
 
 shared : (c : tie.At-loop-k invariant_loop decreases_loop) → Shared (pic c)
 shared c = (begin c).requires.1.0
@@ -68,11 +68,11 @@ after c =
 
 -- what the call is given is macroblock k's
 tasked : (c : tie.After-task_of invariant_loop decreases_loop) → c.task_of.result ≡ task_at (pic c.before.before.before.before) c.loop-k.k (state c.before.before.before.before)
-tasked c = let a = c.before.before.before.before in task_is (pic a) a.loop.k (state a) c.task_of.ensures (picked c.before.before) (frame_is a)
+tasked c = task_is (pic c.before.before.before.before) c.loop-k.k (state c.before.before.before.before) c.task_of.ensures (picked c.before.before) (frame_is c.before.before.before.before)
 
 -- and so is what it answered
 turned_is : (c : tie.After-turn-m invariant_loop decreases_loop) → (after c ≡ turned packed (inner c).loop-k.false (inner c).loop-k.k (column_of (pic (inner c).before) (inner c).loop-k.k) (state (inner c).before).mem (rebuilt_at (pic (inner c).before) (inner c).loop-k.k (state (inner c).before)))
-turned_is c = let a = (inner c).before in rebuilt_turn (pic a) a.loop.k (state a) _ c.turn-m.ensures (tasked c.before.before.before.before.before.before.before) a.before.before.before.before.before.before.part.ensures
+turned_is c = rebuilt_turn (pic (inner c).before) (inner c).loop-k.k (state (inner c).before) _ c.turn-m.ensures (tasked c.before.before.before.before.before.before.before) (inner c).part-first.ensures
 
 returns : tie.Need-returns-in_default invariant_loop decreases_loop
 returns c = gone_none _ _ c.args.stop.answer (state_of c.args.stop.reader c.args.stop.readers c.args.stop.left (memory_of c.args.y.now c.args.u.now c.args.v.now c.args.columns.now c.args.modes.now c.args.strengths.now)) c.in_default.in_default-own.keys2 c.finished.ensures
