@@ -61,7 +61,7 @@ good : (c : tie.After-scaled-y) → Good (length (start c.before.before).args.pl
 good c =
     rw (c.scaled-x.ensures, c.scaled-y.ensures) (checks_good _ _ _ _ _ _ _ _ (modes (start c.before.before)) (square (fore c.before.before).before.before))
 
-all : (c : tie.Then-small) → (start c.before.before.before).before.before.before.args.from ≡ 0
+all : (c : tie.Then-small) → (start c.before.before.before).args.from ≡ 0
 all c =
     square_all (start c.before.before.before).args.from (start c.before.before.before).args.coefficients.now (size (start c.before.before.before)) (blocks (fore c.before.before.before)) ((good c.before).luma c.if-small.true)
 

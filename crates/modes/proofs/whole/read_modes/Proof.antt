@@ -30,7 +30,7 @@ start c = c.before.before.before.before.before.before.before
 good : (c : tie.Else-not-contexts_fine) → Valid (start c).args.s.now (start c).args.r
 good c = valid_fact _ _ (sym c.valid.ensures ∙ not-false _ c.if-not-valid.false-raw)
 
-fine : (c : tie.Else-not-contexts_fine) → contexts_of (start c).args.t4 (start c).args.t5 ≡ true
+fine : (c : tie.Else-not-contexts_fine) → contexts_of (start c).args.top (start c).args.left ≡ true
 fine c = sym c.contexts_fine.ensures ∙ not-false _ c.if-not-contexts_fine.false-raw
 
 bytes : (c : tie.Else-not-contexts_fine) → Bytes (start c).args.s.now
@@ -43,8 +43,8 @@ known c =
       skip = let f : Fits w8 (start c).args.a.skip_probability = search rules in f.fits;
     }
 
-beside : (c : tie.Else-not-contexts_fine) → Modes (start c).args.t4 × Modes (start c).args.t5
-beside c = (above_fact (start c).args.t4 (start c).args.t5 (fine c), left_fact (start c).args.t4 (start c).args.t5 (fine c))
+beside : (c : tie.Else-not-contexts_fine) → Modes (start c).args.top × Modes (start c).args.left
+beside c = (above_fact (start c).args.top (start c).args.left (fine c), left_fact (start c).args.top (start c).args.left (fine c))
 
 widen-requires : tie.Need-widen-requires
 widen-requires c κs = search rules

@@ -115,7 +115,7 @@ turn-requires c κs = turn_asks (pic c.before.before.before.before.before.before
 
 plus-requires : tie.Need-plus-reads-requires invariant_loop decreases_loop
 plus-requires c κs =
-    let live = live_from (inner c.before.before.before.before.before.before.before.before.before.before.before.before.before).openers-readers.ensures (inner c.before.before.before.before.before.before.before.before.before.before.before.before.before).empty-left.ensures (start (inner c.before.before.before.before.before.before.before.before.before.before.before.before.before).before).pre.1 in
+    let live = live_from (inner c.before.before.before.before.before.before.before.before.before.before.before.before.before).openers-readers.ensures (inner c.before.before.before.before.before.before.before.before.before.before.before.before.before).empty-left.ensures (start (inner c.before.before.before.before.before.before.before.before.before.before.before.before.before).before).requires.1 in
     going_able (shared (inner c.before.before.before.before.before.before.before.before.before.before.before.before.before).before) (inner c.before.before.before.before.before.before.before.before.before.before.before.before.before).loop-k.invariant.0 (less (inner c.before.before.before.before.before.before.before.before.before.before.before.before.before)) (counted c.before.before.before.before.before.before.before.before.before.before.before.before.before) (total_most (shared (inner c.before.before.before.before.before.before.before.before.before.before.before.before.before).before) (first_bytes (inner c.before.before.before.before.before.before.before.before.before.before.before.before.before).before) (λ q h. token_bytes (inner c.before.before.before.before.before.before.before.before.before.before.before.before.before).before q) live (small (inner c.before.before.before.before.before.before.before.before.before.before.before.before.before).before))
 
 returns : tie.Need-returns-in_default invariant_loop decreases_loop

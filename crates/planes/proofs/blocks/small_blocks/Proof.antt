@@ -37,7 +37,7 @@ dc : (c : tie.After-add-arg-in-loop-i-2-1 invariant_loop decreases_loop) → Kno
 dc c = taken (first c) c.add-arg-in-loop-i-2-1.given
 
 add-requires : tie.Need-add-requires invariant_loop decreases_loop
-add-requires c κs = (lies_block (still c.before.before.before.before.before.before), (omega arith, (turn c).before.before.before.before.requires.1.near))
+add-requires c κs = (lies_block (still c.before.before.before.before.before.before), (omega arith, (turn c).requires.1.near))
 
 loop-again : tie.Need-loop-i-preserved invariant_loop decreases_loop
 loop-again c =
