@@ -20,13 +20,13 @@ abbrev called : tie.After-slice_known-in-loop-at-1 invariant_loop decreases_loop
 called c = c.before.before.before.before
 
 behind : (c : tie.After-slice_known-in-loop-at-1 invariant_loop decreases_loop) → (called c).loop-at.at + (called c).piece-n.result ≤ length (called c).args.mem.now
-behind c = let b = called c in room _ _ _ _ b.before.before.loop.inv.1 b.piece.ensures.0 (omega arith)
+behind c = let b = called c in room _ _ _ _ b.loop-at.invariant.1 b.piece-n.ensures.0 (omega arith)
 
 add_at : tie.Need-overflow_add-at invariant_loop decreases_loop
 add_at c = omega (arith, behind c)
 
 loop-less : tie.Need-loop-at-smaller invariant_loop decreases_loop
-loop-less c = let b = called c in omega (arith, behind c, b.piece.ensures.1 (omega arith))
+loop-less c = let b = called c in omega (arith, behind c, b.piece-n.ensures.1 (omega arith))
 
 loop-again : tie.Need-loop-at-preserved invariant_loop decreases_loop
 loop-again c = (behind c, further _ _ _ _ (called c).loop-at.invariant.1 c.fill_part.ensures)

@@ -93,8 +93,8 @@ returns-2 : tie.Need-returns
 returns-2 c =
     let r = looped c in
     let f = framed r in (
-      halted_found (call (start f)) (lent (start f)) (fine f) f.before.take.ensures f.before.before.before.probabilities.ensures (blanked f).blank.ensures r.rows.ensures.0,
-      cost_found (call (start f)) (lent (start f)) (fine f) f.before.take.ensures f.before.before.before.probabilities.ensures (blanked f).blank.ensures r.rows.ensures.1,
+      halted_found (call (start f)) (lent (start f)) (fine f) f.take-framed.ensures f.probabilities-table.ensures (blanked f).blank.ensures r.rows.ensures.0,
+      cost_found (call (start f)) (lent (start f)) (fine f) f.take-framed.ensures f.probabilities-table.ensures (blanked f).blank.ensures r.rows.ensures.1,
     )
 
 pub halt_spec : {M : Type 1} → statement M

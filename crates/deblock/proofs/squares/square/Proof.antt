@@ -50,16 +50,16 @@ vertical-requires : tie.Need-vertical-requires
 vertical-requires c κs = (square_left c.requires.0 c.requires.1.0 (past_first _ c.requires.1.0 c.if-column-ne0.true), c.requires.1.1.0)
 
 inners-requires : tie.Need-inners-requires
-inners-requires c κs = let s = start c.before.before.before in let l = long1 c.before.before.before in (rw l.0 s.pre.0, beside_same l.0 l.1 s.pre.1.1.0)
+inners-requires c κs = let s = start c.before.before.before in let l = long1 c.before.before.before in (rw l.0 s.requires.0, beside_same l.0 l.1 s.requires.1.1.0)
 
 horizontal-requires : tie.Need-horizontal-requires
 horizontal-requires c κs =
     let s = start c.before.before.before.before in
     let l = long2 c.before.before.before in
-    (rw l.0 (square_top s.pre.0 s.pre.1.0 (past_first _ s.pre.1.0 c.if-row-ne0.true)), beside_same l.0 l.1 s.pre.1.1.0)
+    (rw l.0 (square_top s.requires.0 s.requires.1.0 (past_first _ s.requires.1.0 c.if-row-ne0.true)), beside_same l.0 l.1 s.requires.1.1.0)
 
 inners-requires-2 : tie.Need-inners-requires-then-inside-2
-inners-requires-2 c κs = let s = start c.before.before.before.before.before in let l = long3 c.before.before.before in (rw l.0 s.pre.0, beside_same l.0 l.1 s.pre.1.1.0)
+inners-requires-2 c κs = let s = start c.before.before.before.before.before in let l = long3 c.before.before.before in (rw l.0 s.requires.0, beside_same l.0 l.1 s.requires.1.1.0)
 
 same_length : tie.Need-shape_of-p-then-inside-2
 same_length c = rw c.inners-then-inside-2.ensures.0 (length_inners _ _ _ _ _ _ _) ∙ (long3 c.before.before.before.before.before.before.before.before).0

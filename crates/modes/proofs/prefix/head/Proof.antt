@@ -28,7 +28,7 @@ two : (c : tie.In-Got) → (Took (skip (start (prior c)).args.a) (start (prior c
 two c = symbol_gave c.skip-k.ensures c.in-Got.is
 
 valid2 : (c : tie.In-Got) → Valid (start (prior c)).args.s.now c.in-Got.u
-valid2 c = let a = start (prior c) in (run_valid (skip_within a.args.a a.pre.1) (bytes (prior c)) (valid1 (prior c)) (two c).gave).valid
+valid2 c = let a = start (prior c) in (run_valid (skip_within a.args.a a.requires.1) (bytes (prior c)) (valid1 (prior c)) (two c).gave).valid
 
 segment-requires : tie.Need-segment-c-requires
 segment-requires c κs = search rules

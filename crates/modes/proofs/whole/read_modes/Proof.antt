@@ -68,8 +68,7 @@ tested c = c.before.before.before.before.before.before.before
 gave : (c : tie.Else-not-inside) → (run (modes_of (start (tested c)).args.a (start (tested c)).args.top (start (tested c)).args.left) (start (tested c)).args.s.now (start (tested c)).args.r ≡ given (macroblock_of c.quick-q.result.kinds c.quick-q.result.modes) (narrow_of (start (tested c)).args.s.now c.quick-q.result.next))
 gave c =
     let t = tested c in
-    let a = (start t).args in
-    wide_modes a.s.now a.a a.r a.t4 a.t5 (bytes t) (good t) (omega (arith, (start t).good.0)) c.before.before.before.before.before.before.widen.ensures c.before.before.before.quick.ensures c.before.inside.ensures (not-false _ c.if3.false)
+    wide_modes (start t).args.s.now (start t).args.a (start t).args.r (start t).args.top (start t).args.left (bytes t) (good t) (omega (arith, (start t).well_formed.0)) c.widen.ensures c.quick-q.ensures c.inside.ensures (not-false _ c.if-not-inside.false-raw)
 
 modes-read-requires : tie.Need-modes_read-reads-requires
 modes-read-requires c κs =

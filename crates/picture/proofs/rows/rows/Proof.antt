@@ -137,10 +137,9 @@ loop-less c = omega (arith, less c.before.before.before.before.before.before.bef
 
 loop-again : tie.Need-loop-k-preserved invariant_loop decreases_loop
 loop-again c =
-    let i = inner c.before.before.before.before.before.before.before.before.before.before.before.before.before.before.before.before.before.before in
-    let a = i.before in (
-      going_next (shared a) a.loop.inv.0 (less i) (counted c.before.before.before.before.before.before.before.before.before.before.before.before.before.before.before.before.before.before) c.plus-reads.ensures (after c.before.before.before.before.before.before.before.before.before.before.before.before.before.before.before.before.before.before) (turned_is c.before.before.before.before.before.before.before.before.before.before.before.before.before.before.before.before.before.before) c.in-Done.is
-          (ends_at (pic a) (state a) a.loop.k (shared a) a.loop.inv.0.live (less i) (first_bytes a) (token_bytes a _)) (picked c.before.before.before.before.before.before.before.before.before.before.before.before.before.before.before.before.before.before.before.before.before.before.before.before.before.before.before.before),
+    let i = inner c.before.before.before.before.before.before.before.before.before.before.before.before.before.before.before.before.before.before in (
+      going_next (shared i.before) i.loop-k.invariant.0 (less i) (counted c.before.before.before.before.before.before.before.before.before.before.before.before.before.before.before.before.before.before) c.plus-reads.ensures (after c.before.before.before.before.before.before.before.before.before.before.before.before.before.before.before.before.before.before) (turned_is c.before.before.before.before.before.before.before.before.before.before.before.before.before.before.before.before.before.before) c.in-Done.is
+          (ends_at (pic i.before) (state i.before) i.loop-k.k (shared i.before) i.loop-k.invariant.0.live (less i) (first_bytes i.before) (token_bytes i.before _)) (picked c.before.before.before.before.before.before.before.before.before.before.before.before.before.before.before.before.before.before.before.before.before.before.before.before.before.before.before.before),
       omega (arith, less i),
     )
 

@@ -41,7 +41,7 @@ ends c x e =
     (λ i. (c.shared_slice_known-3-1.given i).fits) x e
 
 returns : tie.Need-returns-in_default
-returns c = let d = called c.before.before in (turn_stopped _ _ _ (before d) (step d) (answer d) (not_done d.decode.result.outcome.answer c.in_default.in_default-own.keys2), counted d)
+returns c = let d = called c.before.before in (turn_stopped _ _ _ (before d) (step d) (answer d) (not_done d.decode-read.result.outcome.answer c.in_default.in_default-own.keys2), counted d)
 
 returns-2 : tie.Need-returns
 returns-2 c =

@@ -95,7 +95,7 @@ loop-less c = let i = inner c.before.before.before.before.before.before.before.b
 loop-again : tie.Need-loop-k-preserved invariant_loop decreases_loop
 loop-again c =
     let i = inner c.before.before.before.before.before.before.before.before.before.before.before.before.before.before.before.before in
-    going_next (shared i.before) i.before.loop.inv (less i) (first_bytes i.before) (after c.before.before.before.before.before.before.before.before.before.before.before.before.before.before.before.before) (turned_is c.before.before.before.before.before.before.before.before.before.before.before.before.before.before.before.before) c.in-Done.is (picked c.before.before.before.before.before.before.before.before.before.before.before.before.before.before.before.before.before.before.before.before.before.before.before.before.before)
+    going_next (shared i.before) i.loop-k.invariant (less i) (first_bytes i.before) (after c.before.before.before.before.before.before.before.before.before.before.before.before.before.before.before.before) (turned_is c.before.before.before.before.before.before.before.before.before.before.before.before.before.before.before.before) c.in-Done.is (picked c.before.before.before.before.before.before.before.before.before.before.before.before.before.before.before.before.before.before.before.before.before.before.before.before.before)
 
 returns-2 : tie.Need-returns-after-loop-k invariant_loop decreases_loop
 returns-2 c = gone_tokens _ (pic c.before) (state₀ c.before) c.in-NoTokens.is (going_end c.loop-k.invariant c.loop-k-test.false)
@@ -103,8 +103,7 @@ returns-2 c = gone_tokens _ (pic c.before) (state₀ c.before) c.in-NoTokens.is 
 returns-3 : tie.Need-returns-in_default-finish invariant_loop decreases_loop
 returns-3 c =
     let i = inner c.before.before.before.before.before.before.before.before.before.before.before.before.before in
-    let a = i.before in
-    gone_tokens _ (pic a) (state₀ a) a.before.before.before.before.before.before.before.before.before.before.answer.given.1 (going_refused (shared a) a.loop.inv (less i) (after c.before.before.before.before.before.before.before.before.before.before.before.before.before) (turned_is c.before.before.before.before.before.before.before.before.before.before.before.before.before) (not_done c.turn-m.result.answer c.in_default-finish.in_default-finish-own.keys2))
+    gone_tokens _ (pic i.before) (state₀ i.before) i.in-NoTokens.is (going_refused (shared i.before) i.loop-k.invariant (less i) (after c.before.before.before.before.before.before.before.before.before.before.before.before.before) (turned_is c.before.before.before.before.before.before.before.before.before.before.before.before.before) (not_done c.turn-m.result.answer c.in_default-finish.in_default-finish-own.keys2))
 
 pub rest_spec : {M : Type 1} → statement M
 rest_spec = tie.close (tie.spec invariant_loop decreases_loop (λ c. search rules) (λ c κs. search rules) returns mul-blocks (λ c κs. search rules) (λ c κs. search rules) loop-holds (λ c. some_wide _ _ _ (less c)) (λ c κs. search rules) (λ c. omega (arith, pick_eight c)) (λ c. pick_eight c) (λ c κs. (some_wide _ _ _ (less c.before.before), (shared c.before.before.before).wide)) turn-requires (λ c. search rules) (λ c. omega (arith, pick_eight c.before.before.before.before.before.before.before.before.before.before.before.before.before.before.before.before.before.before.before.before.before.before.before.before)) (λ c. pick_eight c.before.before.before.before.before.before.before.before.before.before.before.before.before.before.before.before.before.before.before.before.before.before.before.before) add-k loop-less loop-again (λ c. c.loop-k.invariant.live.y ∙ sym (begin c.before).requires.1.1.0.y) (λ c. c.loop-k.invariant.live.u ∙ sym (begin c.before).requires.1.1.0.u) (λ c. c.loop-k.invariant.live.v ∙ sym (begin c.before).requires.1.1.0.v) (λ c. c.loop-k.invariant.live.columns ∙ sym (begin c.before).requires.1.1.0.columns) (λ c. c.loop-k.invariant.live.modes ∙ sym (begin c.before).requires.1.1.0.modes) (λ c. c.loop-k.invariant.live.strengths ∙ sym (begin c.before).requires.1.1.0.strengths) returns-2 (λ c. c.turn-m.auto.y ∙ (inner c.before.before.before.before.before.before.before.before.before.before.before.before.before).loop-k.invariant.live.y ∙ sym (begin (inner c.before.before.before.before.before.before.before.before.before.before.before.before.before).before).requires.1.1.0.y) (λ c. c.turn-m.auto.u ∙ (inner c.before.before.before.before.before.before.before.before.before.before.before.before.before).loop-k.invariant.live.u ∙ sym (begin (inner c.before.before.before.before.before.before.before.before.before.before.before.before.before).before).requires.1.1.0.u) (λ c. c.turn-m.auto.v ∙ (inner c.before.before.before.before.before.before.before.before.before.before.before.before.before).loop-k.invariant.live.v ∙ sym (begin (inner c.before.before.before.before.before.before.before.before.before.before.before.before.before).before).requires.1.1.0.v) (λ c. c.turn-m.auto.columns ∙ (inner c.before.before.before.before.before.before.before.before.before.before.before.before.before).loop-k.invariant.live.columns ∙ sym (begin (inner c.before.before.before.before.before.before.before.before.before.before.before.before.before).before).requires.1.1.0.columns) (λ c. c.turn-m.auto.modes ∙ (inner c.before.before.before.before.before.before.before.before.before.before.before.before.before).loop-k.invariant.live.modes ∙ sym (begin (inner c.before.before.before.before.before.before.before.before.before.before.before.before.before).before).requires.1.1.0.modes) (λ c. c.turn-m.auto.strengths ∙ (inner c.before.before.before.before.before.before.before.before.before.before.before.before.before).loop-k.invariant.live.strengths ∙ sym (begin (inner c.before.before.before.before.before.before.before.before.before.before.before.before.before).before).requires.1.1.0.strengths) returns-3)
