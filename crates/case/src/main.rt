@@ -17,6 +17,7 @@ fn buffer() -> [u8; 65537] {
 
 fn main(rt: HostRuntime) -> io::Result<()> {
     let mut file = buffer();
+    // `copy` moves no more than `take` lets through, but doesn't say so.
     let n = io::copy(&mut rt.reader().take(65537), &mut &mut file[..])?.min(65537) as usize;
     let r = run(&file[..n]);
     let sums = r.sums;

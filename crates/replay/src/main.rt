@@ -2,7 +2,8 @@
 // of Y, U, V, column memory, mode memory and strengths after the picture call.
 #![tactic(auto)]
 
-ghost use Rattle.std.specs.Prelude.{◌≡◌, length};
+ghost use Rattle.std.specs.Prelude.{◌≡◌, ◌<◌, length};
+ghost use Rattle.std.specs.Str.{IsAscii};
 
 use casefile::run::{Hashes, Ran, run};
 use std::io::Read;
@@ -53,18 +54,22 @@ fn one(rt: &(impl Files + Print), name: &str) -> io::Result<bool> {
         return Ok(false);
     };
     let mut file = buffer();
+    // `copy` moves no more than `take` lets through, but doesn't say so.
     let n = io::copy(&mut opened.take(65537), &mut &mut file[..])?.min(65537) as usize;
     print!(rt; "{name}")?;
     show_ran(rt, run(&file[..n]))?;
     Ok(true)
 }
 
-fn digit(n: usize) -> u8 {
+fn digit(n: usize) -> u8
+    ensures { result < 128 }
+{
     (48 + n % 10) as u8
 }
 
 fn named(n: usize) -> [u8; 15]
-    ensures { 15 ≡ length result }
+    ensures len { 15 ≡ length result }
+    ensures ascii { IsAscii result }
 {
     [
         b'n',
@@ -86,7 +91,8 @@ fn named(n: usize) -> [u8; 15]
 }
 
 fn in_folder(f: [u8; 4], n: usize) -> [u8; 14]
-    ensures { 14 ≡ length result }
+    ensures len { 14 ≡ length result }
+    ensures ascii { IsAscii f → IsAscii result }
 {
     [
         f[0],

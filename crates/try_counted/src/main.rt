@@ -108,6 +108,7 @@ fn counted(how: u8, s: &[u8]) -> usize {
 // Standard input's first 65536 bytes.
 fn main(rt: HostRuntime) -> io::Result<()> {
     let mut input = [0; 65536];
+    // `copy` moves no more than `take` lets through, but doesn't say so.
     let n = io::copy(&mut rt.reader().take(65536), &mut &mut input[..])?.min(65536) as usize;
     if n < 1 {
         return Ok(());

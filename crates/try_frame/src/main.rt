@@ -84,6 +84,7 @@ fn buffer() -> [u8; 65537]
 fn main(rt: HostRuntime) -> io::Result<()> {
     let mut file = buffer();
     let mut header = [77i32; 1096];
+    // `copy` moves no more than `take` lets through, but doesn't say so.
     let n = io::copy(&mut rt.reader().take(65537), &mut &mut file[..])?.min(65537) as usize;
     show_answer(&rt, take_into(&file[..n], &mut header))?;
     show_entries(&rt, &header)

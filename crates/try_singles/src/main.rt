@@ -259,6 +259,7 @@ fn all(rt: &impl Print, list: &[u8]) -> io::Result<()> {
 // Standard input's first 65536 bytes.
 fn main(rt: HostRuntime) -> io::Result<()> {
     let mut list = [0; 65536];
+    // `copy` moves no more than `take` lets through, but doesn't say so.
     let n = io::copy(&mut rt.reader().take(65536), &mut &mut list[..])?.min(65536) as usize;
     all(&rt, &list[..n])
 }

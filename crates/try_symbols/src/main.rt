@@ -141,6 +141,7 @@ fn all(rt: &impl Print, list: &[u8]) -> io::Result<()> {
 // Standard input's first 4096 bytes.
 fn main(rt: HostRuntime) -> io::Result<()> {
     let mut list = [0; 4096];
+    // `copy` moves no more than `take` lets through, but doesn't say so.
     let n = io::copy(&mut rt.reader().take(4096), &mut &mut list[..])?.min(4096) as usize;
     all(&rt, &list[..n])
 }
