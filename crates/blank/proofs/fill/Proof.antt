@@ -3,6 +3,20 @@ use Rattle.numbers.specs.Words.{ℕ, zero, suc, ◌+◌, ◌-◌, ◌≤◌, ◌
 use Rattle.blank.proofs.fill.Statement.{statement}
 use Rattle.blank.proofs.fill.Tie as tie
 
+module _ (p : List ℕ) (v : ℕ) where
+  on : (a n : ℕ) → placed (placed p 0 (λ i. v) a) a (λ i. v) n ≡ placed p 0 (λ i. v) (a + n)
+  unfolding placed
+  on a zero = rw (add-zero a)
+  on a (suc n) =
+      let e : a + n + 1 ≡ a + suc n = omega arith in
+      ap (λ (l : List ℕ). set l (a + n) v) (on a n) ∙ ap (λ (k : ℕ). set (placed p 0 (λ i. v) (a + n)) k v) (sym (zero-add (a + n)))
+      ∙ placed_next p 0 (λ i. v) (a + n) ∙ ap (placed p 0 (λ i. v)) e
+
+  all : placed p 0 (λ i. v) (length p) ≡ replicate (length p) v
+  all =
+      constant (placed p 0 (λ i. v) (length p)) (length p) v (length_placed p 0 (λ i. v) (length p))
+      (λ i h. ap (λ (k : ℕ). get_or (placed p 0 (λ i. v) (length p)) k v) (sym (zero-add i)) ∙ placed_in p 0 (λ i. v) (length p) i v (omega arith) h)
+
 abbrev invariant_loop : tie.invariant-loop-at
 invariant_loop mem₀ value at₀ mem at = (at ≤ length mem₀) × (mem ≡ placed mem₀ 0 (λ (i : ℕ). value) at)
 
@@ -11,6 +25,17 @@ decreases_loop mem₀ value at₀ mem at = length mem₀ - at
 
 loop-holds : tie.Need-loop-at-init invariant_loop decreases_loop
 loop-holds c = (omega arith, sym (placed_none _ _ _))
+
+-- one part: n of what is left behind the first `at`
+module _ (p : List ℕ) (v at n : ℕ) {q : List ℕ} (e : q ≡ placed p 0 (λ i. v) at) where
+  long : length q ≡ length p
+  long = ap length e ∙ length_placed p 0 (λ i. v) at
+
+  room : n ≤ length q - at → at < length q → at + n ≤ length p
+  room h l = let z = long in omega arith
+
+  further : {r : List ℕ} → r ≡ placed q at (λ i. v) n → r ≡ placed p 0 (λ i. v) (at + n)
+  further d = d ∙ ap (λ (l : List ℕ). placed l at (λ i. v) n) e ∙ on p v at n
 
 fill-part-requires : tie.Need-fill_part-requires invariant_loop decreases_loop
 fill-part-requires c κs = omega (arith, c.piece-n.ensures.0)

@@ -22,8 +22,8 @@ second : (c : tie.Joined-inside) → let f = when (eqb (start c.before).args.t.i
     (c.if-inside.p ≡ f c.if-column-ne0.p) × (c.if-inside.q ≡ f c.if-column-ne0.q)
 second c =
     ⊎_elim
-    (λ v. (when_yes _ _ v.if-inside.true (v.p-is ∙ rw (← c.inner_of-inner.ensures) v.inners.ensures.0), when_yes _ _ v.if-inside.true (v.q-is ∙ rw (← c.inner_of-inner.ensures) v.inners.ensures.1)))
-    (λ v. (when_no _ _ v.if-inside.false v.p-is, when_no _ _ v.if-inside.false v.q-is)) c.if-inside.branch-raw
+    (λ v. (when_yes _ _ v.if-inside.true-raw (v.p-is ∙ rw (← c.inner_of-inner.ensures) v.inners.ensures.0), when_yes _ _ v.if-inside.true-raw (v.q-is ∙ rw (← c.inner_of-inner.ensures) v.inners.ensures.1)))
+    (λ v. (when_no _ _ v.if-inside.false-raw v.p-is, when_no _ _ v.if-inside.false-raw v.q-is)) c.if-inside.branch-raw
 
 third : (c : tie.Joined-row-ne0) → let f = when (not (eqb (start c.before.before).args.row 0)) (horizontal_edges (outer_edge (start c.before.before).args.simple (start c.before.before).args.t) (start c.before.before).args.w ((start c.before.before).args.column * (start c.before.before).args.n) ((start c.before.before).args.row * (start c.before.before).args.n) (start c.before.before).args.n) in
     (c.if-row-ne0.p ≡ f c.if-inside.p) × (c.if-row-ne0.q ≡ f c.if-inside.q)
