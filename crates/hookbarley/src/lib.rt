@@ -1,5 +1,7 @@
 // What a program in C or Rust links, one file a call, on numbers and slices: a slice passes as a pointer and a length, a tile as 28 numbers
 // (boundary). include/hookbarley.h says the same in C.
+#![tactic(auto)]
+
 pub mod deblocking;
 pub mod decoding;
 pub mod explaining;
