@@ -72,22 +72,22 @@ rows-requires c κs =
     )
 
 same_length : tie.Need-shape_of-y
-same_length c = (looped c).rows.auto.y ∙ (blanked (framed (looped c))).blank.auto.0
+same_length c = (looped c).rows.auto.y ∙ (blanked (framed (looped c))).blank.auto.y
 
 same-length-2 : tie.Need-shape_of-u
-same-length-2 c = (looped c).rows.auto.u ∙ (blanked (framed (looped c))).blank.auto.1.0
+same-length-2 c = (looped c).rows.auto.u ∙ (blanked (framed (looped c))).blank.auto.u
 
 same-length-3 : tie.Need-shape_of-v
-same-length-3 c = (looped c).rows.auto.v ∙ (blanked (framed (looped c))).blank.auto.1.1.0
+same-length-3 c = (looped c).rows.auto.v ∙ (blanked (framed (looped c))).blank.auto.v
 
 same-length-4 : tie.Need-shape_of-columns
-same-length-4 c = (looped c).rows.auto.columns ∙ (blanked (framed (looped c))).blank.auto.1.1.1.0
+same-length-4 c = (looped c).rows.auto.columns ∙ (blanked (framed (looped c))).blank.auto.columns
 
 same-length-5 : tie.Need-shape_of-modes
-same-length-5 c = (looped c).rows.auto.modes ∙ (blanked (framed (looped c))).blank.auto.1.1.1.1.0
+same-length-5 c = (looped c).rows.auto.modes ∙ (blanked (framed (looped c))).blank.auto.modes
 
 same-length-6 : tie.Need-shape_of-strengths
-same-length-6 c = (looped c).rows.auto.strengths ∙ (blanked (framed (looped c))).blank.auto.1.1.1.1.1.0
+same-length-6 c = (looped c).rows.auto.strengths ∙ (blanked (framed (looped c))).blank.auto.strengths
 
 returns-2 : tie.Need-returns
 returns-2 c =

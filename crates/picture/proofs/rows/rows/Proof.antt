@@ -4,7 +4,7 @@ use Rattle.tile.specs.Tile.{span_at_of, blocks_of}
 use Rattle.tile.specs.PartitionsLaws.{part_bytes}
 use Rattle.lent.specs.Memory.{Memory, memory_of, packed}
 use Rattle.picture.specs.Halt.{state_of}
-use Rattle.picture.specs.Picture.{Picture, State, cut_out, start_of, column_of, partition_of, step_at, Turned, turned_of, turned, reads_at_lem, Shared}
+use Rattle.picture.specs.Picture.{Picture, State, cut_out, start_of, column_of, partition_of, step_at, Turned, turned_of, turned, reads_at, Shared}
 use Rattle.picture.specs.CountsLaws.{reads_in}
 use Rattle.picture.specs.PictureLaws.{task_at, task_is, column_below, partition_below, turn_asks, ends_at, turn_at}
 use Rattle.picture.proofs.Answers.{not_done}
@@ -37,7 +37,7 @@ abbrev end : tie.At-loop-k invariant_loop decreases_loop → Total
 end c = total_of (pic c) (state_of (start c).args.tile.reader c.openers-readers.result c.empty-left.result (mem₀ c))
 
 abbrev state : tie.At-loop-k invariant_loop decreases_loop → State
-state c = state_of c.loop-k.r c.loop-k.readers c.loop-k.false (memory_of c.loop-k.y c.loop-k.u c.loop-k.v c.loop-k.columns c.loop-k.modes c.loop-k.strengths)
+state c = state_of c.loop-k.r c.loop-k.readers c.loop-k.left (memory_of c.loop-k.y c.loop-k.u c.loop-k.v c.loop-k.columns c.loop-k.modes c.loop-k.strengths)
 
 shared : (c : tie.At-loop-k invariant_loop decreases_loop) → Shared (pic c)
 shared c = (start c).requires.0
@@ -80,11 +80,11 @@ after c =
     turned_of c.turn-m.result.answer c.turn-m.result.left (memory_of c.turn-m.new.y c.turn-m.new.u c.turn-m.new.v c.turn-m.new.columns c.turn-m.new.modes c.turn-m.new.strengths)
 
 -- and so is what it answered
-turned_is : (c : tie.After-turn-m invariant_loop decreases_loop) → (after c ≡ turned packed (inner c).loop-k.false (inner c).loop-k.k (column_of (pic (inner c).before) (inner c).loop-k.k) (state (inner c).before).mem (step_at (pic (inner c).before) (inner c).loop-k.k (state (inner c).before)))
+turned_is : (c : tie.After-turn-m invariant_loop decreases_loop) → (after c ≡ turned packed (inner c).loop-k.left (inner c).loop-k.k (column_of (pic (inner c).before) (inner c).loop-k.k) (state (inner c).before).mem (step_at (pic (inner c).before) (inner c).loop-k.k (state (inner c).before)))
 turned_is c = turn_at (pic (inner c).before) (inner c).loop-k.k (state (inner c).before) _ _ c.turn-m.ensures.0 (tasked c.before.before.before.before.before.before.before) (inner c).part-first.ensures (tokens_are c.before.before.before.before.before.before.before.before.before)
 
 -- and what it read
-counted : (c : tie.After-turn-m invariant_loop decreases_loop) → (c.turn-m.result.reads ≡ reads_at_lem (pic (inner c).before) (inner c).loop-k.k (state (inner c).before))
+counted : (c : tie.After-turn-m invariant_loop decreases_loop) → (c.turn-m.result.reads ≡ reads_at (pic (inner c).before) (inner c).loop-k.k (state (inner c).before))
 counted c = reads_in (pic (inner c).before) (inner c).loop-k.k (state (inner c).before) _ _ c.turn-m.ensures.1 (tasked c.before.before.before.before.before.before.before) (inner c).part-first.ensures (tokens_are c.before.before.before.before.before.before.before.before.before)
 
 kept : (c : tie.After-turn-m invariant_loop decreases_loop) → KeptAll (after c).mem (mem₀ (inner c).before)
@@ -120,7 +120,7 @@ plus-requires c κs =
 
 returns : tie.Need-returns-in_default invariant_loop decreases_loop
 returns c =
-    stop_is (state_of (inner c.before.before.before.before.before.before.before.before.before.before.before.before.before.before.before.before.before).loop-k.r (inner c.before.before.before.before.before.before.before.before.before.before.before.before.before.before.before.before.before).loop-k.readers (inner c.before.before.before.before.before.before.before.before.before.before.before.before.before.before.before.before.before).loop-k.false (after c.before.before.before.before.before.before.before.before.before.before.before.before.before.before.before.before.before).mem) c.stop.ensures
+    stop_is (state_of (inner c.before.before.before.before.before.before.before.before.before.before.before.before.before.before.before.before.before).loop-k.r (inner c.before.before.before.before.before.before.before.before.before.before.before.before.before.before.before.before.before).loop-k.readers (inner c.before.before.before.before.before.before.before.before.before.before.before.before.before.before.before.before.before).loop-k.left (after c.before.before.before.before.before.before.before.before.before.before.before.before.before.before.before.before.before).mem) c.stop.ensures
     (going_refused (shared (inner c.before.before.before.before.before.before.before.before.before.before.before.before.before.before.before.before.before).before) (inner c.before.before.before.before.before.before.before.before.before.before.before.before.before.before.before.before.before).loop-k.invariant.0 (less (inner c.before.before.before.before.before.before.before.before.before.before.before.before.before.before.before.before.before)) (counted c.before.before.before.before.before.before.before.before.before.before.before.before.before.before.before.before.before) c.plus-reads.ensures (after c.before.before.before.before.before.before.before.before.before.before.before.before.before.before.before.before.before) (turned_is c.before.before.before.before.before.before.before.before.before.before.before.before.before.before.before.before.before) (not_done c.turn-m.result.answer c.in_default.in_default-own.keys2) c.stopped.ensures) (begin (inner c.before.before.before.before.before.before.before.before.before.before.before.before.before.before.before.before.before).before)
 
 mul-readers : tie.Need-offset_bounds-readers-p-in-loop-k invariant_loop decreases_loop

@@ -31,7 +31,7 @@ abbrev pic : tie.At-loop-k invariant_loop decreases_loop → Picture
 pic c = pictured_of (call_of (begin c).args.bytes.now (begin c).args.tile (begin c).args.header.now)
 
 abbrev state : tie.At-loop-k invariant_loop decreases_loop → State
-state c = state_of c.loop-k.r c.loop-k.readers c.loop-k.false (memory_of c.loop-k.y c.loop-k.u c.loop-k.v c.loop-k.columns c.loop-k.modes c.loop-k.strengths)
+state c = state_of c.loop-k.r c.loop-k.readers c.loop-k.left (memory_of c.loop-k.y c.loop-k.u c.loop-k.v c.loop-k.columns c.loop-k.modes c.loop-k.strengths)
 
 abbrev state₀ : tie.At-loop-k invariant_loop decreases_loop → State
 state₀ c = state_of (begin c).args.stop.reader (begin c).args.stop.readers (begin c).args.stop.left (memory_of (begin c).args.y.now (begin c).args.u.now (begin c).args.v.now (begin c).args.columns.now (begin c).args.modes.now (begin c).args.strengths.now)
@@ -71,7 +71,7 @@ tasked : (c : tie.After-task_of invariant_loop decreases_loop) → c.task_of.res
 tasked c = task_is (pic c.before.before.before.before) c.loop-k.k (state c.before.before.before.before) c.task_of.ensures (picked c.before.before) (frame_is c.before.before.before.before)
 
 -- and so is what it answered
-turned_is : (c : tie.After-turn-m invariant_loop decreases_loop) → (after c ≡ turned packed (inner c).loop-k.false (inner c).loop-k.k (column_of (pic (inner c).before) (inner c).loop-k.k) (state (inner c).before).mem (rebuilt_at (pic (inner c).before) (inner c).loop-k.k (state (inner c).before)))
+turned_is : (c : tie.After-turn-m invariant_loop decreases_loop) → (after c ≡ turned packed (inner c).loop-k.left (inner c).loop-k.k (column_of (pic (inner c).before) (inner c).loop-k.k) (state (inner c).before).mem (rebuilt_at (pic (inner c).before) (inner c).loop-k.k (state (inner c).before)))
 turned_is c = rebuilt_turn (pic (inner c).before) (inner c).loop-k.k (state (inner c).before) _ c.turn-m.ensures (tasked c.before.before.before.before.before.before.before) (inner c).part-first.ensures
 
 returns : tie.Need-returns-in_default invariant_loop decreases_loop
