@@ -1,4 +1,6 @@
 // The lent memory before the first macroblock. Filled first, so that what no macroblock reaches needs no code after the loops.
+#![tactic(auto)]
+
 ghost use Rattle.std.specs.Prelude.{◌≡◌, ◌+◌, ◌≤◌, ◌<◌, length};
 ghost use Rattle.numbers.specs.Runs.{placed};
 ghost use Rattle.lent.specs.Memory.{Memory, memory_of, filled, blank_of};

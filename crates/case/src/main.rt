@@ -1,10 +1,13 @@
 // The case program: one case file on standard input, one line on standard output: the number, the macroblocks finished, the sums
 // of Y, U and V. What it computes is `casefile::run::run`.
-use casefile::run::run;
+#![tactic(auto)]
 
-fn show(n: u64) {
-    io::write_all(1, b" ");
-    io::print_decimal(1, n);
+use casefile::run::run;
+use std::io;
+use std::io::Read;
+
+fn show(rt: &impl Print, n: u64) -> io::Result<()> {
+    print!(rt; " {n}")
 }
 
 // One byte more than the longest case file.
@@ -12,15 +15,16 @@ fn buffer() -> [u8; 65537] {
     [0; 65537]
 }
 
-fn main() {
+fn main(rt: HostRuntime) -> io::Result<()> {
     let mut file = buffer();
-    let n = io::read_full(0, &mut file);
+    // `copy` moves no more than `take` lets through, but doesn't say so.
+    let n = io::copy(&mut rt.reader().take(65537), &mut &mut file[..])?.min(65537) as usize;
     let r = run(&file[..n]);
     let sums = r.sums;
-    io::print_decimal(1, r.number as u64);
-    show(r.k as u64);
-    show(sums.y as u64);
-    show(sums.u as u64);
-    show(sums.v as u64);
-    io::write_all(1, b"\n");
+    print!(rt; "{}", r.number)?;
+    show(&rt, r.k as u64)?;
+    show(&rt, sums.y as u64)?;
+    show(&rt, sums.u as u64)?;
+    show(&rt, sums.v as u64)?;
+    print!(rt; "\n")
 }

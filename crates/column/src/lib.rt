@@ -1,5 +1,7 @@
 // A macroblock column's context in four bytes (M-107): four modes of four bits, the first lowest, in a big-endian 16-bit number; nine
 // flags of one bit, the first lowest, in another. Only this file knows.
+#![tactic(auto)]
+
 ghost use Rattle.std.specs.Prelude.{◌≡◌, ◌<◌};
 ghost use Rattle.column.specs.Column.{packed_of, digits_of, half_of, packed_bytes, context_unpacked};
 

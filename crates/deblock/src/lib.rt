@@ -1,6 +1,8 @@
 // The whole picture deblocked, RFC 6386 section 15, over lent planes and strengths: the argument checks (checks), one edge
 // taken into a block and put back (blocks, sweeps), its positions side by side (edges), the edges of one macroblock and of all (squares),
 // and the call.
+#![tactic(auto)]
+
 mod blocks;
 mod checks;
 mod edges;

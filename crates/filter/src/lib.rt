@@ -1,6 +1,8 @@
 // The loop filter, RFC 6386 sections 9.4 and 15: the strengths of a macroblock (strengths), and the kernel, eight samples across an edge.
 // `filter` is in two steps, as its definition in specs/Kernel.antt is: rules.rt finds which rule acts, and steps.rt what the rule adds to
 // each sample. `explain` (explain.rt) tells both.
+#![tactic(auto)]
+
 pub mod answers;
 pub mod explain;
 pub mod rules;

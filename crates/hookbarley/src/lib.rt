@@ -1,5 +1,7 @@
 // The calls that a program in C or Rust makes, one file a call, on numbers and slices: a tile is 28 numbers (boundary). Crate hookbarley_c
 // exports each under its own name.
+#![tactic(auto)]
+
 pub mod deblocking;
 pub mod decoding;
 pub mod explaining;

@@ -1,5 +1,7 @@
 // From a key frame's bytes to the picture on the screen (RFC 6386): its header is taken (sections 9 and 19.2), its macroblocks are decoded
 // (sections 11 to 14), and the loop filter runs over them (section 15).
+#![tactic(auto)]
+
 ghost use Rattle.std.specs.Prelude.{◌≡◌};
 ghost use Rattle.lent.specs.Memory.{memory_of};
 ghost use Rattle.macroblock.specs.Macroblock.{planes_of};

@@ -1,5 +1,7 @@
 // Small functions on numbers that several crates need, and the laws that their proofs cite. All laws stand in specs/, one topic a file;
 // another crate's specs and proofs cite them through specs/Words.antt.
+#![tactic(auto)]
+
 ghost use Rattle.std.specs.Prelude.{◌≡◌, ◌++◌, length, take, drop};
 ghost use Rattle.numbers.specs.Lists.{byte_at};
 ghost use Rattle.numbers.specs.Clamp.{clamp_z, up_to};

@@ -13,7 +13,7 @@ use Rattle.lent.specs.Memory.{Memory}
 use Rattle.choices.specs.declared.answer.Decoded.{Decoded}
 use Rattle.choices.specs.Choices.{stopped_of}
 use Rattle.picture.specs.declared.rows.PictureStop.{PictureStop}
-use Rattle.picture.specs.Picture.{Picture, State, column_of, partition_of, planes_in, step_at, next_of, Turned, turned, plus, reads_at_lem, reads_from, Shared, Live}
+use Rattle.picture.specs.Picture.{Picture, State, column_of, partition_of, planes_in, step_at, next_of, Turned, turned, plus, reads_at, reads_from, Shared, Live}
 use Rattle.picture.specs.Halt.{Halted, state_of, halted_at, halt_of}
 use Rattle.picture.specs.HaltLaws.{halt_none, halt_finished, halt_no_modes, halt_no_tokens}
 use Rattle.picture.specs.TurnLaws.{Ends}
@@ -59,12 +59,12 @@ going_start P S l =
 pub plus_plus : (a b c : SymbolCounts) → plus (plus a b) c ≡ plus a (plus b c)
 plus_plus a b c = λ i. record { first = add_assoc a.first b.first c.first i; tokens = add_assoc a.tokens b.tokens c.tokens i }
 
-module _ {P : Picture} {E : Total} {k : ℕ} {S : State} {reads : SymbolCounts} (s : Shared P) (g : Going P E k S reads) (h : k < P.wide * P.high) {w : SymbolCounts} (v : w ≡ reads_at_lem P k S) where
+module _ {P : Picture} {E : Total} {k : ℕ} {S : State} {reads : SymbolCounts} (s : Shared P) (g : Going P E k S reads) (h : k < P.wide * P.high) {w : SymbolCounts} (v : w ≡ reads_at P k S) where
   -- what it reads is no more than the whole picture does
   pub going_able : {n : ℕ} → AtMost n E.reads → AtMost n (plus reads w)
   going_able {n} a = go g.rest g.sum g.paid (step_at P k S) refl
     where
-      least : (r : SymbolCounts) → (reads_at_lem P k S).first ≤ r.first → (reads_at_lem P k S).tokens ≤ r.tokens → plus reads r ≡ E.reads → AtMost n (plus reads w)
+      least : (r : SymbolCounts) → (reads_at P k S).first ≤ r.first → (reads_at P k S).tokens ≤ r.tokens → plus reads r ≡ E.reads → AtMost n (plus reads w)
       least r l i e =
           let x : reads.first + r.first ≡ E.reads.first = ap (λ (q : SymbolCounts). q.first) e in
           let y : reads.tokens + r.tokens ≡ E.reads.tokens = ap (λ (q : SymbolCounts). q.tokens) e in
@@ -72,9 +72,9 @@ module _ {P : Picture} {E : Total} {k : ℕ} {S : State} {reads : SymbolCounts} 
 
       go : (m : ℕ) → k + m ≡ P.wide * P.high → plus reads (reads_from m P k S) ≡ E.reads → (t : Step) → step_at P k S ≡ t → AtMost n (plus reads w)
       go zero a b t e = absurd (omega arith)
-      go (suc m) a b (finished x) e = least (plus (reads_at_lem P k S) (reads_from m P (k + 1) (next_of P k S x))) (omega arith) (omega arith) (ap (plus reads) (sym (reads_finished m P k S x e)) ∙ b)
-      go (suc m) a b no_modes e = least (reads_at_lem P k S) (omega arith) (omega arith) (ap (plus reads) (sym (reads_no_modes m P k S e)) ∙ b)
-      go (suc m) a b no_tokens e = least (reads_at_lem P k S) (omega arith) (omega arith) (ap (plus reads) (sym (reads_no_tokens m P k S e)) ∙ b)
+      go (suc m) a b (finished x) e = least (plus (reads_at P k S) (reads_from m P (k + 1) (next_of P k S x))) (omega arith) (omega arith) (ap (plus reads) (sym (reads_finished m P k S x e)) ∙ b)
+      go (suc m) a b no_modes e = least (reads_at P k S) (omega arith) (omega arith) (ap (plus reads) (sym (reads_no_modes m P k S e)) ∙ b)
+      go (suc m) a b no_tokens e = least (reads_at P k S) (omega arith) (omega arith) (ap (plus reads) (sym (reads_no_tokens m P k S e)) ∙ b)
 
   module _ {n : SymbolCounts} (j : n ≡ plus reads w) where
     -- a turn that ends the picture

@@ -14,7 +14,7 @@ use Rattle.macroblock.specs.CountsLaws.{reads_most}
 use Rattle.choices.specs.declared.answer.Decoded.{Decoded}
 use Rattle.choices.specs.Choices.{Call, refusal_of}
 use Rattle.picture.specs.declared.turn.Task.{Task}
-use Rattle.picture.specs.Picture.{Picture, State, column_of, partition_of, readers_at, around_at, step_at, next_of, cut_out, pictured_of, start_of, begun_of, run_of, picture_of, Shared, Live, plus, reads_at_lem, reads_from, cost_of, asked_of}
+use Rattle.picture.specs.Picture.{Picture, State, column_of, partition_of, readers_at, around_at, step_at, next_of, cut_out, pictured_of, start_of, begun_of, run_of, picture_of, Shared, Live, plus, reads_at, reads_from, cost_of, asked_of}
 use Rattle.picture.specs.PictureLaws.{task_at, around_task, column_below, partition_below, ready_at, ends_at, live_next, run_none, run_finished, run_no_modes, run_no_tokens}
 use Rattle.picture.specs.CallLaws.{picture_bad, picture_good, picture_found, shared_start, live_start}
 
@@ -24,27 +24,27 @@ unfolding reads_from
 reads_none P k S = refl
 
 module _ (n : ℕ) (P : Picture) (k : ℕ) (S : State) where
-  pub reads_finished : (x : Finished) → step_at P k S ≡ finished x → reads_from (suc n) P k S ≡ plus (reads_at_lem P k S) (reads_from n P (k + 1) (next_of P k S x))
+  pub reads_finished : (x : Finished) → step_at P k S ≡ finished x → reads_from (suc n) P k S ≡ plus (reads_at P k S) (reads_from n P (k + 1) (next_of P k S x))
   unfolding reads_from
   reads_finished x e = rw (e, reads_from)
 
-  pub reads_no_modes : step_at P k S ≡ no_modes → reads_from (suc n) P k S ≡ reads_at_lem P k S
+  pub reads_no_modes : step_at P k S ≡ no_modes → reads_from (suc n) P k S ≡ reads_at P k S
   unfolding reads_from
   reads_no_modes e = rw (e, reads_from)
 
-  pub reads_no_tokens : step_at P k S ≡ no_tokens → reads_from (suc n) P k S ≡ reads_at_lem P k S
+  pub reads_no_tokens : step_at P k S ≡ no_tokens → reads_from (suc n) P k S ≡ reads_at P k S
   unfolding reads_from
   reads_no_tokens e = rw (e, reads_from)
 
 -- one macroblock written out: its partitions and readers, the contexts around it
 pub reads_at_lem : (P : Picture) (k : ℕ) (S : State)
-    → reads_at_lem P k S ≡ reads_of P.first (P.token (partition_of P k)) (readers_at S (partition_of P k)) P.frame P.table (around_at P S (column_of P k))
-unfolding reads_at_lem
+    → reads_at P k S ≡ reads_of P.first (P.token (partition_of P k)) (readers_at S (partition_of P k)) P.frame P.table (around_at P S (column_of P k))
+unfolding reads_at
 reads_at_lem P k S = refl
 
 -- as the code reads them
 pub reads_in : (P : Picture) (k : ℕ) (S : State) {w : SymbolCounts} {t : Task} (first tokens : List ℕ) → w ≡ reads_of first tokens t.readers t.frame P.table (around_task P S t)
-    → t ≡ task_at P k S → first ≡ P.first → tokens ≡ P.token (partition_of P k) → w ≡ reads_at_lem P k S
+    → t ≡ task_at P k S → first ≡ P.first → tokens ≡ P.token (partition_of P k) → w ≡ reads_at P k S
 reads_in P k S first tokens e g f d =
     e ∙ (λ o. reads_of (f o) (d o) (g o).readers (g o).frame P.table (around_task P S (g o))) ∙ sym (reads_at_lem P k S)
 
@@ -79,8 +79,8 @@ pub record Over (n k : ℕ) (answer : Decoded) (reads : SymbolCounts) : Type 0 w
   pub most : AtMost macroblocks reads
 
 module _ (P : Picture) (s : Shared P) (a : Bytes P.first) (b : (q : ℕ) → q < P.count → Bytes (P.token q)) where
-  reads_at_most : (k : ℕ) (S : State) → Live P S → k < P.wide * P.high → AtMost 1 (reads_at_lem P k S)
-  unfolding reads_at_lem
+  reads_at_most : (k : ℕ) (S : State) → Live P S → k < P.wide * P.high → AtMost 1 (reads_at P k S)
+  unfolding reads_at
   reads_at_most k S l h =
       reads_most P.first (P.token (partition_of P k)) (readers_at S (partition_of P k)) P.frame P.table (around_at P S (column_of P k))
       (ready_at P S k s l h (column_of P k) (partition_of P k) (column_below P k h) (partition_below P k h s.least) refl refl) s.bytes
@@ -89,7 +89,7 @@ module _ (P : Picture) (s : Shared P) (a : Bytes P.first) (b : (q : ℕ) → q <
   reads_over zero k S l h = rw (run_none P k S, reads_none P k S) (record { macroblocks = 0; upto = omega arith; asked = omega arith; most = record { first = omega arith; tokens = omega arith } })
   reads_over (suc n) k S l h = go (λ T i. reads_over n (k + 1) T i (omega arith)) (step_at P k S) refl
     where
-      here : AtMost 1 (reads_at_lem P k S)
+      here : AtMost 1 (reads_at P k S)
       here = reads_at_most k S l (omega arith)
 
       go : ((T : State) → Live P T → Over n (k + 1) (run_of n P (k + 1) T).answer (reads_from n P (k + 1) T)) → (x : Step) → step_at P k S ≡ x → Over (suc n) k (run_of (suc n) P k S).answer (reads_from (suc n) P k S)

@@ -214,8 +214,8 @@ abbrev pub plus : SymbolCounts → SymbolCounts → SymbolCounts
 plus a b = record { first = a.first + b.first; tokens = a.tokens + b.tokens }
 
 -- the symbols that macroblock k reads
-unfoldable pub reads_at_lem : Picture → ℕ → State → SymbolCounts
-reads_at_lem P k S =
+unfoldable pub reads_at : Picture → ℕ → State → SymbolCounts
+reads_at P k S =
     let q = partition_of P k in
     reads_of P.first (P.token q) (readers_at S q) P.frame P.table (around_at P S (column_of P k))
 
@@ -224,9 +224,9 @@ unfoldable pub reads_from : ℕ → Picture → ℕ → State → SymbolCounts
 reads_from zero P k S = no_reads
 reads_from (suc n) P k S =
     elim (step_at P k S) [
-      | finished x ↦ plus (reads_at_lem P k S) (reads_from n P (k + 1) (next_of P k S x))
-      | no_modes ↦ reads_at_lem P k S
-      | no_tokens ↦ reads_at_lem P k S
+      | finished x ↦ plus (reads_at P k S) (reads_from n P (k + 1) (next_of P k S x))
+      | no_modes ↦ reads_at P k S
+      | no_tokens ↦ reads_at P k S
     ]
 
 -- THE CALL: nothing is read where an argument is refused (1 to 5)

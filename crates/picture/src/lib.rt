@@ -1,4 +1,6 @@
 // The picture: one macroblock in its place (turn), all of them in order (rows), and the call.
+#![tactic(auto)]
+
 pub mod rows;
 pub mod turn;
 

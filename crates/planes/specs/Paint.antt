@@ -15,17 +15,17 @@ sample_at p w x y = get_or p (y * w + x) 0
 
 -- ---- what lies around: the plane with a row of 127 above it, the corner too, and a column of 129 left of it (section 12, 2789-2796)
 -- the sample at column x of row y of that, so both are counted from 1 in the plane
-unfoldable pub near_of_lem : List ℕ → (w x y : ℕ) → ℕ
-near_of_lem p w x zero = 127
-near_of_lem p w zero (suc y) = 129
-near_of_lem p w (suc x) (suc y) = sample_at p w x y
+unfoldable pub near_of : List ℕ → (w x y : ℕ) → ℕ
+near_of p w x zero = 127
+near_of p w zero (suc y) = 129
+near_of p w (suc x) (suc y) = sample_at p w x y
 
 -- four samples above column x of row y and the columns after it, and four left of it in its row and the rows below
 unfoldable pub four_above_of : List ℕ → (w x y : ℕ) → List ℕ
-four_above_of p w x y = near_of_lem p w (x + 1) y ∷ near_of_lem p w (x + 2) y ∷ near_of_lem p w (x + 3) y ∷ near_of_lem p w (x + 4) y ∷ []
+four_above_of p w x y = near_of p w (x + 1) y ∷ near_of p w (x + 2) y ∷ near_of p w (x + 3) y ∷ near_of p w (x + 4) y ∷ []
 
 unfoldable pub four_left_of : List ℕ → (w x y : ℕ) → List ℕ
-four_left_of p w x y = near_of_lem p w x (y + 1) ∷ near_of_lem p w x (y + 2) ∷ near_of_lem p w x (y + 3) ∷ near_of_lem p w x (y + 4) ∷ []
+four_left_of p w x y = near_of p w x (y + 1) ∷ near_of p w x (y + 2) ∷ near_of p w x (y + 3) ∷ near_of p w x (y + 4) ∷ []
 
 -- ---- section 12.2, 2829-2834: around the square of n by n at column x, row y. The edge's lists have sixteen places, zero past the first n
 unfoldable pub first_places : (n : ℕ) → (ℕ → ℕ) → List ℕ
@@ -33,18 +33,18 @@ first_places n f = placed (replicate 16 0) 0 f n
 
 -- the n samples above it
 abbrev pub first_above_of : List ℕ → (w x y n : ℕ) → List ℕ
-first_above_of p w x y n = first_places n (λ k. near_of_lem p w (x + 1 + k) y)
+first_above_of p w x y n = first_places n (λ k. near_of p w (x + 1 + k) y)
 
 -- the n samples left of it
 abbrev pub first_left_of : List ℕ → (w x y n : ℕ) → List ℕ
-first_left_of p w x y n = first_places n (λ k. near_of_lem p w x (y + 1 + k))
+first_left_of p w x y n = first_places n (λ k. near_of p w x (y + 1 + k))
 
 -- all around the square: above, left, the corner, and which of them lie inside the plane
 unfoldable pub edge_of : List ℕ → (w x y n : ℕ) → Border
 edge_of p w x y n = record {
   above = first_above_of p w x y n;
   left = first_left_of p w x y n;
-  corner = near_of_lem p w x y;
+  corner = near_of p w x y;
   above_inside = ltb 0 y;
   left_inside = ltb 0 x;
 }
@@ -53,7 +53,7 @@ edge_of p w x y n = record {
 -- above and right of the macroblock at column x, row y: 127 on row 0, as all above; at the right edge of the plane the last sample above,
 -- four times (3064-3068)
 unfoldable pub above_right_of : List ℕ → (w x y : ℕ) → List ℕ
-above_right_of p w x y = cond (eqb (x + 16) w) (replicate 4 (near_of_lem p w w y)) (four_above_of p w (x + 16) y)
+above_right_of p w x y = cond (eqb (x + 16) w) (replicate 4 (near_of p w w y)) (four_above_of p w (x + 16) y)
 
 -- above and right of a sub-block: in the macroblock's last column, of every row, those of the macroblock (3057-3064)
 unfoldable pub block_above_right_of : List ℕ → (w x y : ℕ) (last : Bool) (right : List ℕ) → List ℕ
@@ -62,9 +62,9 @@ block_above_right_of p w x y last right = cond last right (four_above_of p w (x 
 -- the thirteen: left from the bottom, the corner, above, above and right
 unfoldable pub around_of : List ℕ → (w x y : ℕ) (aside : List ℕ) → List ℕ
 around_of p w x y r =
-    near_of_lem p w x (y + 4) ∷ near_of_lem p w x (y + 3) ∷ near_of_lem p w x (y + 2) ∷ near_of_lem p w x (y + 1)
-    ∷ near_of_lem p w x y
-    ∷ near_of_lem p w (x + 1) y ∷ near_of_lem p w (x + 2) y ∷ near_of_lem p w (x + 3) y ∷ near_of_lem p w (x + 4) y
+    near_of p w x (y + 4) ∷ near_of p w x (y + 3) ∷ near_of p w x (y + 2) ∷ near_of p w x (y + 1)
+    ∷ near_of p w x y
+    ∷ near_of p w (x + 1) y ∷ near_of p w (x + 2) y ∷ near_of p w (x + 3) y ∷ near_of p w (x + 4) y
     ∷ get_or r 0 0 ∷ get_or r 1 0 ∷ get_or r 2 0 ∷ get_or r 3 0 ∷ []
 
 -- ---- a sub-block

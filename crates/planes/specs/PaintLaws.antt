@@ -6,7 +6,7 @@ use Rattle.transform.specs.Lanes.{by_blocks}
 use Rattle.numbers.specs.declared.Checked.TheVariants.{Done, Refused}
 use Rattle.predict.specs.declared.Border.{Border}
 use Rattle.predict.specs.Predict.{Size, dc_of}
-use Rattle.planes.specs.Paint.{sample_at, near_of_lem, first_places, edge_of, above_right_of, rows_painted, painted, block_coefficients, block_residual, summed_of, block_painted, cell_column, cell_row, blocks_painted, large_rule, small_rule, prediction_rule, square_painted, square_blocks, paint_modes_fine, side_fine_of, square_fine_of, coefficients_fine, paint_fine, PaintedPlane, paint_of}
+use Rattle.planes.specs.Paint.{sample_at, near_of, first_places, edge_of, above_right_of, rows_painted, painted, block_coefficients, block_residual, summed_of, block_painted, cell_column, cell_row, blocks_painted, large_rule, small_rule, prediction_rule, square_painted, square_blocks, paint_modes_fine, side_fine_of, square_fine_of, coefficients_fine, paint_fine, PaintedPlane, paint_of}
 use Rattle.planes.specs.Pieces.{rows_placed}
 use Rattle.planes.specs.Places.{Square, Outside, run_inside, sub_square, apart, outside_sub, BlockSides, cell, Within, other, by_size, size_some, quarter, size_sides, tiles}
 
@@ -27,20 +27,20 @@ module _ {len w x y n mode : ℕ} {small : Bool} {modes : List ℕ} (g : Good le
   luma_whole e h = let q = g.luma e in omega (arith, g.whole (omega arith))
 
 -- ---- around
-pub near_top : (p : List ℕ) (w x y : ℕ) → y ≡ 0 → 127 ≡ near_of_lem p w x y
-unfolding near_of_lem
+pub near_top : (p : List ℕ) (w x y : ℕ) → y ≡ 0 → 127 ≡ near_of p w x y
+unfolding near_of
 near_top p w x zero e = refl
 near_top p w x (suc y) e = absurd (omega arith)
 
-pub near_side : (p : List ℕ) (w x y : ℕ) → 0 < y → x ≡ 0 → 129 ≡ near_of_lem p w x y
-unfolding near_of_lem
+pub near_side : (p : List ℕ) (w x y : ℕ) → 0 < y → x ≡ 0 → 129 ≡ near_of p w x y
+unfolding near_of
 near_side p w x zero h e = absurd (omega arith)
 near_side p w zero (suc y) h e = refl
 near_side p w (suc x) (suc y) h e = absurd (omega arith)
 
 -- inside: column x of row y
-pub near_at : (p : List ℕ) (w x y : ℕ) {m n i : ℕ} → m ≡ x + 1 → n ≡ y + 1 → i ≡ y * w + x → get_or p i 0 ≡ near_of_lem p w m n
-unfolding near_of_lem
+pub near_at : (p : List ℕ) (w x y : ℕ) {m n i : ℕ} → m ≡ x + 1 → n ≡ y + 1 → i ≡ y * w + x → get_or p i 0 ≡ near_of p w m n
+unfolding near_of
 near_at p w x y d e f = rw (d, e, f, add-one x, add-one y)
 
 -- the first of an edge, one after the other

@@ -1,7 +1,7 @@
 // What lies around a square or a sub-block of a plane (RFC 6386, sections 12.2 and 12.3). Outside the plane 127 lies above, the corner
 // too, and 129 to the left.
 ghost use Rattle.std.specs.Prelude.{◌≡◌, false, ◌+◌, ◌*◌, ◌<◌, ◌≤◌, length};
-ghost use Rattle.planes.specs.Paint.{near_of_lem, four_above_of, four_left_of, first_above_of, first_left_of, edge_of, above_right_of, around_of, block_above_right_of};
+ghost use Rattle.planes.specs.Paint.{near_of, four_above_of, four_left_of, first_above_of, first_left_of, edge_of, above_right_of, around_of, block_above_right_of};
 ghost use Rattle.planes.specs.Places.{Square, Reach, Lies, Over};
 
 use predict::Border;
@@ -22,7 +22,7 @@ pub(crate) fn place(y: usize, w: usize, x: usize) -> usize
 // The sample at column x of row y, both counted from 1: at 0 they lie outside.
 fn near(p: &[u8], w: usize, x: usize, y: usize) -> u8
     requires { Reach (length p.now) w x y }
-    ensures { result ≡ near_of_lem p.now w x y }
+    ensures { result ≡ near_of p.now w x y }
 {
     if y == 0 {
         return ABOVE;
@@ -44,7 +44,7 @@ pub(crate) struct Spot {
 // The corner of a sub-block, the four samples above it, and the four to its left. All are reached from its first sample.
 fn corner(p: &[u8], w: usize, s: Spot) -> u8
     requires { Lies (length p.now) w s }
-    ensures { result ≡ near_of_lem p.now w s.x s.y }
+    ensures { result ≡ near_of p.now w s.x s.y }
 {
     if s.y == 0 {
         return ABOVE;

@@ -1,5 +1,7 @@
 // Planes of samples: a macroblock's square predicted from what lies around it, and its residual added (RFC 6386, sections 12 and 14.5).
 // A plane is lent: the sample at column x of row y is element y * stride + x.
+#![tactic(auto)]
+
 mod add;
 mod blocks;
 mod checks;

@@ -1,4 +1,6 @@
 // Prediction of a block from the samples around it (RFC 6386, sections 12.2 and 12.3).
+#![tactic(auto)]
+
 ghost use Rattle.std.specs.Prelude.{◌≡◌, cond, ◌<◌, ◌≤◌, ◌+◌, ◌*◌};
 ghost use Rattle.numbers.specs.Clamp.{clip_z};
 ghost use Rattle.predict.specs.Predict.{Size, at, mean2, mean3, two, tm_one, tm_wide_of, dc_block_of, tm_block_of, small_block_of, sum_of_first, dc_of};

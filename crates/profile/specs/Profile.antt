@@ -37,13 +37,13 @@ unfoldable pub header_rules_of : List ℤ → ℕ
 header_rules_of h = failed 3 (segments_fit_of h ∷ sharpness_fits_of h ∷ [])
 
 -- 6: macroblock k is skipped and small, as its mode record says
-abbrev pub both_at_lem : List ℕ → ℕ → Bool
-both_at_lem modes k = (mode_found modes k).kinds.skip && (mode_found modes k).kinds.small
+abbrev pub both_at : List ℕ → ℕ → Bool
+both_at modes k = (mode_found modes k).kinds.skip && (mode_found modes k).kinds.small
 
 -- the first of n macroblocks from k on that is both; where none is, the one behind them
 unfoldable pub first_both_of : (n k : ℕ) → List ℕ → ℕ
 first_both_of zero k modes = k
-first_both_of (suc n) k modes = elim (both_at_lem modes k) [ true ↦ k | false ↦ first_both_of n (suc k) modes ]
+first_both_of (suc n) k modes = elim (both_at modes k) [ true ↦ k | false ↦ first_both_of n (suc k) modes ]
 
 -- the answer for a picture of so many macroblocks with these modes
 unfoldable pub judged_of : (blocks : ℕ) → List ℕ → Profiled

@@ -6,7 +6,7 @@ use Rattle.choices.specs.Choices.{Call, failed, refusal_of, number_of, values_of
 use Rattle.choices.specs.declared.answer.Decoded.{Decoded}
 use Rattle.picture.specs.Picture.{Ended, picture_of}
 use Rattle.profile.specs.declared.Profiled.TheVariants as P
-use Rattle.profile.specs.Profile.{Profiled, size_fits_of, count_fits_of, segments_fit_of, sharpness_fits_of, tile_rules_of, header_rules_of, both_at_lem, first_both_of, judged_of, decoded_of, profiled, profile_of}
+use Rattle.profile.specs.Profile.{Profiled, size_fits_of, count_fits_of, segments_fit_of, sharpness_fits_of, tile_rules_of, header_rules_of, both_at, first_both_of, judged_of, decoded_of, profiled, profile_of}
 
 -- ---- 1 and 2, 3 and 4, as the code tries them
 module _ (t : Tile) where
@@ -42,11 +42,11 @@ pub record Looking (modes : List ℕ) (blocks k : ℕ) : Type 0 where
   pub same : first_both_of left k modes ≡ first_both_of blocks 0 modes
 
 module _ (modes : List ℕ) where
-  first_here : (n k : ℕ) → both_at_lem modes k ≡ true → k ≡ first_both_of (suc n) k modes
+  first_here : (n k : ℕ) → both_at modes k ≡ true → k ≡ first_both_of (suc n) k modes
   unfolding first_both_of
   first_here n k e = rw (e, first_both_of)
 
-  first_on : (n k : ℕ) → both_at_lem modes k ≡ false → first_both_of n (suc k) modes ≡ first_both_of (suc n) k modes
+  first_on : (n k : ℕ) → both_at modes k ≡ false → first_both_of n (suc k) modes ≡ first_both_of (suc n) k modes
   unfolding first_both_of
   first_on n k e = rw (e, first_both_of)
 
@@ -58,18 +58,18 @@ module _ (modes : List ℕ) where
   looking_start blocks = record { left = blocks; sum = omega arith; same = refl }
 
   module _ (blocks k : ℕ) where
-    here : (n : ℕ) → k + n ≡ blocks → k < blocks → both_at_lem modes k ≡ true → first_both_of n k modes ≡ first_both_of blocks 0 modes → k ≡ first_both_of blocks 0 modes
+    here : (n : ℕ) → k + n ≡ blocks → k < blocks → both_at modes k ≡ true → first_both_of n k modes ≡ first_both_of blocks 0 modes → k ≡ first_both_of blocks 0 modes
     here zero s h e f = absurd (omega arith)
     here (suc n) s h e f = first_here n k e ∙ f
 
-    on : (n : ℕ) → k + n ≡ blocks → k < blocks → both_at_lem modes k ≡ false → first_both_of n k modes ≡ first_both_of blocks 0 modes → Looking modes blocks (k + 1)
+    on : (n : ℕ) → k + n ≡ blocks → k < blocks → both_at modes k ≡ false → first_both_of n k modes ≡ first_both_of blocks 0 modes → Looking modes blocks (k + 1)
     on zero s h e f = absurd (omega arith)
     on (suc n) s h e f = record { left = n; sum = omega arith; same = ap (λ (j : ℕ). first_both_of n j modes) (add-one k) ∙ first_on n k e ∙ f }
 
-    pub looking_here : Looking modes blocks k → k < blocks → both_at_lem modes k ≡ true → k ≡ first_both_of blocks 0 modes
+    pub looking_here : Looking modes blocks k → k < blocks → both_at modes k ≡ true → k ≡ first_both_of blocks 0 modes
     looking_here g h e = here g.left g.sum h e g.same
 
-    pub looking_next : Looking modes blocks k → k < blocks → both_at_lem modes k ≡ false → Looking modes blocks (k + 1)
+    pub looking_next : Looking modes blocks k → k < blocks → both_at modes k ≡ false → Looking modes blocks (k + 1)
     looking_next g h e = on g.left g.sum h e g.same
 
     pub looking_end : Looking modes blocks k → blocks ≤ k → k ≡ first_both_of blocks 0 modes

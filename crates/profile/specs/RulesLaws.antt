@@ -1,7 +1,7 @@
 -- What the rules' tests say, as facts and both ways; and which macroblock is the first that is both.
 use Rattle.numbers.specs.Words.{ℕ, zero, suc, ◌+◌, ◌≤◌, ◌<◌, arith, ◌≡◌, refl, Bool, true, false, not, ◌⊎◌, inl, inr, ⊎_elim, eqb, lt_or, eq_or, never, both_left, both_right, both_true, eq-eqb, eqb-true, ne_eqb, List, ℤ, pos, negsuc}
 use Rattle.header.specs.Header.{segments_on, map_on, sharpness, entry, present_of, present_at_of}
-use Rattle.profile.specs.Profile.{size_fits_of, count_fits_of, segments_fit_of, sharpness_fits_of, both_at_lem, first_both_of}
+use Rattle.profile.specs.Profile.{size_fits_of, count_fits_of, segments_fit_of, sharpness_fits_of, both_at, first_both_of}
 
 -- ---- 1
 module _ (w h : ℕ) where
@@ -53,36 +53,36 @@ module _ (h : List ℤ) where
 -- ---- 6: of n macroblocks from k on
 module _ (modes : List ℕ) where
   -- the one that is named is both
-  pub first_is : (n k : ℕ) → first_both_of n k modes < k + n → both_at_lem modes (first_both_of n k modes) ≡ true
+  pub first_is : (n k : ℕ) → first_both_of n k modes < k + n → both_at modes (first_both_of n k modes) ≡ true
   unfolding first_both_of
   first_is zero k h = absurd (omega arith)
-  first_is (suc n) k h = go (both_at_lem modes k) refl (first_is n (suc k))
+  first_is (suc n) k h = go (both_at modes k) refl (first_is n (suc k))
     where
-      go : (b : Bool) → both_at_lem modes k ≡ b → (first_both_of n (suc k) modes < suc k + n → both_at_lem modes (first_both_of n (suc k) modes) ≡ true) → both_at_lem modes (first_both_of (suc n) k modes) ≡ true
+      go : (b : Bool) → both_at modes k ≡ b → (first_both_of n (suc k) modes < suc k + n → both_at modes (first_both_of n (suc k) modes) ≡ true) → both_at modes (first_both_of (suc n) k modes) ≡ true
       go true e f = rw (e, first_both_of, e)
       go false e f = rw (e, first_both_of) (f (omega (arith, rw (e, first_both_of) at h)))
 
   -- none before it is
-  pub first_before : (n k j : ℕ) → k ≤ j → j < first_both_of n k modes → both_at_lem modes j ≡ false
+  pub first_before : (n k j : ℕ) → k ≤ j → j < first_both_of n k modes → both_at modes j ≡ false
   unfolding first_both_of
   first_before zero k j l h = absurd (omega arith)
-  first_before (suc n) k j l h = go (both_at_lem modes k) refl (first_before n (suc k) j)
+  first_before (suc n) k j l h = go (both_at modes k) refl (first_before n (suc k) j)
     where
-      go : (b : Bool) → both_at_lem modes k ≡ b → (suc k ≤ j → j < first_both_of n (suc k) modes → both_at_lem modes j ≡ false) → both_at_lem modes j ≡ false
+      go : (b : Bool) → both_at modes k ≡ b → (suc k ≤ j → j < first_both_of n (suc k) modes → both_at modes j ≡ false) → both_at modes j ≡ false
       go true e f = absurd (omega (arith, rw (e, first_both_of) at h))
       go false e f = ⊎_elim (λ (z : j ≡ k). rw z e) (λ z. f (omega arith) (rw (e, first_both_of) at h)) (eq_or j k)
 
   -- where none is, it is the one behind them
-  pub first_none : (n k : ℕ) → ((j : ℕ) → k ≤ j → j < k + n → both_at_lem modes j ≡ false) → first_both_of n k modes ≡ k + n
+  pub first_none : (n k : ℕ) → ((j : ℕ) → k ≤ j → j < k + n → both_at modes j ≡ false) → first_both_of n k modes ≡ k + n
   unfolding first_both_of
   first_none zero k h = omega arith
   first_none (suc n) k h =
-      let e : both_at_lem modes k ≡ false = h k (omega arith) (omega arith) in
+      let e : both_at modes k ≡ false = h k (omega arith) (omega arith) in
       let i : first_both_of n (suc k) modes ≡ suc k + n = first_none n (suc k) (λ j a b. h j (omega arith) (omega arith)) in
       rw (e, first_both_of) (omega (arith, i))
 
   -- where one is and none before it, it is that one
-  pub first_at : (n k : ℕ) → k < n → both_at_lem modes k ≡ true → ((j : ℕ) → j < k → both_at_lem modes j ≡ false) → first_both_of n 0 modes ≡ k
+  pub first_at : (n k : ℕ) → k < n → both_at modes k ≡ true → ((j : ℕ) → j < k → both_at modes j ≡ false) → first_both_of n 0 modes ≡ k
   first_at n k h e f = ⊎_elim low (λ l. ⊎_elim (λ g. absurd (never e (first_before n 0 k (omega arith) g))) (λ g. omega arith) (lt_or k (first_both_of n 0 modes))) (lt_or (first_both_of n 0 modes) k)
     where
       low : first_both_of n 0 modes < k → first_both_of n 0 modes ≡ k

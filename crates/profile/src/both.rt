@@ -1,6 +1,6 @@
 // The rules that the picture call decides: 5, it answers 0; 6, no macroblock is both skipped and small.
 ghost use Rattle.std.specs.Prelude.{◌≡◌};
-ghost use Rattle.profile.specs.Profile.{both_at_lem, first_both_of, judged_of, decoded_of};
+ghost use Rattle.profile.specs.Profile.{both_at, first_both_of, judged_of, decoded_of};
 
 use crate::Profiled;
 use choices::answer::Decoded;
@@ -8,7 +8,7 @@ use lent::macroblocks::read_mode_record;
 
 // Whether macroblock k is both, by its mode record.
 fn both(modes: &[u8], k: usize) -> bool
-    ensures { result ≡ both_at_lem modes.now k }
+    ensures { result ≡ both_at modes.now k }
 {
     let found = read_mode_record(modes, k);
     let kinds = found.kinds;

@@ -1,4 +1,6 @@
 // The cockpit tile profile (request M-111): the rules that need no decoding (rules), those that the picture call decides (both), the call.
+#![tactic(auto)]
+
 mod both;
 mod rules;
 

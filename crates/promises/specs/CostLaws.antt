@@ -9,7 +9,7 @@ use Rattle.macroblock.specs.Macroblock.{Finished, Step, finished, no_modes, no_t
 use Rattle.choices.specs.declared.answer.Decoded.{Decoded}
 use Rattle.choices.specs.declared.answer.Decoded.TheVariants as D
 use Rattle.choices.specs.Choices.{Call, number_of, values_of}
-use Rattle.picture.specs.Picture.{Picture, State, column_of, partition_of, readers_at, around_at, step_at, next_of, pictured_of, start_of, begun_of, picture_of, plus, reads_at_lem, reads_from, cost_of, asked_of}
+use Rattle.picture.specs.Picture.{Picture, State, column_of, partition_of, readers_at, around_at, step_at, next_of, pictured_of, start_of, begun_of, picture_of, plus, reads_at, reads_from, cost_of, asked_of}
 use Rattle.picture.specs.CountsLaws.{reads_none, reads_finished, reads_no_modes, reads_no_tokens, reads_at_lem, cost_bad, cost_good, cost_most}
 use Rattle.promises.specs.Refusals.{Fine, blank_same, sizes_same}
 use Rattle.promises.specs.Reached.{modes_asked}
@@ -54,7 +54,7 @@ module _ (P : Picture) (k : ℕ) (S : State) where
   after_count_lem (given m next) = refl
   after_count_lem missing = refl
 
-  listed : reads_at_lem P k S ≡ record { first = length (mode_symbols P k S); tokens = length (token_symbols P k S) }
+  listed : reads_at P k S ≡ record { first = length (mode_symbols P k S); tokens = length (token_symbols P k S) }
   unfolding reads_of count
   listed = reads_at_lem P k S ∙ (λ i. record { first = length (mode_symbols P k S); tokens = after_count_lem (modes_asked P k S) i })
 
@@ -98,7 +98,7 @@ module _ {U : ℕ → Type 0} {P Q : Picture} (t : Twins U P Q) (b : ℕ) (used 
       other : {x : Step} → step_at P k S ≡ x → step_at Q k T ≡ x
       other e = sym (step_same t s k (used k l)) ∙ e
 
-      here : reads_at_lem P k S ≡ reads_at_lem Q k T
+      here : reads_at P k S ≡ reads_at Q k T
       here = reads_same t s k (used k l)
 
       go : ((x : Finished) → Same U (next_of P k S x) (next_of Q k T x) → reads_from n P (k + 1) (next_of P k S x) ≡ reads_from n Q (k + 1) (next_of Q k T x)) → (x : Step) → step_at P k S ≡ x → reads_from (suc n) P k S ≡ reads_from (suc n) Q k T

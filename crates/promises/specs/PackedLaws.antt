@@ -16,7 +16,7 @@ use Rattle.choices.specs.declared.answer.Decoded.TheVariants as D
 use Rattle.choices.specs.Choices.{Call, call_in, refusal_of, beside_of}
 use Rattle.choices.specs.ChoicesLaws.{refusal_forms, fine_lengths}
 use Rattle.picture.specs.CallLaws.{picture_bad, picture_good, shared_start, live_start}
-use Rattle.picture.specs.Picture.{Picture, State, Ended, column_of, partition_of, planes_in, place_of, readers_at, around_at, step_at, next_of, pictured_of, begun_of, run_of, picture_of, Shared, Live, plus, reads_at_lem, reads_from, cost_of}
+use Rattle.picture.specs.Picture.{Picture, State, Ended, column_of, partition_of, planes_in, place_of, readers_at, around_at, step_at, next_of, pictured_of, begun_of, run_of, picture_of, Shared, Live, plus, reads_at, reads_from, cost_of}
 use Rattle.picture.specs.PictureLaws.{step_at_lem, column_below, partition_below, ends_at, live_next, run_none, run_finished, run_no_modes, run_no_tokens}
 use Rattle.picture.specs.CountsLaws.{reads_none, reads_finished, reads_no_modes, reads_no_tokens, reads_at_lem, cost_bad, cost_good}
 use Rattle.picture.specs.TurnLaws.{Ends}
@@ -63,7 +63,7 @@ module _ (P : Picture) where
         ∙ found (λ readers around planes. step_of P.first (P.token (partition_of P k)) readers P.frame P.table around (place_of P k) planes)
         ∙ sym (step_at_lem B k T)
 
-    reads_same : reads_at_lem A k S ≡ reads_at_lem B k T
+    reads_same : reads_at A k S ≡ reads_at B k T
     reads_same = reads_at_lem A k S ∙ found (λ readers around planes. reads_of P.first (P.token (partition_of P k)) readers P.frame P.table around) ∙ sym (reads_at_lem B k T)
 
     -- and what they leave

@@ -11,7 +11,7 @@ use Rattle.choices.specs.Choices.{Call, refusal_of, number_of, values_of}
 use Rattle.picture.specs.Picture.{Picture, State, Ended, picture_of}
 use Rattle.profile.specs.declared.Profiled.{Profiled}
 use Rattle.profile.specs.declared.Profiled.TheVariants as P
-use Rattle.profile.specs.Profile.{size_fits_of, count_fits_of, segments_fit_of, sharpness_fits_of, tile_rules_of, both_at_lem, first_both_of, judged_of, decoded_of, ProfileEnded, profiled, profile_of, profile_number_of}
+use Rattle.profile.specs.Profile.{size_fits_of, count_fits_of, segments_fit_of, sharpness_fits_of, tile_rules_of, both_at, first_both_of, judged_of, decoded_of, ProfileEnded, profiled, profile_of, profile_number_of}
 use Rattle.profile.specs.ProfileLaws.{tile_size, tile_count, tile_fits, header_segments, header_sharpness, header_fits, judged_named, judged_fits, decoded_stopped, decoded_whole, profile_early, profile_refused, profile_late, profile_decoded}
 use Rattle.profile.specs.RulesLaws.{size_holds, size_passes, count_holds, count_passes, segments_holds, segments_passes, sharpness_holds, sharpness_passes, first_is, first_before, first_none, first_at}
 use Rattle.promises.specs.Refusals.{Bad, Fine, number, Refused, refused_changes_nothing}
@@ -88,7 +88,7 @@ module _ (t : Call) (m : Memory) (b : Bytes t.bytes) (e : Fine t m) where
   modes_long h = ap (λ (x : Memory). length x.modes) grey.memory ∙ (live_reached (sound t m b e) h grey.reached).modes
 
   -- rule 6 reads in it what was made
-  both_is : (k : ℕ) → k < macroblocks t → done t m ≤ macroblocks t → (x : Made t m k) → both_at_lem (picture_of t m).mem.modes k ≡ x.made.modes.skip && x.made.modes.small
+  both_is : (k : ℕ) → k < macroblocks t → done t m ≤ macroblocks t → (x : Made t m k) → both_at (picture_of t m).mem.modes k ≡ x.made.modes.skip && x.made.modes.small
   both_is k h d x =
       let mem = (picture_of t m).mem.modes in
       let r : k < records_in mode_width mem = omega (arith, modes_long d) in
@@ -100,16 +100,16 @@ module _ (t : Call) (m : Memory) (b : Bytes t.bytes) (e : Fine t m) where
     finished : done t m ≡ macroblocks t
     finished = ap values_of (all_done t m e w)
 
-    both : (k : ℕ) → k < macroblocks t → both_at_lem (picture_of t m).mem.modes k ≡ true → Both t m k
+    both : (k : ℕ) → k < macroblocks t → both_at (picture_of t m).mem.modes k ≡ true → Both t m k
     both k h f =
         let x = grey.before k (omega (arith, finished)) in
         let g : x.made.modes.skip && x.made.modes.small ≡ true = sym (both_is k h (omega (arith, finished)) x) ∙ f in
         record { made = x; skipped = both_left x.made.modes.skip _ g; small = both_right x.made.modes.skip _ g }
 
-    both_passes : (k : ℕ) → k < macroblocks t → Both t m k → both_at_lem (picture_of t m).mem.modes k ≡ true
+    both_passes : (k : ℕ) → k < macroblocks t → Both t m k → both_at (picture_of t m).mem.modes k ≡ true
     both_passes k h x = both_is k h (omega (arith, finished)) x.made ∙ both_true x.skipped x.small
 
-    not_both : (k : ℕ) → k < macroblocks t → (Both t m k → ⊥) → both_at_lem (picture_of t m).mem.modes k ≡ false
+    not_both : (k : ℕ) → k < macroblocks t → (Both t m k → ⊥) → both_at (picture_of t m).mem.modes k ≡ false
     not_both k h n = sym (not_so _ (λ f. n (both k h f)))
 
 -- ---- the call

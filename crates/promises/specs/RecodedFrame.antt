@@ -19,7 +19,7 @@ use Rattle.frame.specs.declared.take.Taken.{Taken}
 use Rattle.frame.specs.Take.{taken_of}
 use Rattle.frame.specs.PassesLaws.{TakenRead, taken_read, taken_is_fine, taken_or_refused}
 use Rattle.frame.specs.OneLaws.{one_taken, taken_one}
-use Rattle.recode_frame.specs.RecodeFrame.{header_symbols, all_modes, new_first, new_head, taken_call, recoded_frame, frame_refused_lem, frame_decoded, recode_frame_of, FrameEnded, frame_ended}
+use Rattle.recode_frame.specs.RecodeFrame.{header_symbols, all_modes, new_first, new_head, taken_call, recoded_frame, frame_refused, frame_decoded, recode_frame_of, FrameEnded, frame_ended}
 use Rattle.recode_frame.specs.FirstLaws.{Sized}
 use Rattle.recode_frame.specs.AgainLaws.{ReadAgain, first_again}
 use Rattle.recode_frame.specs.MovedLaws.{call_modes}
@@ -203,38 +203,38 @@ module _ (b : List ℕ) (m : Memory) (y : Bytes b) (r : Recodes b m) where
 -- ---- the call: each number exactly where it must be
 pub record RecodeFrameEnds (b : List ℕ) (m : Memory) (out : List ℕ) : Type 0 where
   -- 12, 13, 14: the header is not taken; nothing changes
-  pub untaken : ((taken_of b).answer.number ≡ 0 → ⊥) → recode_frame_of b m out ≡ frame_refused_lem (taken_of b).answer.number m out
+  pub untaken : ((taken_of b).answer.number ≡ 0 → ⊥) → recode_frame_of b m out ≡ frame_refused (taken_of b).answer.number m out
   pub numbers : ((taken_of b).answer.number ≡ 0) ⊎ ((taken_of b).answer.number ≡ 12) ⊎ ((taken_of b).answer.number ≡ 13) ⊎ ((taken_of b).answer.number ≡ 14)
   -- 4: a lent length is not what the frame's size asks; nothing changes
-  pub four : (taken_of b).answer.number ≡ 0 → (L.Sized packed (taken_of b).answer.tile.width (taken_of b).answer.tile.height (sizes_of m) → ⊥) → recode_frame_of b m out ≡ frame_refused_lem 4 m out
+  pub four : (taken_of b).answer.number ≡ 0 → (L.Sized packed (taken_of b).answer.tile.width (taken_of b).answer.tile.height (sizes_of m) → ⊥) → recode_frame_of b m out ≡ frame_refused 4 m out
   -- else the picture call's number, 0, 6 or 7, and its memory; where it is not 0 the room is as it was
   pub pictured : (taken_of b).answer.number ≡ 0 → L.Sized packed (taken_of b).answer.tile.width (taken_of b).answer.tile.height (sizes_of m)
       → let n = number_of (picture_of (taken_call b) m).answer in (n ≡ 0) ⊎ (n ≡ 6) ⊎ (n ≡ 7)
-  pub stopped : (taken_of b).answer.number ≡ 0 → (number_of (picture_of (taken_call b) m).answer ≡ 0 → ⊥) → recode_frame_of b m out ≡ frame_refused_lem (number_of (picture_of (taken_call b) m).answer) (picture_of (taken_call b) m).mem out
+  pub stopped : (taken_of b).answer.number ≡ 0 → (number_of (picture_of (taken_call b) m).answer ≡ 0 → ⊥) → recode_frame_of b m out ≡ frame_refused (number_of (picture_of (taken_call b) m).answer) (picture_of (taken_call b) m).mem out
   -- 18: the tag cannot tell the first partition's size
-  pub eighteen : (taken_of b).answer.number ≡ 0 → number_of (picture_of (taken_call b) m).answer ≡ 0 → 524287 < length (new_first (taken_call b)) → recode_frame_of b m out ≡ frame_refused_lem 18 (picture_of (taken_call b) m).mem out
+  pub eighteen : (taken_of b).answer.number ≡ 0 → number_of (picture_of (taken_call b) m).answer ≡ 0 → 524287 < length (new_first (taken_call b)) → recode_frame_of b m out ≡ frame_refused 18 (picture_of (taken_call b) m).mem out
   -- 16: the frame exceeds the room
-  pub sixteen : Recodes b m → length out < length (recoded_frame b m) → recode_frame_of b m out ≡ frame_refused_lem 16 (picture_of (taken_call b) m).mem out
+  pub sixteen : Recodes b m → length out < length (recoded_frame b m) → recode_frame_of b m out ≡ frame_refused 16 (picture_of (taken_call b) m).mem out
   -- 0: the frame at the start of the room, and what lies behind it as it was
   pub written : Recodes b m → length (recoded_frame b m) ≤ length out
       → recode_frame_of b m out ≡ frame_ended (record { number = 0; len = length (recoded_frame b m) }) (picture_of (taken_call b) m).mem (recoded_frame b m ++ drop (length (recoded_frame b m)) out)
 
 module _ (b : List ℕ) (m : Memory) (out : List ℕ) where
-  untaken : ((taken_of b).answer.number ≡ 0 → ⊥) → recode_frame_of b m out ≡ frame_refused_lem (taken_of b).answer.number m out
+  untaken : ((taken_of b).answer.number ≡ 0 → ⊥) → recode_frame_of b m out ≡ frame_refused (taken_of b).answer.number m out
   untaken h = sym (frame_untaken b m out {t = taken_of b} refl h refl)
 
   module _ (t : (taken_of b).answer.number ≡ 0) where
     taken : {x : FrameEnded} → frame_decoded b m out ≡ x → recode_frame_of b m out ≡ x
     taken e = sym (frame_taken_lem b m out {t = taken_of b} refl t (sym e))
 
-    stopped : (number_of (picture_of (taken_call b) m).answer ≡ 0 → ⊥) → recode_frame_of b m out ≡ frame_refused_lem (number_of (picture_of (taken_call b) m).answer) (picture_of (taken_call b) m).mem out
+    stopped : (number_of (picture_of (taken_call b) m).answer ≡ 0 → ⊥) → recode_frame_of b m out ≡ frame_refused (number_of (picture_of (taken_call b) m).answer) (picture_of (taken_call b) m).mem out
     stopped h = taken (decoded_told b m out h)
 
-    eighteen : number_of (picture_of (taken_call b) m).answer ≡ 0 → 524287 < length (new_first (taken_call b)) → recode_frame_of b m out ≡ frame_refused_lem 18 (picture_of (taken_call b) m).mem out
+    eighteen : number_of (picture_of (taken_call b) m).answer ≡ 0 → 524287 < length (new_first (taken_call b)) → recode_frame_of b m out ≡ frame_refused 18 (picture_of (taken_call b) m).mem out
     eighteen e h = taken (decoded_long b m out e h)
 
   module _ (r : Recodes b m) where
-    sixteen : length out < length (recoded_frame b m) → recode_frame_of b m out ≡ frame_refused_lem 16 (picture_of (taken_call b) m).mem out
+    sixteen : length out < length (recoded_frame b m) → recode_frame_of b m out ≡ frame_refused 16 (picture_of (taken_call b) m).mem out
     sixteen h =
         let l = (taken_read b r.taken).long in
         taken r.taken (decoded_full b m out r.decoded l r.short (omega (arith, h, whole_long b (new_first (taken_call b)) (one_partition (taken_call b) m) l)))
@@ -252,7 +252,7 @@ module _ (b : List ℕ) (m : Memory) (out : List ℕ) where
         let p = taken_is_fine b y t in
         let d : number_of (picture_of (taken_call b) m).answer ≡ 4 = (first_check_decides (taken_call b) m).four p.sides p.counted p.each (λ l. n l.sizes) in
         let u : (picture_of (taken_call b) m).mem ≡ m = (refused_changes_nothing (taken_call b) m (λ e. n (fine_lengths (taken_call b) (sizes_of m) e).sizes)).unchanged in
-        stopped t (λ e. let z : 4 ≡ 0 = sym d ∙ e in omega arith) ∙ (λ i. frame_refused_lem (d i) (u i) out);
+        stopped t (λ e. let z : 4 ≡ 0 = sym d ∙ e in omega arith) ∙ (λ i. frame_refused (d i) (u i) out);
     pictured = λ t s. taken_answers b y t m s;
     stopped = stopped;
     eighteen = eighteen;
@@ -265,7 +265,7 @@ module _ (b : List ℕ) (m : Memory) (out : List ℕ) where
     recodes : Recodes b m
     fits : length (recoded_frame b m) ≤ length out
 
-  not_zero : {k : ℕ} {x : Memory} {C : Type 0} → (recode_frame_of b m out).answer.number ≡ 0 → (k ≡ 0 → ⊥) → recode_frame_of b m out ≡ frame_refused_lem k x out → C
+  not_zero : {k : ℕ} {x : Memory} {C : Type 0} → (recode_frame_of b m out).answer.number ≡ 0 → (k ≡ 0 → ⊥) → recode_frame_of b m out ≡ frame_refused k x out → C
   not_zero f h e = absurd (h (sym (ap (λ (x : FrameEnded). x.answer.number) e) ∙ f))
 
   zero_only : (recode_frame_of b m out).answer.number ≡ 0 → Zero

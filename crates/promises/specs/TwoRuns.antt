@@ -10,7 +10,7 @@ use Rattle.macroblock.specs.declared.arguments.Readers.{Readers}
 use Rattle.macroblock.specs.Macroblock.{reads_of, Planes, Finished, Step, no_modes, no_tokens, step_of}
 use Rattle.choices.specs.declared.answer.Decoded.{Decoded}
 use Rattle.choices.specs.declared.answer.Decoded.TheVariants as D
-use Rattle.picture.specs.Picture.{reads_at_lem, Picture, State, Ended, column_of, partition_of, planes_in, place_of, readers_at, around_at, step_at, written, next_of, run_of}
+use Rattle.picture.specs.Picture.{reads_at, Picture, State, Ended, column_of, partition_of, planes_in, place_of, readers_at, around_at, step_at, written, next_of, run_of}
 use Rattle.picture.specs.CountsLaws.{reads_at_lem}
 use Rattle.picture.specs.PictureLaws.{step_at_lem}
 use Rattle.choices.specs.Choices.{beside_of}
@@ -58,7 +58,7 @@ module _ {U : ℕ → Type 0} {P Q : Picture} (t : Twins U P Q) where
     step_same = step_at_lem P k S ∙ found_same step_of ∙ sym (step_at_lem Q k T)
 
     -- and what it reads
-    pub reads_same : reads_at_lem P k S ≡ reads_at_lem Q k T
+    pub reads_same : reads_at P k S ≡ reads_at Q k T
     reads_same = reads_at_lem P k S ∙ found_same (λ first tokens readers f table around place planes. reads_of first tokens readers f table around) ∙ sym (reads_at_lem Q k T)
 
     pub next_same : partition_of P k < P.count → (x : Finished) → Same U (next_of P k S x) (next_of Q k T x)

@@ -1,5 +1,7 @@
 // One macroblock from its modes alone (request M-108), for where tokens are lost: no residual, counted empty, and no flags left behind.
 // Its modes are read as ever; the token partition's reader stays where it is.
+#![tactic(auto)]
+
 ghost use Rattle.std.specs.Prelude.{◌≡◌};
 ghost use Rattle.macroblock.specs.Macroblock.{planes_of, macroblock_called, to_macroblock_called, Laid, Legible, FrameSizes, AroundSizes};
 ghost use Rattle.macroblock.specs.Rebuilt.{legible_of, rebuilt_of, rebuild_call_of};

@@ -18,16 +18,16 @@ use Rattle.recode.specs.TokenCopies.{Rest}
 
 -- ---- a block
 -- the context after a token 1..11
-unfoldable pub near_of_lem : ℕ → ℕ
-near_of_lem t = elim (eqb t 1) [ true ↦ 0 | false ↦ context_after t ]
+unfoldable pub near_of : ℕ → ℕ
+near_of t = elim (eqb t 1) [ true ↦ 0 | false ↦ context_after t ]
 
-pub near_zero : (t : ℕ) → t ≡ 1 → 0 ≡ near_of_lem t
-unfolding near_of_lem
-near_zero t e = rw (eq-eqb _ _ e, near_of_lem)
+pub near_zero : (t : ℕ) → t ≡ 1 → 0 ≡ near_of t
+unfolding near_of
+near_zero t e = rw (eq-eqb _ _ e, near_of)
 
-pub near_number : (t : ℕ) → (t ≡ 1 → ⊥) → context_after t ≡ near_of_lem t
-unfolding near_of_lem
-near_number t e = rw (ne_eqb _ _ e, near_of_lem)
+pub near_number : (t : ℕ) → (t ≡ 1 → ⊥) → context_after t ≡ near_of t
+unfolding near_of
+near_number t e = rw (ne_eqb _ _ e, near_of)
 
 -- a block's end is what its caller sees
 abbrev pub ends : Coefficients → ℕ
@@ -78,7 +78,7 @@ module _ {table : List ℕ} {kind ctx₀ first : ℕ} {s : List ℕ} {p₀ : Pip
         let x = w.way q0 q1 values a r2 F old g in
         going_done (going_as (ap (rest_of table kind q0 q1 (15 - n) n x.values) f ∙ rest_ends table kind q0 q1 (15 - n) n x.values) (read q0 q1 x.values x.going)) refl
 
-    pub blocking_next : (t ≡ 0 → ⊥) → {u : Pipe} {new : List ℕ} → Rest s q mid t u new → {near : ℕ} {on : Bool} → near ≡ near_of_lem t → near < 3 → on ≡ eqb t 1 → length mid ≡ length room → length new ≡ length mid
+    pub blocking_next : (t ≡ 0 → ⊥) → {u : Pipe} {new : List ℕ} → Rest s q mid t u new → {near : ℕ} {on : Bool} → near ≡ near_of t → near < 3 → on ≡ eqb t 1 → length mid ≡ length room → length new ≡ length mid
         → Blocking table kind ctx₀ first s p₀ room₀ u (n + 1) near on new
     blocking_next f {u} {new} r {near} {on} a b o k l =
         record {

@@ -11,7 +11,7 @@ use Rattle.macroblock.specs.declared.arguments.SymbolCounts.{SymbolCounts}
 use Rattle.macroblock.specs.Macroblock.{macroblock_token_reads, reads_of, Finished, Step, finished, no_modes, no_tokens, Ready}
 use Rattle.macroblock.specs.StepLaws.{Both, step_both}
 use Rattle.choices.specs.declared.answer.Decoded.TheVariants as D
-use Rattle.picture.specs.Picture.{Picture, State, Ended, column_of, partition_of, planes_in, place_of, readers_at, around_at, step_at, next_of, Shared, Live, reads_at_lem, reads_from}
+use Rattle.picture.specs.Picture.{Picture, State, Ended, column_of, partition_of, planes_in, place_of, readers_at, around_at, step_at, next_of, Shared, Live, reads_at, reads_from}
 use Rattle.picture.specs.PictureLaws.{step_at_lem, column_below, partition_below, ready_at, ends_at, live_next}
 use Rattle.picture.specs.CountsLaws.{reads_none, reads_finished, reads_no_modes, reads_no_tokens, reads_at_lem}
 use Rattle.recode.specs.Recode.{modes_asked, token_grammar, read_by, tokens_from}
@@ -102,7 +102,7 @@ module _ {P : Picture} (z : Sound P) where
 
 -- ---- their number is what the picture call counts (M-103)
 module _ (P : Picture) (k : ℕ) (S : State) where
-  read_count : (reads_at_lem P k S).tokens ≡ length (read_by P k S)
+  read_count : (reads_at P k S).tokens ≡ length (read_by P k S)
   unfolding read_by reads_of count
   read_count = ap (λ (r : SymbolCounts). r.tokens) (reads_at_lem P k S) ∙ after (modes_asked P k S)
     where

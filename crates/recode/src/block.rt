@@ -5,7 +5,7 @@ ghost use Rattle.header.specs.declared.quantizers.Factors.{Factors};
 ghost use Rattle.numbers.specs.Flags.{bit_of};
 ghost use Rattle.coefficients.specs.Block.{bands, probability_place};
 ghost use Rattle.residual.specs.Quick.{kind_at, place_at};
-ghost use Rattle.recode.specs.BlockCopies.{near_of_lem, BlockCopies, PartCopies, ResidualCopies};
+ghost use Rattle.recode.specs.BlockCopies.{near_of, BlockCopies, PartCopies, ResidualCopies};
 
 use crate::pipe::Pipe;
 use crate::token::{LEADS, copy_rest, copy_token};
@@ -53,7 +53,7 @@ fn place(table: &[u8; 16], kind: usize, n: usize, ctx: usize) -> usize
 
 // The context after a token 1..11.
 fn near(token: u8) -> usize
-    ensures { (result ≡ near_of_lem token) × (result < 3) }
+    ensures { (result ≡ near_of token) × (result < 3) }
 {
     if token == 1 {
         return 0;

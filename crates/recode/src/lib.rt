@@ -1,5 +1,7 @@
 // A tile's tokens in one partition (M-112): a symbol read and written again (pipe), a token (token), the blocks of a macroblock (block), one
 // macroblock in its place (turn), all of them in order (walk), what they make (tokens), and the call.
+#![tactic(auto)]
+
 pub mod block;
 pub mod pipe;
 mod token;

@@ -128,16 +128,16 @@ abbrev pub no_frame : ℕ → FrameRecoded
 no_frame n = record { number = n; len = 0 }
 
 -- a refusal: the room unchanged
-abbrev pub frame_refused_lem : ℕ → Memory → List ℕ → FrameEnded
-frame_refused_lem n mem out = frame_ended (no_frame n) mem out
+abbrev pub frame_refused : ℕ → Memory → List ℕ → FrameEnded
+frame_refused n mem out = frame_ended (no_frame n) mem out
 
 -- 18 where the tag cannot tell the first partition's size (9.1, 1690-1691: 19 bits); 16 where the frame exceeds the room; else the frame at its start
 unfoldable pub frame_into : List ℕ → Memory → Memory → List ℕ → FrameEnded
 frame_into b m mem out =
     elim (leb (length (new_first (taken_call b))) 524287) [
-      | false ↦ frame_refused_lem 18 mem out
+      | false ↦ frame_refused 18 mem out
       | true ↦ elim (leb (length (recoded_frame b m)) (length out)) [
-        | false ↦ frame_refused_lem 16 mem out
+        | false ↦ frame_refused 16 mem out
         | true ↦ frame_ended (record { number = 0; len = length (recoded_frame b m) }) mem (recoded_frame b m ++ drop (length (recoded_frame b m)) out)
       ]
     ]
@@ -147,9 +147,9 @@ unfoldable pub frame_decoded : List ℕ → Memory → List ℕ → FrameEnded
 frame_decoded b m out =
     elim (number_of (picture_of (taken_call b) m).answer) [
       | zero ↦ frame_into b m (picture_of (taken_call b) m).mem out
-      | suc n ↦ frame_refused_lem (suc n) (picture_of (taken_call b) m).mem out
+      | suc n ↦ frame_refused (suc n) (picture_of (taken_call b) m).mem out
     ]
 
 -- THE CALL: 12 to 14 as the header is refused, nothing changed; else the picture call, and the frame recoded
 unfoldable pub recode_frame_of : List ℕ → Memory → List ℕ → FrameEnded
-recode_frame_of b m out = elim (taken_of b).answer.number [ zero ↦ frame_decoded b m out | suc n ↦ frame_refused_lem (suc n) m out ]
+recode_frame_of b m out = elim (taken_of b).answer.number [ zero ↦ frame_decoded b m out | suc n ↦ frame_refused (suc n) m out ]

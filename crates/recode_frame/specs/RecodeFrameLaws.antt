@@ -15,7 +15,7 @@ use Rattle.frame.specs.Tag.{three_at, tag_of}
 use Rattle.frame.specs.Take.{taken_of}
 use Rattle.frame.specs.PassesLaws.{taken_is_fine, taken_read}
 use Rattle.recode_frame.specs.declared.FrameRecoded.{FrameRecoded}
-use Rattle.recode_frame.specs.RecodeFrame.{new_first, three_bytes, new_head, taken_call, recoded_frame, no_frame, frame_refused_lem, frame_into, frame_decoded, recode_frame_of, FrameEnded, frame_ended}
+use Rattle.recode_frame.specs.RecodeFrame.{new_first, three_bytes, new_head, taken_call, recoded_frame, no_frame, frame_refused, frame_into, frame_decoded, recode_frame_of, FrameEnded, frame_ended}
 use Rattle.recode_frame.specs.FirstLaws.{Sized, FirstWritten, Rewrites}
 use Rattle.recode_frame.specs.MovedLaws.{call_modes}
 use Rattle.recode_frame.specs.FrameLaws.{head_long, whole_long}
@@ -132,11 +132,11 @@ module _ (b : List ℕ) (m : Memory) (out : List ℕ) where
   abbrev tokens : List ℕ
   tokens = one_partition (taken_call b) m
 
-  pub decoded_told : (number ≡ 0 → ⊥) → frame_decoded b m out ≡ frame_refused_lem number left out
+  pub decoded_told : (number ≡ 0 → ⊥) → frame_decoded b m out ≡ frame_refused number left out
   unfolding frame_decoded
   decoded_told h = go number refl h
     where
-      go : (k : ℕ) → number ≡ k → (k ≡ 0 → ⊥) → frame_decoded b m out ≡ frame_refused_lem k left out
+      go : (k : ℕ) → number ≡ k → (k ≡ 0 → ⊥) → frame_decoded b m out ≡ frame_refused k left out
       go zero g h = absurd (h refl)
       go (suc k) g h = rw (g, frame_decoded)
 
@@ -145,7 +145,7 @@ module _ (b : List ℕ) (m : Memory) (out : List ℕ) where
     unfolding frame_decoded
     decoded_into = rw (w, frame_decoded)
 
-    pub decoded_long : 524287 < length first → frame_decoded b m out ≡ frame_refused_lem 18 left out
+    pub decoded_long : 524287 < length first → frame_decoded b m out ≡ frame_refused 18 left out
     unfolding frame_into
     decoded_long l = decoded_into ∙ rw (lt-leb (length first) 524287 l, frame_into)
 
@@ -153,7 +153,7 @@ module _ (b : List ℕ) (m : Memory) (out : List ℕ) where
       long : length (recoded_frame b m) ≡ 10 + length first + length tokens
       long = whole_long b first tokens ten
 
-      pub decoded_full : length out < 10 + length first + length tokens → frame_decoded b m out ≡ frame_refused_lem 16 left out
+      pub decoded_full : length out < 10 + length first + length tokens → frame_decoded b m out ≡ frame_refused 16 left out
       unfolding frame_into
       decoded_full k = decoded_into ∙ rw (le-leb (length first) 524287 l, lt-leb (length (recoded_frame b m)) (length out) (omega (arith, long)), frame_into)
 
@@ -186,12 +186,12 @@ module _ {b : List ℕ} {t : Tile} {h : List ℤ} (k : IsTaken b t h) (y : Bytes
   pub frame_refused_lem : (q.number ≡ 0 → ⊥) → {r : ℕ} {x : FrameRecoded} → Numbered q.number n r → x ≡ no_frame r → frame_ended x mem new ≡ frame_decoded b m out
   frame_refused_lem a z f = ap (λ (x : FrameRecoded). frame_ended x mem new) f ∙ go here a z
     where
-      go : {x : TokensEnded} → At x → (x.answer.number ≡ 0 → ⊥) → {r : ℕ} → Numbered x.answer.number n r → frame_refused_lem r x.mem x.out ≡ frame_decoded b m out
-      go (refused w) a z = ap (λ (r : ℕ). frame_refused_lem r (left b m out) out) (z.other (λ s. omega (arith, picture_below (taken_call b) m, s))) ∙ sym (decoded_told b m out w)
+      go : {x : TokensEnded} → At x → (x.answer.number ≡ 0 → ⊥) → {r : ℕ} → Numbered x.answer.number n r → frame_refused r x.mem x.out ≡ frame_decoded b m out
+      go (refused w) a z = ap (λ (r : ℕ). frame_refused r (left b m out) out) (z.other (λ s. omega (arith, picture_below (taken_call b) m, s))) ∙ sym (decoded_told b m out w)
       go (full w l) a z =
           ⊎_elim
-          (λ (s : 524287 < n). ap (λ (r : ℕ). frame_refused_lem r (left b m out) out) (z.long refl s) ∙ sym (decoded_long b m out w (omega (arith, s, size w))))
-          (λ (s : n ≤ 524287). ap (λ (r : ℕ). frame_refused_lem r (left b m out) out) (z.room refl s) ∙ sym (decoded_full b m out w (taken_ten k) (omega (arith, s, size w)) (omega (arith, l, o.most s, size w))))
+          (λ (s : 524287 < n). ap (λ (r : ℕ). frame_refused r (left b m out) out) (z.long refl s) ∙ sym (decoded_long b m out w (omega (arith, s, size w))))
+          (λ (s : n ≤ 524287). ap (λ (r : ℕ). frame_refused r (left b m out) out) (z.room refl s) ∙ sym (decoded_full b m out w (taken_ten k) (omega (arith, s, size w)) (omega (arith, l, o.most s, size w))))
           (lt_or 524287 n)
       go (there w l) a z = absurd (a refl)
 
@@ -241,7 +241,7 @@ module _ (b : List ℕ) (m : Memory) (out : List ℕ) {t : Taken} (e : t ≡ tak
   unfolding recode_frame_of
   frame_untaken h f = ap (λ (x : FrameRecoded). frame_ended x m out) f ∙ go t.answer.number (ap (λ (x : Taken). x.answer.number) e) h
     where
-      go : (k : ℕ) → k ≡ (taken_of b).answer.number → (k ≡ 0 → ⊥) → frame_refused_lem k m out ≡ recode_frame_of b m out
+      go : (k : ℕ) → k ≡ (taken_of b).answer.number → (k ≡ 0 → ⊥) → frame_refused k m out ≡ recode_frame_of b m out
       go zero g h = absurd (h refl)
       go (suc k) g h = rw (← g, recode_frame_of)
 

@@ -1,5 +1,7 @@
 // A key frame written again with one token partition: literals (bits), the coded header before the partition count (before) and behind it
 // (after), trees of symbols (tree), the modes of a macroblock (mode), the first partition whole (first), and the call.
+#![tactic(auto)]
+
 mod after;
 mod before;
 mod bits;

@@ -1,40 +1,44 @@
 // Runs every case of the corpus (data/) and prints for each its name, its case line and, unless the file is malformed, the hashes
 // of Y, U, V, column memory, mode memory and strengths after the picture call.
-ghost use Rattle.std.specs.Prelude.{◌≡◌, length};
+#![tactic(auto)]
+
+ghost use Rattle.std.specs.Prelude.{◌≡◌, ◌<◌, length};
+ghost use Rattle.std.specs.Str.{IsAscii};
 
 use casefile::run::{Hashes, Ran, run};
+use std::io::Read;
+use std::rt::Files;
+use std::{fs, io, str};
 
-fn show(n: u64) {
-    io::write_all(1, b" ");
-    io::print_decimal(1, n);
+fn show(rt: &impl Print, n: u64) -> io::Result<()> {
+    print!(rt; " {n}")
 }
 
-fn show_hash(h: u64) {
-    io::write_all(1, b" ");
-    io::print_hex(1, h, 16);
+fn show_hash(rt: &impl Print, h: u64) -> io::Result<()> {
+    print!(rt; " {h:016x}")
 }
 
-fn show_hashes(h: Hashes) {
-    show_hash(h.y);
-    show_hash(h.u);
-    show_hash(h.v);
-    show_hash(h.columns);
-    show_hash(h.modes);
-    show_hash(h.strengths);
+fn show_hashes(rt: &impl Print, h: Hashes) -> io::Result<()> {
+    show_hash(rt, h.y)?;
+    show_hash(rt, h.u)?;
+    show_hash(rt, h.v)?;
+    show_hash(rt, h.columns)?;
+    show_hash(rt, h.modes)?;
+    show_hash(rt, h.strengths)
 }
 
-fn show_ran(r: Ran) {
+fn show_ran(rt: &impl Print, r: Ran) -> io::Result<()> {
     let sums = r.sums;
-    show(r.number as u64);
-    show(r.k as u64);
-    show(sums.y as u64);
-    show(sums.u as u64);
-    show(sums.v as u64);
+    show(rt, r.number as u64)?;
+    show(rt, r.k as u64)?;
+    show(rt, sums.y as u64)?;
+    show(rt, sums.u as u64)?;
+    show(rt, sums.v as u64)?;
     if r.number != 10 {
         let hashes = r.hashes;
-        show_hashes(hashes);
+        show_hashes(rt, hashes)?;
     }
-    io::write_all(1, b"\n");
+    print!(rt; "\n")
 }
 
 // One byte more than the longest case file.
@@ -45,25 +49,27 @@ fn buffer() -> [u8; 65537]
 }
 
 // The case of this name; false where there is none.
-fn one(name: &[u8]) -> bool {
-    let fd = os::open_read(name);
-    if fd < 0 {
-        return false;
-    }
+fn one(rt: &(impl Files + Print), name: &str) -> io::Result<bool> {
+    let Ok(opened) = fs::open(rt, name) else {
+        return Ok(false);
+    };
     let mut file = buffer();
-    let n = io::read_full(fd, &mut file);
-    libc::close(fd);
-    io::write_all(1, name);
-    show_ran(run(&file[..n]));
-    true
+    // `copy` moves no more than `take` lets through, but doesn't say so.
+    let n = io::copy(&mut opened.take(65537), &mut &mut file[..])?.min(65537) as usize;
+    print!(rt; "{name}")?;
+    show_ran(rt, run(&file[..n]))?;
+    Ok(true)
 }
 
-fn digit(n: usize) -> u8 {
+fn digit(n: usize) -> u8
+    ensures { result < 128 }
+{
     (48 + n % 10) as u8
 }
 
 fn named(n: usize) -> [u8; 15]
-    ensures { 15 ≡ length result }
+    ensures len { 15 ≡ length result }
+    ensures ascii { IsAscii result }
 {
     [
         b'n',
@@ -85,7 +91,8 @@ fn named(n: usize) -> [u8; 15]
 }
 
 fn in_folder(f: [u8; 4], n: usize) -> [u8; 14]
-    ensures { 14 ≡ length result }
+    ensures len { 14 ≡ length result }
+    ensures ascii { IsAscii f → IsAscii result }
 {
     [
         f[0],
@@ -106,31 +113,30 @@ fn in_folder(f: [u8; 4], n: usize) -> [u8; 14]
 }
 
 // Case n of a folder: 0 is named/, 1 real/, 2 fuzz/.
-fn numbered(folder: usize, n: usize) -> bool {
+fn numbered(rt: &(impl Files + Print), folder: usize, n: usize) -> io::Result<bool> {
     if folder == 0 {
         let name = named(n);
-        return one(&name);
+        return one(rt, str::from_utf8(&name).unwrap());
     }
     if folder == 1 {
         let name = in_folder([b'r', b'e', b'a', b'l'], n);
-        return one(&name);
+        return one(rt, str::from_utf8(&name).unwrap());
     }
     let name = in_folder([b'f', b'u', b'z', b'z'], n);
-    one(&name)
+    one(rt, str::from_utf8(&name).unwrap())
 }
 
-fn all(folder: usize) {
-    let mut n = 0;
-    while n < 10000 {
-        if !numbered(folder, n) {
-            return;
+fn all(rt: &(impl Files + Print), folder: usize) -> io::Result<()> {
+    for n in 0..10000 {
+        if !numbered(rt, folder, n)? {
+            return Ok(());
         }
-        n = n + 1;
     }
+    Ok(())
 }
 
-fn main() {
-    all(0);
-    all(1);
-    all(2);
+fn main(rt: HostRuntime) -> io::Result<()> {
+    all(&rt, 0)?;
+    all(&rt, 1)?;
+    all(&rt, 2)
 }

@@ -1,5 +1,7 @@
 // The rescue call (request M-108): a picture whose token partition ends too soon goes on from its modes. The argument checks (checks), one
 // macroblock in its place (turn), those after the stop (rest), the marks (marks), and the call.
+#![tactic(auto)]
+
 mod checks;
 mod marks;
 mod rest;

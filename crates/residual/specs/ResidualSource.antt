@@ -87,12 +87,12 @@ abbrev laid : ℕ → SourceState → Model
 laid i m = record { top = m.top; left = m.left; coefficients = flat_to i m.dc m.blocks; empty = m.empty }
 
 -- all 24
-abbrev pub laid_out_lem : SourceState → Model
-laid_out_lem m = record { top = m.top; left = m.left; coefficients = build 384 (λ j. get_or (get_or m.blocks (j / 16) []) (j % 16) (pos 0)); empty = m.empty }
+abbrev pub laid_out : SourceState → Model
+laid_out m = record { top = m.top; left = m.left; coefficients = build 384 (λ j. get_or (get_or m.blocks (j / 16) []) (j % 16) (pos 0)); empty = m.empty }
 
 -- of a run
 abbrev pub laid_given : Given SourceState → Given Model
-laid_given (given m r) = given (laid_out_lem m) r
+laid_given (given m r) = given (laid_out m) r
 laid_given missing = missing
 
 -- ---- how a block starts
@@ -205,7 +205,7 @@ zeros_start : (blocks : List (List ℤ)) → replicate 384 (pos 0) ≡ flat_to 0
 unfolding spread
 zeros_start blocks = spread_start (replicate 16 (pos 0)) blocks
 
-zeros_laid : (top left : List ℕ) → initial top left ≡ laid_out_lem (source_initial top left)
+zeros_laid : (top left : List ℕ) → initial top left ≡ laid_out (source_initial top left)
 zeros_laid top left = ap (λ (l : List ℤ). record { top = top; left = left; coefficients = l; empty = true }) (sym (build_listed 384 _))
 
 all_read : (dc : List ℤ) (blocks : List (List ℤ)) → flat_to 24 dc blocks ≡ build 384 (λ j. get_or (get_or blocks (j / 16) []) (j % 16) (pos 0))
@@ -221,7 +221,7 @@ module _ (table : List ℕ) (f : Factors) (small : Bool) (s : List ℕ) where
   unfolding source_from source_advance
   from_source zero i m r e n =
       let q : i ≡ 24 = omega arith in
-      let z : flat_to i m.dc m.blocks ≡ (laid_out_lem m).coefficients = rw q (all_read m.dc m.blocks) in
+      let z : flat_to i m.dc m.blocks ≡ (laid_out m).coefficients = rw q (all_read m.dc m.blocks) in
       (blocks_none table f s (laid i m) r small i).gave ∙ ap (λ (l : List ℤ). given (record { top = m.top; left = m.left; coefficients = l; empty = m.empty }) r) z ∙ sym (ap laid_given (run_done m s r))
   from_source (suc more) i m r e n = go (λ m r. from_source more (i + 1) m r (omega arith)) (run own s r) refl
     where

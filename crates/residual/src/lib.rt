@@ -1,4 +1,6 @@
 // The residual of a macroblock: the coefficients of its blocks and what they leave behind for its neighbours (RFC 6386, section 13).
+#![tactic(auto)]
+
 ghost use Rattle.std.specs.Prelude.{◌≡◌, length};
 ghost use Rattle.header.specs.Header.{probability_count};
 ghost use Rattle.reader.specs.Reading.{Valid, count};

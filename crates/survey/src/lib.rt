@@ -1,4 +1,6 @@
 // The survey over a delivery (request M-110): what one picture counts (tally), records added (sums), and the call.
+#![tactic(auto)]
+
 pub mod sums;
 mod tally;
 

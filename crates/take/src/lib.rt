@@ -1,5 +1,7 @@
 // THE call: a key frame's own header, made into what the picture call takes; and the same with the 1096 entries lent by the caller, which
 // keep what they held unless all is taken.
+#![tactic(auto)]
+
 ghost use Rattle.std.specs.Prelude.{◌≡◌};
 ghost use Rattle.frame.specs.declared.take.Taken.{Taken};
 ghost use Rattle.frame.specs.Take.{taken_of, stored_of, into_of};

@@ -1,5 +1,7 @@
 // What a call is given besides the memory that it is lent: the tile, the argument checks of it (checks), and its partitions, cut
 // out of the bytes and opened (partitions).
+#![tactic(auto)]
+
 pub mod checks;
 pub mod partitions;
 

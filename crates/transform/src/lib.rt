@@ -1,5 +1,7 @@
 // The two inverse transforms of a block of 4 by 4 coefficients: RFC 6386 section 14.3 (Walsh-Hadamard) and section 14.4 (DCT).
 // A block is handed from pass to pass as four rows of four numbers.
+#![tactic(auto)]
+
 pub mod lanes;
 mod short;
 

@@ -1,6 +1,8 @@
 // Reads symbols until the bytes run out, and prints how many: what docs/SPEED.md counts instructions on. The first byte of
 // standard input says how: 0 not at all, 1 one symbol after another, 2 leaves of a tree by an `if` chain over `symbol`, 3 the
 // same leaves by `walk_tree`. `chain` is the worked example of such a chain: it is proved equal to the walk of its tree.
+#![tactic(auto)]
+
 ghost use Rattle.std.specs.Prelude.{◌≡◌, length};
 ghost use Rattle.reader.specs.Reading.{Valid, symbol, run};
 ghost use Rattle.reader.specs.Trees.{walk_of};
@@ -8,6 +10,8 @@ ghost use Rattle.try_counted.specs.Segment.{segment_tree, last_of};
 
 use reader::boolean::{Reader, Symbol, open};
 use reader::trees::{Walked, walk_tree};
+use std::io;
+use std::io::Read;
 
 // The segment tree (RFC 6386, section 10).
 const TREE: [i16; 6] = [1, 2, 0, -1, -2, -3];
@@ -101,13 +105,14 @@ fn counted(how: u8, s: &[u8]) -> usize {
     0
 }
 
-fn main() {
-    let mut input = io::large_buffer();
-    let n = io::read_full(0, &mut input);
+// Standard input's first 65536 bytes.
+fn main(rt: HostRuntime) -> io::Result<()> {
+    let mut input = [0; 65536];
+    // `copy` moves no more than `take` lets through, but doesn't say so.
+    let n = io::copy(&mut rt.reader().take(65536), &mut &mut input[..])?.min(65536) as usize;
     if n < 1 {
-        return;
+        return Ok(());
     }
     let how = input[0];
-    io::print_decimal(1, counted(how, &input[1..n]) as u64);
-    io::write_all(1, b"\n");
+    println!(rt; "{}", counted(how, &input[1..n]))
 }

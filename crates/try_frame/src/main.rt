@@ -1,81 +1,78 @@
 // Reads a key frame from standard input and prints what is taken of it: the number, the true sizes, the tile's sides and the filter kind,
 // the partitions, the reader and the 1096 entries, which stay 77 where the frame is refused.
+#![tactic(auto)]
+
 ghost use Rattle.std.specs.Prelude.{◌≡◌, length};
 
 use frame::take::Answer;
 use header::entries::probability;
+use std::io;
+use std::io::Read;
 use take::take_into;
 use tile::{Span, Tile};
 
-fn show(n: u64) {
-    io::write_all(1, b" ");
-    io::print_decimal(1, n);
+fn show(rt: &impl Print, n: u64) -> io::Result<()> {
+    print!(rt; " {n}")
 }
 
-fn show_span(s: Span) {
-    show(s.start as u64);
-    show(s.len as u64);
+fn show_span(rt: &impl Print, s: Span) -> io::Result<()> {
+    show(rt, s.start as u64)?;
+    show(rt, s.len as u64)
 }
 
-fn show_tokens(t: Tile) {
+fn show_tokens(rt: &impl Print, t: Tile) -> io::Result<()> {
     let tokens = t.tokens;
-    let mut i = 0;
-    while i < 8 {
+    for i in 0..8 {
         if i < t.count {
-            io::write_all(1, b"\ntoken");
-            show_span(tokens[i]);
+            print!(rt; "\ntoken")?;
+            show_span(rt, tokens[i])?;
         }
-        i = i + 1;
     }
+    Ok(())
 }
 
-fn show_tile(t: Tile) {
-    io::write_all(1, b"\nfirst");
-    show_span(t.first);
-    show_tokens(t);
-    io::write_all(1, b"\nreader");
+fn show_tile(rt: &impl Print, t: Tile) -> io::Result<()> {
+    print!(rt; "\nfirst")?;
+    show_span(rt, t.first)?;
+    show_tokens(rt, t)?;
+    print!(rt; "\nreader")?;
     let r = t.reader;
-    show(r.at as u64);
-    show(r.range as u64);
-    show(r.shifts as u64);
-    show(r.window as u64);
+    show(rt, r.at as u64)?;
+    show(rt, r.range as u64)?;
+    show(rt, r.shifts as u64)?;
+    show(rt, r.window as u64)
 }
 
-fn show_answer(a: Answer) {
-    io::print_decimal(1, a.number as u64);
-    io::write_all(1, b"\nsize");
+fn show_answer(rt: &impl Print, a: Answer) -> io::Result<()> {
+    print!(rt; "{}\nsize", a.number)?;
     let shown = a.shown;
-    show(shown.width as u64);
-    show(shown.height as u64);
-    io::write_all(1, b" sides");
+    show(rt, shown.width as u64)?;
+    show(rt, shown.height as u64)?;
+    print!(rt; " sides")?;
     let t = a.tile;
-    show(t.width as u64);
-    show(t.height as u64);
+    show(rt, t.width as u64)?;
+    show(rt, t.height as u64)?;
     if a.simple {
-        io::write_all(1, b" simple");
+        print!(rt; " simple")?;
     }
-    show_tile(t);
-    io::write_all(1, b"\n");
+    show_tile(rt, t)?;
+    print!(rt; "\n")
 }
 
 // An entry in -255..255.
-fn show_entry(x: i32) {
+fn show_entry(rt: &impl Print, x: i32) -> io::Result<()> {
     let p = probability(x);
     if x < 0 {
-        io::write_all(1, b" -");
-        io::print_decimal(1, 256 - p as u64);
-        return;
+        return print!(rt; " -{}", 256 - p as u64);
     }
-    show(p as u64);
+    show(rt, p as u64)
 }
 
-fn show_entries(header: &[i32]) {
-    let mut j = 0;
-    while j < header.len() {
-        show_entry(header[j]);
-        j = j + 1;
+fn show_entries(rt: &impl Print, header: &[i32]) -> io::Result<()> {
+    for x in header {
+        show_entry(rt, *x)?;
     }
-    io::write_all(1, b"\n");
+    print!(rt; "\n")
 }
 
 fn buffer() -> [u8; 65537]
@@ -84,10 +81,11 @@ fn buffer() -> [u8; 65537]
     [0; 65537]
 }
 
-fn main() {
+fn main(rt: HostRuntime) -> io::Result<()> {
     let mut file = buffer();
     let mut header = [77i32; 1096];
-    let n = io::read_full(0, &mut file);
-    show_answer(take_into(&file[..n], &mut header));
-    show_entries(&header);
+    // `copy` moves no more than `take` lets through, but doesn't say so.
+    let n = io::copy(&mut rt.reader().take(65537), &mut &mut file[..])?.min(65537) as usize;
+    show_answer(&rt, take_into(&file[..n], &mut header))?;
+    show_entries(&rt, &header)
 }

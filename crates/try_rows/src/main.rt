@@ -1,9 +1,12 @@
 // Runs the worked numbers of the scope through the code and prints them: those of crates/promises/specs/Worked.antt, which are
 // proved of the definitions, and those that are only run.
+#![tactic(auto)]
+
 use coefficients::block::{Block, decode};
 use filter::filter;
 use numbers::{Wrapped, wrap16};
 use reader::boolean::open;
+use std::io;
 use transform::transform;
 
 fn magnitude(v: i32) -> u64 {
@@ -13,56 +16,53 @@ fn magnitude(v: i32) -> u64 {
     v as u64
 }
 
-fn show(v: i32) {
+fn show(rt: &impl Print, v: i32) -> io::Result<()> {
     if v < 0 {
-        io::write_all(1, b" -");
+        print!(rt; " -")?;
     } else {
-        io::write_all(1, b" ");
+        print!(rt; " ")?;
     }
-    io::print_decimal(1, magnitude(v));
+    print!(rt; "{}", magnitude(v))
 }
 
-fn show_sample(x: u8) {
-    io::write_all(1, b" ");
-    io::print_decimal(1, x as u64);
+fn show_sample(rt: &impl Print, x: u8) -> io::Result<()> {
+    print!(rt; " {x}")
 }
 
 // A transform of a DC alone: its first and its last sample.
-fn dc(d: i32, walsh: bool) {
+fn dc(rt: &impl Print, d: i32, walsh: bool) -> io::Result<()> {
     let mut c = [0; 16];
     c[0] = d;
     let t = transform(&c, walsh);
     let samples = t.samples;
     if walsh {
-        io::write_all(1, b"walsh");
+        print!(rt; "walsh")?;
     } else {
-        io::write_all(1, b"dct");
+        print!(rt; "dct")?;
     }
-    show(d);
-    show(samples[0]);
-    show(samples[15]);
-    io::write_all(1, b"\n");
+    show(rt, d)?;
+    show(rt, samples[0])?;
+    show(rt, samples[15])?;
+    print!(rt; "\n")
 }
 
-fn product(x: i64) {
+fn product(rt: &impl Print, x: i64) -> io::Result<()> {
     let Wrapped::Value(v) = wrap16(x) else {
-        return;
+        return Ok(());
     };
-    io::write_all(1, b"product");
-    show(v);
-    io::write_all(1, b"\n");
+    print!(rt; "product")?;
+    show(rt, v)?;
+    print!(rt; "\n")
 }
 
-fn edge(simple: bool, macroblock: bool, limit: u8) {
+fn edge(rt: &impl Print, simple: bool, macroblock: bool, limit: u8) -> io::Result<()> {
     let e = [100, 100, 100, 100, 110, 110, 110, 110];
     let out = filter(&e, simple, macroblock, limit, 0, 0);
-    io::write_all(1, b"edge");
-    let mut i = 0;
-    while i < 8 {
-        show_sample(out[i]);
-        i = i + 1;
+    print!(rt; "edge")?;
+    for x in out {
+        show_sample(rt, x)?;
     }
-    io::write_all(1, b"\n");
+    print!(rt; "\n")
 }
 
 // A block's kind: Y2, then sixteen of luma, then chroma.
@@ -98,37 +98,33 @@ fn held(s: &[u8]) -> usize {
     i
 }
 
-fn zeros(s: &[u8]) {
-    io::write_all(1, b"zeros ");
-    io::print_decimal(1, s.len() as u64);
-    io::write_all(1, b" block ");
-    io::print_decimal(1, held(s) as u64);
-    io::write_all(1, b"\n");
+fn zeros(rt: &impl Print, s: &[u8]) -> io::Result<()> {
+    println!(rt; "zeros {} block {}", s.len(), held(s))
 }
 
-fn main() {
-    dc(3, false);
-    dc(4, false);
-    dc(-4, false);
-    dc(-5, false);
-    dc(5, true);
-    dc(-4, true);
-    dc(4, true);
-    dc(-3, true);
-    product(32752);
-    product(32768);
-    product(-32768);
-    product(65536);
-    product(331898);
-    edge(false, true, 24);
-    edge(false, false, 24);
-    edge(true, false, 24);
-    edge(false, true, 25);
-    edge(false, false, 25);
-    edge(true, false, 25);
-    zeros(&[0; 0]);
-    zeros(&[0; 1]);
-    zeros(&[0; 2]);
-    zeros(&[0; 3]);
-    zeros(&[0; 4]);
+fn main(rt: HostRuntime) -> io::Result<()> {
+    dc(&rt, 3, false)?;
+    dc(&rt, 4, false)?;
+    dc(&rt, -4, false)?;
+    dc(&rt, -5, false)?;
+    dc(&rt, 5, true)?;
+    dc(&rt, -4, true)?;
+    dc(&rt, 4, true)?;
+    dc(&rt, -3, true)?;
+    product(&rt, 32752)?;
+    product(&rt, 32768)?;
+    product(&rt, -32768)?;
+    product(&rt, 65536)?;
+    product(&rt, 331898)?;
+    edge(&rt, false, true, 24)?;
+    edge(&rt, false, false, 24)?;
+    edge(&rt, true, false, 24)?;
+    edge(&rt, false, true, 25)?;
+    edge(&rt, false, false, 25)?;
+    edge(&rt, true, false, 25)?;
+    zeros(&rt, &[0; 0])?;
+    zeros(&rt, &[0; 1])?;
+    zeros(&rt, &[0; 2])?;
+    zeros(&rt, &[0; 3])?;
+    zeros(&rt, &[0; 4])
 }

@@ -1,6 +1,8 @@
 // Decodes single macroblocks and prints what each gives: the answer's number, the sums of the three planes, the strengths, the
 // modes, what is left for the macroblocks around it, and where the readers stand. Standard input is a header and a list of cases;
 // tests/model/singles.py, which also made the expected lines, says how.
+#![tactic(auto)]
+
 ghost use Rattle.std.specs.Prelude.{◌≡◌, ◌+◌, ◌*◌, ◌<◌, ◌≤◌, pos, negsuc, length, get_or};
 ghost use Rattle.numbers.specs.In.{In};
 ghost use Rattle.macroblock.specs.Macroblock.{finish_number_of};
@@ -15,6 +17,8 @@ use macroblock::ending::{Finish, Outcome};
 use modes::answers::Kinds;
 use modes::contexts::Context;
 use reader::boolean::open;
+use std::io;
+use std::io::Read;
 use whole::decode;
 
 // ---- numbers of two bytes
@@ -71,41 +75,41 @@ fn sum(p: &[u8]) -> u64
 }
 
 // ---- what is printed
-fn show(n: u64) {
-    io::write_all(1, b" ");
-    io::print_decimal(1, n);
+fn show(rt: &impl Print, n: u64) -> io::Result<()> {
+    print!(rt; " {n}")
 }
 
-fn digits(l: &[u8]) {
-    for k in 0..l.len() {
-        io::print_decimal(1, wide(l[k]) as u64);
+fn digits(rt: &impl Print, l: &[u8]) -> io::Result<()> {
+    for x in l {
+        print!(rt; "{x}")?;
     }
+    Ok(())
 }
 
 fn flag(b: bool) -> u64 {
     if b { 1 } else { 0 }
 }
 
-fn show_strength(t: Strength) {
-    show(t.limit as u64);
-    show(t.inner as u64);
-    show(t.threshold as u64);
-    show(t.inside as u64);
+fn show_strength(rt: &impl Print, t: Strength) -> io::Result<()> {
+    show(rt, t.limit as u64)?;
+    show(rt, t.inner as u64)?;
+    show(rt, t.threshold as u64)?;
+    show(rt, t.inside as u64)
 }
 
-fn show_kinds(k: Kinds) {
-    show(k.segment as u64);
-    show(flag(k.skip));
-    show(flag(k.small));
-    show(k.chroma as u64);
+fn show_kinds(rt: &impl Print, k: Kinds) -> io::Result<()> {
+    show(rt, k.segment as u64)?;
+    show(rt, flag(k.skip))?;
+    show(rt, flag(k.small))?;
+    show(rt, k.chroma as u64)
 }
 
-fn show_context(c: Context) {
+fn show_context(rt: &impl Print, c: Context) -> io::Result<()> {
     let modes = c.modes;
     let flags = c.flags;
-    io::write_all(1, b" ");
-    digits(&modes);
-    digits(&flags);
+    print!(rt; " ")?;
+    digits(rt, &modes)?;
+    digits(rt, &flags)
 }
 
 fn number(f: Finish) -> u64
@@ -119,39 +123,38 @@ fn number(f: Finish) -> u64
     }
 }
 
-fn show_places(f: Finish) {
+fn show_places(rt: &impl Print, f: Finish) -> io::Result<()> {
     let Finish::Done(readers) = f else {
-        io::write_all(1, b" 0 0");
-        return;
+        return print!(rt; " 0 0");
     };
-    show(readers.first.at as u64);
-    show(readers.token.at as u64);
+    show(rt, readers.first.at as u64)?;
+    show(rt, readers.token.at as u64)
 }
 
-fn show_reads(r: SymbolCounts) {
-    show(r.first);
-    show(r.tokens);
-    io::write_all(1, b"\n");
+fn show_reads(rt: &impl Print, r: SymbolCounts) -> io::Result<()> {
+    show(rt, r.first)?;
+    show(rt, r.tokens)?;
+    print!(rt; "\n")
 }
 
-fn show_outcome(w: Outcome, y: &[u8], u: &[u8], v: &[u8]) {
+fn show_outcome(rt: &impl Print, w: Outcome, y: &[u8], u: &[u8], v: &[u8]) -> io::Result<()> {
     let answer = w.answer;
     let strength = w.strength;
     let kinds = w.kinds;
     let modes = w.modes;
     let top = w.top;
     let left = w.left;
-    io::print_decimal(1, number(answer));
-    show(sum(y));
-    show(sum(u));
-    show(sum(v));
-    show_strength(strength);
-    show_kinds(kinds);
-    io::write_all(1, b" ");
-    digits(&modes);
-    show_context(top);
-    show_context(left);
-    show_places(answer);
+    print!(rt; "{}", number(answer))?;
+    show(rt, sum(y))?;
+    show(rt, sum(u))?;
+    show(rt, sum(v))?;
+    show_strength(rt, strength)?;
+    show_kinds(rt, kinds)?;
+    print!(rt; " ")?;
+    digits(rt, &modes)?;
+    show_context(rt, top)?;
+    show_context(rt, left)?;
+    show_places(rt, answer)
 }
 
 // ---- the cases
@@ -166,7 +169,15 @@ fn context(b: &[u8]) -> Context
 }
 
 // One case: 34 bytes, and its two partitions opened.
-fn one(case: &[u8], first: &[u8], tokens: &[u8], readers: Readers, frame: Frame, table: &[u8])
+fn one(
+    rt: &impl Print,
+    case: &[u8],
+    first: &[u8],
+    tokens: &[u8],
+    readers: Readers,
+    frame: Frame,
+    table: &[u8],
+) -> io::Result<()>
     requires { length case.now ≡ 34 }
 {
     let seed = pair(case, 2) as u32;
@@ -190,54 +201,65 @@ fn one(case: &[u8], first: &[u8], tokens: &[u8], readers: Readers, frame: Frame,
     let read = decode(
         first, tokens, readers, frame, table, around, place, &mut y, &mut u, &mut v,
     );
-    show_outcome(read.outcome, &y, &u, &v);
-    show_reads(read.reads);
+    show_outcome(rt, read.outcome, &y, &u, &v)?;
+    show_reads(rt, read.reads)
 }
 
-fn opened(case: &[u8], first: &[u8], tokens: &[u8], frame: Frame, table: &[u8])
+fn opened(
+    rt: &impl Print,
+    case: &[u8],
+    first: &[u8],
+    tokens: &[u8],
+    frame: Frame,
+    table: &[u8],
+) -> io::Result<()>
     requires { length case.now ≡ 34 }
 {
     let readers = Readers {
         first: open(first),
         token: open(tokens),
     };
-    one(case, first, tokens, readers, frame, table);
+    one(rt, case, first, tokens, readers, frame, table)
 }
 
-fn cases(list: &[u8], frame: Frame, table: &[u8]) {
+fn cases(rt: &impl Print, list: &[u8], frame: Frame, table: &[u8]) -> io::Result<()> {
     let mut at = 0;
     while 34 <= list.len() - at {
         let from = at + 34;
         let middle = from + pair(list, at + 4);
         let end = middle + pair(list, at + 6);
         if list.len() < end {
-            return;
+            return Ok(());
         }
         opened(
+            rt,
             &list[at..from],
             &list[from..middle],
             &list[middle..end],
             frame,
             table,
-        );
+        )?;
         at = end;
     }
+    Ok(())
 }
 
-fn all(list: &[u8]) {
+fn all(rt: &impl Print, list: &[u8]) -> io::Result<()> {
     if list.len() < 2192 {
-        return;
+        return Ok(());
     }
     let h = entries(list);
     let p = probabilities(&h);
     let table = p.bytes;
     let f = take(&h);
     let frame = f.frame;
-    cases(&list[2192..], frame, &table);
+    cases(rt, &list[2192..], frame, &table)
 }
 
-fn main() {
-    let mut list = io::large_buffer();
-    let n = io::read_full(0, &mut list);
-    all(&list[..n]);
+// Standard input's first 65536 bytes.
+fn main(rt: HostRuntime) -> io::Result<()> {
+    let mut list = [0; 65536];
+    // `copy` moves no more than `take` lets through, but doesn't say so.
+    let n = io::copy(&mut rt.reader().take(65536), &mut &mut list[..])?.min(65536) as usize;
+    all(&rt, &list[..n])
 }

@@ -1,16 +1,18 @@
 // The limits of a picture's size and of the count of token partitions, run through the picture call: for each width, height and
 // count the number and the macroblocks finished. Case files end at sides of 64, so these tiles are made here: every partition is
 // the same 65536 zero bytes, and the header is 0 but for 128 in 38..1093.
+#![tactic(auto)]
+
 ghost use Rattle.std.specs.Prelude.{◌≡◌, length};
 
 use choices::answer::Decoded;
 use picture::decode;
 use reader::boolean::open;
+use std::io;
 use tile::{Span, Tile};
 
-fn show(n: usize) {
-    io::write_all(1, b" ");
-    io::print_decimal(1, n as u64);
+fn show(rt: &impl Print, n: usize) -> io::Result<()> {
+    print!(rt; " {n}")
 }
 
 fn header() -> [i32; 1096]
@@ -56,28 +58,28 @@ fn strengths() -> [u8; 6144]
     [0; 6144]
 }
 
-fn answer(d: Decoded) {
+fn answer(rt: &impl Print, d: Decoded) -> io::Result<()> {
     match d {
         Decoded::Whole(k) => {
-            io::write_all(1, b" 0");
-            show(k);
+            print!(rt; " 0")?;
+            show(rt, k)
         }
         Decoded::Refused(n) => {
-            show(n as usize);
-            show(0);
+            show(rt, n as usize)?;
+            show(rt, 0)
         }
         Decoded::NoModes(k) => {
-            io::write_all(1, b" 6");
-            show(k);
+            print!(rt; " 6")?;
+            show(rt, k)
         }
         Decoded::NoTokens(k) => {
-            io::write_all(1, b" 7");
-            show(k);
+            print!(rt; " 7")?;
+            show(rt, k)
         }
     }
 }
 
-fn decoded(width: usize, height: usize, count: usize) {
+fn decoded(rt: &impl Print, width: usize, height: usize, count: usize) -> io::Result<()> {
     let bytes = zeros();
     let h = header();
     let all = Span {
@@ -102,28 +104,28 @@ fn decoded(width: usize, height: usize, count: usize) {
         &bytes, given, &h, &mut y, &mut u, &mut v, &mut c, &mut m, &mut s,
     );
     let end = d.answer;
-    answer(end);
+    answer(rt, end)
 }
 
-fn row(width: usize, height: usize, count: usize) {
-    io::print_decimal(1, width as u64);
-    show(height);
-    show(count);
-    io::write_all(1, b":");
-    decoded(width, height, count);
-    io::write_all(1, b"\n");
+fn row(rt: &impl Print, width: usize, height: usize, count: usize) -> io::Result<()> {
+    print!(rt; "{width}")?;
+    show(rt, height)?;
+    show(rt, count)?;
+    print!(rt; ":")?;
+    decoded(rt, width, height, count)?;
+    print!(rt; "\n")
 }
 
 // 16 by 16 passes checks 1 and 2, and is refused by 4 alone: the memory lent is that of 16384 by 16.
-fn main() {
-    row(16384, 16, 1);
-    row(16384, 16, 8);
-    row(16, 16, 1);
-    row(0, 16, 1);
-    row(17, 16, 1);
-    row(16400, 16, 1);
-    row(16384, 17, 1);
-    row(16384, 16, 0);
-    row(16384, 16, 9);
-    row(17, 16, 9);
+fn main(rt: HostRuntime) -> io::Result<()> {
+    row(&rt, 16384, 16, 1)?;
+    row(&rt, 16384, 16, 8)?;
+    row(&rt, 16, 16, 1)?;
+    row(&rt, 0, 16, 1)?;
+    row(&rt, 17, 16, 1)?;
+    row(&rt, 16400, 16, 1)?;
+    row(&rt, 16384, 17, 1)?;
+    row(&rt, 16384, 16, 0)?;
+    row(&rt, 16384, 16, 9)?;
+    row(&rt, 17, 16, 9)
 }

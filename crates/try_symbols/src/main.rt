@@ -1,11 +1,15 @@
 // Runs the reader on a list of byte strings and prints what each gives: bits, or the leaf of a tree, or a number, and the reader
 // after it. `m` is a missing byte, 9 a refusal. The list is standard input, 64 bytes a case
 // (tests/model/symbols.py, which also made the expected lines, says how).
+#![tactic(auto)]
+
 ghost use Rattle.std.specs.Prelude.{◌≡◌, ◌≤◌, length};
 
 use reader::boolean::{Reader, Symbol, open};
 use reader::extra::{Number, extra_bits};
 use reader::trees::{Walked, walk_tree};
+use std::io;
+use std::io::Read;
 
 // The token tree (RFC 6386, section 13.2).
 const TREE: [i16; 22] = [
@@ -27,82 +31,64 @@ fn least(x: u8, most: usize) -> usize
     x as usize
 }
 
-fn show(n: u32) {
-    io::write_all(1, b" ");
-    io::print_decimal(1, n as u64);
+fn show(rt: &impl Print, n: u32) -> io::Result<()> {
+    print!(rt; " {n}")
 }
 
-fn show_reader(r: Reader) {
-    io::write_all(1, b" ");
-    io::print_decimal(1, r.at as u64);
-    show(r.range);
-    show(r.shifts);
-    show(r.window);
+fn show_reader(rt: &impl Print, r: Reader) -> io::Result<()> {
+    print!(rt; " {}", r.at)?;
+    show(rt, r.range)?;
+    show(rt, r.shifts)?;
+    show(rt, r.window)
 }
 
-fn show_bit(bit: bool) {
+fn show_bit(rt: &impl Print, bit: bool) -> io::Result<()> {
     if bit {
-        io::write_all(1, b"1");
+        print!(rt; "1")
     } else {
-        io::write_all(1, b"0");
+        print!(rt; "0")
     }
 }
 
 // One symbol for each probability, until a byte is missing.
-fn bits(s: &[u8], r: Reader, probs: &[u8]) {
+fn bits(rt: &impl Print, s: &[u8], r: Reader, probs: &[u8]) -> io::Result<()> {
     let mut next = r;
-    let mut i = 0;
-    while i < probs.len() {
-        match next.symbol(s, probs[i]) {
+    for prob in probs {
+        match next.symbol(s, *prob) {
             Symbol::Got(bit, after) => {
-                show_bit(bit);
+                show_bit(rt, bit)?;
                 next = after;
             }
-            Symbol::Missing => {
-                io::write_all(1, b"m");
-                return;
-            }
-            Symbol::Refused => {
-                io::write_all(1, b"9");
-                return;
-            }
+            Symbol::Missing => return print!(rt; "m"),
+            Symbol::Refused => return print!(rt; "9"),
         }
-        i = i + 1;
     }
-    show_reader(next);
+    show_reader(rt, next)
 }
 
-fn number(s: &[u8], r: Reader, probs: &[u8]) {
+fn number(rt: &impl Print, s: &[u8], r: Reader, probs: &[u8]) -> io::Result<()> {
     let bits = extra_bits(s, r, probs);
     let answer = bits.answer;
     match answer {
         Number::Value(v, after) => {
-            io::print_decimal(1, v as u64);
-            show_reader(after);
+            print!(rt; "{v}")?;
+            show_reader(rt, after)
         }
-        Number::Missing => {
-            io::write_all(1, b"m");
-        }
-        Number::Refused => {
-            io::write_all(1, b"9");
-        }
+        Number::Missing => print!(rt; "m"),
+        Number::Refused => print!(rt; "9"),
     }
 }
 
-fn leaf(s: &[u8], r: Reader, probs: &[u8], start: usize) {
+fn leaf(rt: &impl Print, s: &[u8], r: Reader, probs: &[u8], start: usize) -> io::Result<()> {
     let t = walk_tree(s, r, probs, &TREE, start);
     let answer = t.answer;
     match answer {
         Walked::Leaf(v, after) => {
-            io::print_decimal(1, v as u64);
-            show_reader(after);
+            print!(rt; "{v}")?;
+            show_reader(rt, after)
         }
-        Walked::Missing => {
-            io::write_all(1, b"m");
-        }
-        Walked::Refused => {
-            io::write_all(1, b"9");
-        }
+        Walked::Missing => print!(rt; "m"),
+        Walked::Refused => print!(rt; "9"),
     }
 }
 
@@ -118,7 +104,7 @@ fn given(case: &[u8]) -> Reader
     }
 }
 
-fn run(case: &[u8])
+fn run(rt: &impl Print, case: &[u8]) -> io::Result<()>
     requires { length case.now ≡ 64 }
 {
     let kind = case[0];
@@ -129,31 +115,33 @@ fn run(case: &[u8])
     let s = &case[2..end];
     let probs = &case[33..past];
     if kind == 3 {
-        bits(s, given(case), probs);
-        return;
+        return bits(rt, s, given(case), probs);
     }
     let r = open(s);
     if kind == 0 {
-        bits(s, r, probs);
+        bits(rt, s, r, probs)
     } else if kind == 1 {
-        number(s, r, probs);
+        number(rt, s, r, probs)
     } else {
-        leaf(s, r, probs, least(case[57], 255));
+        leaf(rt, s, r, probs, least(case[57], 255))
     }
 }
 
-fn all(list: &[u8]) {
+fn all(rt: &impl Print, list: &[u8]) -> io::Result<()> {
     let mut at = 0;
     while 64 <= list.len() - at {
         let end = at + 64;
-        run(&list[at..end]);
-        io::write_all(1, b"\n");
+        run(rt, &list[at..end])?;
+        print!(rt; "\n")?;
         at = end;
     }
+    Ok(())
 }
 
-fn main() {
-    let mut list = io::buffer();
-    let n = io::read_full(0, &mut list);
-    all(&list[..n]);
+// Standard input's first 4096 bytes.
+fn main(rt: HostRuntime) -> io::Result<()> {
+    let mut list = [0; 4096];
+    // `copy` moves no more than `take` lets through, but doesn't say so.
+    let n = io::copy(&mut rt.reader().take(4096), &mut &mut list[..])?.min(4096) as usize;
+    all(&rt, &list[..n])
 }

@@ -1,5 +1,7 @@
 // One macroblock, whole (the source's vp8_macroblock): its modes, then its residual, then its three squares, its strengths and the
 // contexts that it leaves. Where a byte is missing nothing is written.
+#![tactic(auto)]
+
 ghost use Rattle.std.specs.Prelude.{◌≡◌, ◌<◌};
 ghost use Rattle.header.specs.Frame.{factors_at};
 ghost use Rattle.modes.specs.Modes.{InRange, macroblock_of};

@@ -21,7 +21,7 @@ use Rattle.residual.specs.Residual.{coordinates, kind_of, spread, second, sixtee
 use Rattle.column.specs.Column.{packed_of, digits_of}
 use Rattle.macroblock.specs.Macroblock.{end_of, step_of}
 use Rattle.picture.specs.Picture.{step_at, run_of, pictured_of, begun_of, Ended, picture_of}
-use Rattle.planes.specs.Paint.{near_of_lem, four_above_of, four_left_of, first_places, edge_of, above_right_of, block_above_right_of, around_of, rows_painted, block_coefficients, block_residual, summed_of, block_painted, blocks_painted, small_at, prediction_rule, square_painted}
+use Rattle.planes.specs.Paint.{near_of, four_above_of, four_left_of, first_places, edge_of, above_right_of, block_above_right_of, around_of, rows_painted, block_coefficients, block_residual, summed_of, block_painted, blocks_painted, small_at, prediction_rule, square_painted}
 use Rattle.predict.specs.Predict.{dc_block_of, sum_of_first}
 use Rattle.transform.specs.Transform.{grid_of, transpose_of, scaled_of, pass_of, rows_of, vertical_pass, horizontal_pass, results_of, samples_of}
 use Rattle.promises.specs.Refusals.{Fine, fine_is}
@@ -101,7 +101,7 @@ outcome rows t x = run_of rows (pictured_of t) 0 (begun_of t (held_of rows x))
 
 computed : Stopped (outcome 2 (whole 0) 7) 0 2 × Stopped (outcome 2 (whole 128) 9) 0 2 × Stopped (outcome 2 cut 9) 7 1 × Stopped (outcome 2 short 7) 6 1
     × (sample_of 1 luma 0 16 (outcome 2 (whole 0) 7).mem ≡ 129) × (sample_of 1 luma 0 16 (outcome 2 (whole 128) 9).mem ≡ 188)
-unfolding build up_to clamp_z placed copied wrap_z announced_of frame_of segmented_of delta_of level_of_of factors_of_of dc_steps ac_steps symbol_of split_of grow decided_of run extra_from walk step eleven_at probabilities rfc_table modes_of prefix segment skip mode_above_of mode_left_of small_from small_modes_of categories bases magnitude signed_value bands zigzag probability_place quantizer_at context_after block_from header_table coordinates kind_of spread second sixteen_at advance blocks_from residual_of record_at record_set packed_of digits_of end_of step_of contents_of span_at_of pick_of reader_of_of readers_of beside_of step_at run_of near_of_lem four_above_of four_left_of first_places edge_of above_right_of block_above_right_of around_of rows_painted block_coefficients block_residual summed_of block_painted blocks_painted small_at prediction_rule square_painted dc_block_of sum_of_first grid_of transpose_of scaled_of pass_of rows_of vertical_pass horizontal_pass results_of samples_of
+unfolding build up_to clamp_z placed copied wrap_z announced_of frame_of segmented_of delta_of level_of_of factors_of_of dc_steps ac_steps symbol_of split_of grow decided_of run extra_from walk step eleven_at probabilities rfc_table modes_of prefix segment skip mode_above_of mode_left_of small_from small_modes_of categories bases magnitude signed_value bands zigzag probability_place quantizer_at context_after block_from header_table coordinates kind_of spread second sixteen_at advance blocks_from residual_of record_at record_set packed_of digits_of end_of step_of contents_of span_at_of pick_of reader_of_of readers_of beside_of step_at run_of near_of four_above_of four_left_of first_places edge_of above_right_of block_above_right_of around_of rows_painted block_coefficients block_residual summed_of block_painted blocks_painted small_at prediction_rule square_painted dc_block_of sum_of_first grid_of transpose_of scaled_of pass_of rows_of vertical_pass horizontal_pass results_of samples_of
 computed = ((refl, refl), (refl, refl), (refl, refl), (refl, refl), refl, refl)
 
 -- both tiles are finished: number 0, two macroblocks each

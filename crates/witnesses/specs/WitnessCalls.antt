@@ -30,14 +30,14 @@ use Rattle.coefficients.specs.Block.{categories, bases, magnitude, signed_value,
 use Rattle.residual.specs.Residual.{coordinates, kind_of, spread, second, sixteen_at, advance, blocks_from, residual_of}
 use Rattle.column.specs.Column.{packed_of, digits_of}
 use Rattle.picture.specs.Picture.{step_at, run_of}
-use Rattle.planes.specs.Paint.{near_of_lem, four_above_of, four_left_of, first_places, edge_of, above_right_of, block_above_right_of, around_of, rows_painted, block_coefficients, block_residual, summed_of, block_painted, blocks_painted, small_at, prediction_rule, square_painted}
+use Rattle.planes.specs.Paint.{near_of, four_above_of, four_left_of, first_places, edge_of, above_right_of, block_above_right_of, around_of, rows_painted, block_coefficients, block_residual, summed_of, block_painted, blocks_painted, small_at, prediction_rule, square_painted}
 use Rattle.predict.specs.Predict.{dc_block_of, sum_of_first}
 use Rattle.transform.specs.Transform.{grid_of, transpose_of, scaled_of, pass_of, rows_of, vertical_pass, horizontal_pass, results_of, samples_of}
 use Rattle.witnesses.specs.Witness.{held_of, whole, cut}
 
 -- ---- rescuing: the tile whose token partition 1 was cut away; its second macroblock is rebuilt from its modes
 pub rescued_cut : ((rescue_of cut (held_of 2 9) (9 ∷ 9 ∷ [])).answer ≡ R.Saved 2) × ((rescue_of cut (held_of 2 9) (9 ∷ 9 ∷ [])).marks ≡ 0 ∷ 1 ∷ [])
-unfolding rescue_of rescue_refusal_of rebuilt_at rest_of mark_of_of marks_of halt_of halted_of rebuilt_of refusal_of failed sides_of side_of count_of entries_of fine_to lengths_of sizes_fine_of long_of partitions_of inside_of tokens_fine valid_of build up_to clamp_z placed copied wrap_z announced_of frame_of segmented_of delta_of level_of_of factors_of_of dc_steps ac_steps symbol_of split_of grow decided_of run extra_from walk step eleven_at probabilities rfc_table modes_of prefix segment skip mode_above_of mode_left_of small_from small_modes_of categories bases magnitude signed_value bands zigzag probability_place quantizer_at context_after block_from header_table coordinates kind_of spread second sixteen_at advance blocks_from residual_of record_at record_set packed_of digits_of end_of step_of contents_of span_at_of pick_of reader_of_of readers_of beside_of step_at run_of near_of_lem four_above_of four_left_of first_places edge_of above_right_of block_above_right_of around_of rows_painted block_coefficients block_residual summed_of block_painted blocks_painted small_at prediction_rule square_painted dc_block_of sum_of_first grid_of transpose_of scaled_of pass_of rows_of vertical_pass horizontal_pass results_of samples_of
+unfolding rescue_of rescue_refusal_of rebuilt_at rest_of mark_of_of marks_of halt_of halted_of rebuilt_of refusal_of failed sides_of side_of count_of entries_of fine_to lengths_of sizes_fine_of long_of partitions_of inside_of tokens_fine valid_of build up_to clamp_z placed copied wrap_z announced_of frame_of segmented_of delta_of level_of_of factors_of_of dc_steps ac_steps symbol_of split_of grow decided_of run extra_from walk step eleven_at probabilities rfc_table modes_of prefix segment skip mode_above_of mode_left_of small_from small_modes_of categories bases magnitude signed_value bands zigzag probability_place quantizer_at context_after block_from header_table coordinates kind_of spread second sixteen_at advance blocks_from residual_of record_at record_set packed_of digits_of end_of step_of contents_of span_at_of pick_of reader_of_of readers_of beside_of step_at run_of near_of four_above_of four_left_of first_places edge_of above_right_of block_above_right_of around_of rows_painted block_coefficients block_residual summed_of block_painted blocks_painted small_at prediction_rule square_painted dc_block_of sum_of_first grid_of transpose_of scaled_of pass_of rows_of vertical_pass horizontal_pass results_of samples_of
 rescued_cut = (refl, refl)
 
 -- ---- the profile: a tile that is not 256 by 256 fails rule 1

@@ -8,7 +8,7 @@ use Rattle.choices.specs.Choices.{Call, lengths_of, failed, refusal_of, beside_o
 use Rattle.header.specs.Header.{fine_to, entries_of}
 use Rattle.macroblock.specs.declared.arguments.SymbolCounts.{SymbolCounts}
 use Rattle.macroblock.specs.Macroblock.{reads_of, Step, finished, no_modes, no_tokens, end_of, step_of}
-use Rattle.picture.specs.Picture.{plus, reads_at_lem, reads_from, cost_of, Picture, State, next_of, step_at, run_of, pictured_of, begun_of, picture_of}
+use Rattle.picture.specs.Picture.{plus, reads_at, reads_from, cost_of, Picture, State, next_of, step_at, run_of, pictured_of, begun_of, picture_of}
 use Rattle.picture.specs.CountsLaws.{reads_none, reads_finished, reads_no_modes, reads_no_tokens, cost_good}
 use Rattle.header.specs.Frame.{announced_of, frame_of}
 use Rattle.header.specs.Own.{segmented_of}
@@ -22,7 +22,7 @@ use Rattle.modes.specs.Modes.{modes_of, prefix, segment, skip, mode_above_of, mo
 use Rattle.coefficients.specs.Block.{categories, bases, magnitude, signed_value, bands, zigzag, probability_place, quantizer_at, context_after, block_from, header_table}
 use Rattle.residual.specs.Residual.{coordinates, kind_of, spread, second, sixteen_at, advance, blocks_from, residual_of}
 use Rattle.column.specs.Column.{packed_of, digits_of}
-use Rattle.planes.specs.Paint.{near_of_lem, four_above_of, four_left_of, first_places, edge_of, above_right_of, block_above_right_of, around_of, rows_painted, block_coefficients, block_residual, summed_of, block_painted, blocks_painted, small_at, prediction_rule, square_painted}
+use Rattle.planes.specs.Paint.{near_of, four_above_of, four_left_of, first_places, edge_of, above_right_of, block_above_right_of, around_of, rows_painted, block_coefficients, block_residual, summed_of, block_painted, blocks_painted, small_at, prediction_rule, square_painted}
 use Rattle.predict.specs.Predict.{dc_block_of, sum_of_first}
 use Rattle.transform.specs.Transform.{grid_of, transpose_of, scaled_of, pass_of, rows_of, vertical_pass, horizontal_pass, results_of, samples_of}
 use Rattle.promises.specs.Refusals.{Fine}
@@ -47,16 +47,16 @@ unfolding refusal_of failed sides_of side_of count_of entries_of fine_to lengths
 fines = (refl, refl)
 
 -- what the macroblock reads
-computed : ((reads_at_lem (pictured_of many_modes) 0 (begun_of many_modes (held_of 1 7))).first ≡ 119) × ((reads_at_lem (pictured_of many_tokens) 0 (begun_of many_tokens (held_of 1 7))).tokens ≡ 7296)
-unfolding reads_at_lem reads_of count trace build up_to clamp_z placed copied wrap_z announced_of frame_of segmented_of delta_of level_of_of factors_of_of dc_steps ac_steps symbol_of split_of grow decided_of run extra_from walk step eleven_at probabilities rfc_table modes_of prefix segment skip mode_above_of mode_left_of small_from small_modes_of categories bases magnitude signed_value bands zigzag probability_place quantizer_at context_after block_from header_table coordinates kind_of spread second sixteen_at advance blocks_from residual_of record_at record_set packed_of digits_of end_of step_of contents_of span_at_of pick_of reader_of_of readers_of beside_of step_at run_of near_of_lem four_above_of four_left_of first_places edge_of above_right_of block_above_right_of around_of rows_painted block_coefficients block_residual summed_of block_painted blocks_painted small_at prediction_rule square_painted dc_block_of sum_of_first grid_of transpose_of scaled_of pass_of rows_of vertical_pass horizontal_pass results_of samples_of
+computed : ((reads_at (pictured_of many_modes) 0 (begun_of many_modes (held_of 1 7))).first ≡ 119) × ((reads_at (pictured_of many_tokens) 0 (begun_of many_tokens (held_of 1 7))).tokens ≡ 7296)
+unfolding reads_at reads_of count trace build up_to clamp_z placed copied wrap_z announced_of frame_of segmented_of delta_of level_of_of factors_of_of dc_steps ac_steps symbol_of split_of grow decided_of run extra_from walk step eleven_at probabilities rfc_table modes_of prefix segment skip mode_above_of mode_left_of small_from small_modes_of categories bases magnitude signed_value bands zigzag probability_place quantizer_at context_after block_from header_table coordinates kind_of spread second sixteen_at advance blocks_from residual_of record_at record_set packed_of digits_of end_of step_of contents_of span_at_of pick_of reader_of_of readers_of beside_of step_at run_of near_of four_above_of four_left_of first_places edge_of above_right_of block_above_right_of around_of rows_painted block_coefficients block_residual summed_of block_painted blocks_painted small_at prediction_rule square_painted dc_block_of sum_of_first grid_of transpose_of scaled_of pass_of rows_of vertical_pass horizontal_pass results_of samples_of
 computed = (refl, refl)
 
 -- it is all that is read, however it ends
-one_reads : (P : Picture) (S : State) → reads_from 1 P 0 S ≡ reads_at_lem P 0 S
+one_reads : (P : Picture) (S : State) → reads_from 1 P 0 S ≡ reads_at P 0 S
 one_reads P S = go (step_at P 0 S) refl
   where
-    go : (x : Step) → step_at P 0 S ≡ x → reads_from 1 P 0 S ≡ reads_at_lem P 0 S
-    go (finished x) e = reads_finished 0 P 0 S x e ∙ ap (plus (reads_at_lem P 0 S)) (reads_none P 1 (next_of P 0 S x)) ∙ (λ i. record { first = add-zero (reads_at_lem P 0 S).first i; tokens = add-zero (reads_at_lem P 0 S).tokens i })
+    go : (x : Step) → step_at P 0 S ≡ x → reads_from 1 P 0 S ≡ reads_at P 0 S
+    go (finished x) e = reads_finished 0 P 0 S x e ∙ ap (plus (reads_at P 0 S)) (reads_none P 1 (next_of P 0 S x)) ∙ (λ i. record { first = add-zero (reads_at P 0 S).first i; tokens = add-zero (reads_at P 0 S).tokens i })
     go no_modes e = reads_no_modes 0 P 0 S e
     go no_tokens e = reads_no_tokens 0 P 0 S e
 
@@ -69,5 +69,5 @@ tokens_reached = ap (λ (c : SymbolCounts). c.tokens) (cost_good many_tokens (he
 -- ---- a survey of a whole tile: one picture of answer 0, two small macroblocks, 32 sub_blocks_lem of the first mode
 pub surveyed_whole : let e = survey_of (whole 0) (held_of 2 7) (replicate 37 0) in
     (e.answer.number ≡ 0) × (get_or e.counts 0 0 ≡ 1) × (get_or e.counts 16 0 ≡ 2) × (get_or e.counts 25 0 ≡ 32)
-unfolding survey_of add_of fits_to sum_of tallied_of sum_to same luma_of sub_blocks told_of picture_of cost_of reads_from reads_at_lem reads_of count trace record_found slowed inner_of threshold_of strength_of_of strength_answer refusal_of failed sides_of side_of count_of entries_of fine_to lengths_of sizes_fine_of long_of partitions_of inside_of tokens_fine valid_of build up_to clamp_z placed copied wrap_z announced_of frame_of segmented_of delta_of level_of_of factors_of_of dc_steps ac_steps symbol_of split_of grow decided_of run extra_from walk step eleven_at probabilities rfc_table modes_of prefix segment skip mode_above_of mode_left_of small_from small_modes_of categories bases magnitude signed_value bands zigzag probability_place quantizer_at context_after block_from header_table coordinates kind_of spread second sixteen_at advance blocks_from residual_of record_at record_set packed_of digits_of end_of step_of contents_of span_at_of pick_of reader_of_of readers_of beside_of step_at run_of near_of_lem four_above_of four_left_of first_places edge_of above_right_of block_above_right_of around_of rows_painted block_coefficients block_residual summed_of block_painted blocks_painted small_at prediction_rule square_painted dc_block_of sum_of_first grid_of transpose_of scaled_of pass_of rows_of vertical_pass horizontal_pass results_of samples_of
+unfolding survey_of add_of fits_to sum_of tallied_of sum_to same luma_of sub_blocks told_of picture_of cost_of reads_from reads_at reads_of count trace record_found slowed inner_of threshold_of strength_of_of strength_answer refusal_of failed sides_of side_of count_of entries_of fine_to lengths_of sizes_fine_of long_of partitions_of inside_of tokens_fine valid_of build up_to clamp_z placed copied wrap_z announced_of frame_of segmented_of delta_of level_of_of factors_of_of dc_steps ac_steps symbol_of split_of grow decided_of run extra_from walk step eleven_at probabilities rfc_table modes_of prefix segment skip mode_above_of mode_left_of small_from small_modes_of categories bases magnitude signed_value bands zigzag probability_place quantizer_at context_after block_from header_table coordinates kind_of spread second sixteen_at advance blocks_from residual_of record_at record_set packed_of digits_of end_of step_of contents_of span_at_of pick_of reader_of_of readers_of beside_of step_at run_of near_of four_above_of four_left_of first_places edge_of above_right_of block_above_right_of around_of rows_painted block_coefficients block_residual summed_of block_painted blocks_painted small_at prediction_rule square_painted dc_block_of sum_of_first grid_of transpose_of scaled_of pass_of rows_of vertical_pass horizontal_pass results_of samples_of
 surveyed_whole = (refl, refl, refl, refl)

@@ -1,5 +1,7 @@
 // The boolean encoder (RFC 6386, section 7.3), over a room that the caller lends: what lies past the room's end is not written, so that over
 // no room at all it only counts.
+#![tactic(auto)]
+
 ghost use Rattle.std.specs.Prelude.{◌≡◌, ◌+◌, ◌-◌, ◌*◌, ◌%◌, ◌^◌, ◌<◌, ◌≤◌, length, slice_set};
 ghost use Rattle.wide.specs.Wide.{doublings_of};
 ghost use Rattle.writer.specs.Encoder.{add_one_of};

@@ -27,13 +27,13 @@ abbrev framed : tie.After-rows → tie.After-frame-1
 framed c = c.before.before.before.before.before.before.before.before
 
 abbrev call : tie.Start → Call
-call c = let a = c.args in call_of a.bytes.now a.tile a.header.now
+call c = call_of c.args.bytes.now c.args.tile c.args.header.now
 
 abbrev lent : tie.Start → Memory
-lent c = let a = c.args in memory_of a.y.now a.u.now a.v.now a.columns.now a.modes.now a.strengths.now
+lent c = memory_of c.args.y.now c.args.u.now c.args.v.now c.args.columns.now c.args.modes.now c.args.strengths.now
 
 fine : (c : tie.After-frame-1) → refusal_of (call (start c)) (sizes_of (lent (start c))) ≡ 0
-fine c = sym (passed c).before.refusal.ensures ∙ (passed c).if1.false
+fine c = sym (passed c).refusal-bad.ensures ∙ (passed c).if-bad-ne0.false
 
 bytes : (c : tie.After-frame-1) → Bytes (start c).args.bytes.now
 bytes c i = (c.shared_slice_known-1.given i).fits
@@ -72,29 +72,29 @@ rows-requires c κs =
     )
 
 same_length : tie.Need-shape_of-y
-same_length c = (looped c).rows.auto.1.1.1.1.0 ∙ (blanked (framed (looped c))).blank.auto.0
+same_length c = (looped c).rows.auto.y ∙ (blanked (framed (looped c))).blank.auto.y
 
 same-length-2 : tie.Need-shape_of-u
-same-length-2 c = (looped c).rows.auto.1.1.1.1.1.0 ∙ (blanked (framed (looped c))).blank.auto.1.0
+same-length-2 c = (looped c).rows.auto.u ∙ (blanked (framed (looped c))).blank.auto.u
 
 same-length-3 : tie.Need-shape_of-v
-same-length-3 c = (looped c).rows.auto.1.1.1.1.1.1.0 ∙ (blanked (framed (looped c))).blank.auto.1.1.0
+same-length-3 c = (looped c).rows.auto.v ∙ (blanked (framed (looped c))).blank.auto.v
 
 same-length-4 : tie.Need-shape_of-columns
-same-length-4 c = (looped c).rows.auto.1.1.1.1.1.1.1.0 ∙ (blanked (framed (looped c))).blank.auto.1.1.1.0
+same-length-4 c = (looped c).rows.auto.columns ∙ (blanked (framed (looped c))).blank.auto.columns
 
 same-length-5 : tie.Need-shape_of-modes
-same-length-5 c = (looped c).rows.auto.1.1.1.1.1.1.1.1.0 ∙ (blanked (framed (looped c))).blank.auto.1.1.1.1.0
+same-length-5 c = (looped c).rows.auto.modes ∙ (blanked (framed (looped c))).blank.auto.modes
 
 same-length-6 : tie.Need-shape_of-strengths
-same-length-6 c = (looped c).rows.auto.1.1.1.1.1.1.1.1.1.0 ∙ (blanked (framed (looped c))).blank.auto.1.1.1.1.1.0
+same-length-6 c = (looped c).rows.auto.strengths ∙ (blanked (framed (looped c))).blank.auto.strengths
 
 returns-2 : tie.Need-returns
 returns-2 c =
     let r = looped c in
     let f = framed r in (
-      halted_found (call (start f)) (lent (start f)) (fine f) f.before.take.ensures f.before.before.before.probabilities.ensures (blanked f).blank.ensures r.rows.ensures.0,
-      cost_found (call (start f)) (lent (start f)) (fine f) f.before.take.ensures f.before.before.before.probabilities.ensures (blanked f).blank.ensures r.rows.ensures.1,
+      halted_found (call (start f)) (lent (start f)) (fine f) f.take-framed.ensures f.probabilities-table.ensures (blanked f).blank.ensures r.rows.ensures.0,
+      cost_found (call (start f)) (lent (start f)) (fine f) f.take-framed.ensures f.probabilities-table.ensures (blanked f).blank.ensures r.rows.ensures.1,
     )
 
 pub halt_spec : {M : Type 1} → statement M

@@ -53,15 +53,15 @@ few c =
 ready : (c : tie.Joined-any) → Ready (start c).args.coefficients.now (start c).args.from (square_blocks (start c).args.size (start c).args.from (start c).args.coefficients.now) c.coded_blocks-coded.result c.if-any.values ((start c).args.size / 4 * ((start c).args.size / 4))
 ready c =
     ⊎_elim
-    (λ w. ready_turned (start c).args.from (start c).args.coefficients.now (size (start c)) (blocks (fore c)) _ c.coded_blocks-coded.ensures c.no_values-values.ensures w.2.ensures w.3)
-    (λ w. ready_plain (start c).args.from (start c).args.coefficients.now (size (start c)) (blocks (fore c)) _ c.coded_blocks-coded.ensures (w.1 ∙ c.no_values-values.ensures) (c.any.ensures w.0.left)) c.if-any.branch
+    (λ w. ready_turned (start c).args.from (start c).args.coefficients.now (size (start c)) (blocks (fore c)) _ c.coded_blocks-coded.ensures c.no_values-values.ensures w.residuals.ensures w.values-is)
+    (λ w. ready_plain (start c).args.from (start c).args.coefficients.now (size (start c)) (blocks (fore c)) _ c.coded_blocks-coded.ensures (w.values-is ∙ c.no_values-values.ensures) (c.any.ensures w.if-any.false)) c.if-any.branch-raw
 
 -- and where the square is known
 good : (c : tie.After-scaled-y) → Good (length (start c.before.before).args.plane.now) (start c.before.before).args.stride c.scaled-x.result c.scaled-y.result (start c.before.before).args.size (start c.before.before).args.small (start c.before.before).args.mode (start c.before.before).args.modes.now
 good c =
     rw (c.scaled-x.ensures, c.scaled-y.ensures) (checks_good _ _ _ _ _ _ _ _ (modes (start c.before.before)) (square (fore c.before.before).before.before))
 
-all : (c : tie.Then-small) → (start c.before.before.before).before.before.before.args.from ≡ 0
+all : (c : tie.Then-small) → (start c.before.before.before).args.from ≡ 0
 all c =
     square_all (start c.before.before.before).args.from (start c.before.before.before).args.coefficients.now (size (start c.before.before.before)) (blocks (fore c.before.before.before)) ((good c.before).luma c.if-small.true)
 

@@ -6,10 +6,10 @@ use Rattle.profile.proofs.profile.Statement.{statement}
 use Rattle.profile.proofs.profile.Tie as tie
 
 abbrev call : tie.Start → Call
-call c = let a = c.args in call_of a.bytes.now a.tile a.header.now
+call c = call_of c.args.bytes.now c.args.tile c.args.header.now
 
 abbrev lent : tie.Start → Memory
-lent c = let a = c.args in memory_of a.y.now a.u.now a.v.now a.columns.now a.modes.now a.strengths.now
+lent c = memory_of c.args.y.now c.args.u.now c.args.v.now c.args.columns.now c.args.modes.now c.args.strengths.now
 
 -- the first rules fail
 returns : tie.Need-returns-then-early-ne0

@@ -7,10 +7,10 @@ use Rattle.rebuilt.proofs.legible.Tie as tie
 
 -- what the types of the frame and of the contexts say
 frame_known : (c : tie.Start) → FrameSizes c.args.frame
-frame_known c = let g = c.well_formed.1.1.0 in frame_sized c.args.frame (search (rules, g)) (search (rules, g)) (λ i. search (rules, g)) (search (rules, g))
+frame_known c = frame_sized c.args.frame (search (rules, c.well_formed.1.1.0)) (search (rules, c.well_formed.1.1.0)) (λ i. search (rules, c.well_formed.1.1.0)) (search (rules, c.well_formed.1.1.0))
 
 around_known : (c : tie.Start) → AroundSizes c.args.around
-around_known c = let g = c.well_formed.1.1.1 in record { top = search (rules, g); left = search (rules, g) }
+around_known c = record { top = search (rules, c.well_formed.1.1.1); left = search (rules, c.well_formed.1.1.1) }
 
 returns : tie.Need-returns
 unfolding legible_of

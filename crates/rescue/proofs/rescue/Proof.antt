@@ -11,10 +11,10 @@ use Rattle.rescue.proofs.rescue.Statement.{statement}
 use Rattle.rescue.proofs.rescue.Tie as tie
 
 abbrev call : tie.Start → Call
-call c = let a = c.args in call_of a.bytes.now a.tile a.header.now
+call c = call_of c.args.bytes.now c.args.tile c.args.header.now
 
 abbrev lent : tie.Start → Memory
-lent c = let a = c.args in memory_of a.y.now a.u.now a.v.now a.columns.now a.modes.now a.strengths.now
+lent c = memory_of c.args.y.now c.args.u.now c.args.v.now c.args.columns.now c.args.modes.now c.args.strengths.now
 
 -- places: the function's start from behind the picture call
 abbrev start : tie.After-halt-stop → tie.Start

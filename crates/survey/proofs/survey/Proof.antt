@@ -6,10 +6,10 @@ use Rattle.survey.proofs.survey.Statement.{statement}
 use Rattle.survey.proofs.survey.Tie as tie
 
 abbrev call : tie.Start → Call
-call c = let a = c.args in call_of a.bytes.now a.tile a.header.now
+call c = call_of c.args.bytes.now c.args.tile c.args.header.now
 
 abbrev lent : tie.Start → Memory
-lent c = let a = c.args in memory_of a.y.now a.u.now a.v.now a.columns.now a.modes.now a.strengths.now
+lent c = memory_of c.args.y.now c.args.u.now c.args.v.now c.args.columns.now c.args.modes.now c.args.strengths.now
 
 returns : tie.Need-returns-then-counts-ne-COUNTS
 returns c = survey_long (call c.before.before.before.before.before.before.before.before.before) (lent c.before.before.before.before.before.before.before.before.before) _ c.if-counts-ne-COUNTS.true

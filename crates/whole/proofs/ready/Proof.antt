@@ -10,7 +10,7 @@ frame_known c =
     frame_sized c.args.frame (search (rules, c.well_formed.1.1.1.0)) (search (rules, c.well_formed.1.1.1.0)) (λ i. search (rules, c.well_formed.1.1.1.0.1.1.1.1.1.1.0)) (search (rules, c.well_formed.1.1.1.0.1.1.1.1.1.1.0.1.1.1))
 
 around_known : (c : tie.Start) → AroundSizes c.args.around
-around_known c = let g = c.well_formed.1.1.1.1.1 in record { top = search (rules, g); left = search (rules, g) }
+around_known c = record { top = search (rules, c.well_formed.1.1.1.1.1); left = search (rules, c.well_formed.1.1.1.1.1) }
 
 returns : tie.Need-returns
 unfolding ready_of

@@ -30,14 +30,14 @@ start c = c.before.before.before.before.before.before.before.before.before.befor
 
 -- what the modes' answer says of the grammar
 is : (c : tie.After-read_modes-read) → (run (modes_of (start c).args.frame.announced (start c).args.around.top.modes (start c).args.around.left.modes) (start c).args.first.now (start c).args.readers.first ≡ stage_given c.read_modes-read.result.answer c.read_modes-read.new.modes)
-is c = let p = (start c).requires.0 in read _ _ _ _ _ _ p.reader p.contexts c.read_modes-read.ensures.0
+is c = read _ _ _ _ _ _ (start c).requires.0.reader (start c).requires.0.contexts c.read_modes-read.ensures.0
 
 -- and its count
 counted : (c : tie.After-read_modes-read) → (c.read_modes-read.result.reads ≡ count (modes_of (start c).args.frame.announced (start c).args.around.top.modes (start c).args.around.left.modes) (start c).args.first.now (start c).args.readers.first)
-counted c = let p = (start c).requires.0 in c.read_modes-read.ensures.1 ∙ reads_good _ _ _ _ _ p.reader p.contexts
+counted c = c.read_modes-read.ensures.1 ∙ reads_good _ _ _ _ _ (start c).requires.0.reader (start c).requires.0.contexts
 
 gave : (c : tie.In-Read) → (run (modes_of (start c.before).args.frame.announced (start c.before).args.around.top.modes (start c.before).args.around.left.modes) (start c.before).args.first.now (start c.before).args.readers.first ≡ given (macroblock_of c.in-Read.kinds c.read_modes-read.new.modes) c.in-Read.next)
-gave c = let d = c.before.before.before in is d ∙ ap (λ (x : Stage). stage_given x d.read_modes_lem.new.1.1.1.1.1.0) c.in-Read.is
+gave c = is c.before ∙ ap (λ (x : Stage). stage_given x c.read_modes-read.new.modes) c.in-Read.is
 
 returns : tie.Need-returns-in_default
 returns c =

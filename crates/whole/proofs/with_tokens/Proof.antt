@@ -65,10 +65,10 @@ abbrev at_c2 : tie.In-Done → tie.After-c-2-1
 at_c2 c = c.before.before
 
 -- the coefficients, the flags and the reader that it gave
-gave : (c : tie.In-Done) → (let d = at_c2 c in let x = d.before.decode.result.residual in run (residual_of (start d).args.table.now (factors_at (start d).args.frame (start d).args.m.kinds.segment) (start d).args.m.kinds.small (start d).args.m.kinds.skip (start d).args.around.top.flags (start d).args.around.left.flags) (start d).args.tokens.now (start d).args.t ≡ given (record { top = x.top; left = x.left; coefficients = macroblock_blocks d.before.decode.last.1.1.1.1.1.1.1.1.0; empty = c.in-Done.empty }) c.in-Done.after)
+gave : (c : tie.In-Done) → (let d = at_c2 c in run (residual_of (start d).args.table.now (factors_at (start d).args.frame (start d).args.m.kinds.segment) (start d).args.m.kinds.small (start d).args.m.kinds.skip (start d).args.around.top.flags (start d).args.around.left.flags) (start d).args.tokens.now (start d).args.t ≡ given (record { top = d.decode-read.result.residual.top; left = d.decode-read.result.residual.left; coefficients = macroblock_blocks d.decode-read.new.out; empty = c.in-Done.empty }) c.in-Done.after)
 gave c =
     let d = at_c2 c in
-    is d ∙ ap (from_ended d.before.decode.result.residual.top d.before.decode.result.residual.left (macroblock_blocks d.before.decode.last.1.1.1.1.1.1.1.1.0)) c.in-Done.is
+    is d ∙ ap (from_ended d.decode-read.result.residual.top d.decode-read.result.residual.left (macroblock_blocks d.decode-read.new.out)) c.in-Done.is
 
 returns : tie.Need-returns-in_default
 returns c = (

@@ -90,11 +90,11 @@ told-requires : tie.Need-told-requires
 told-requires c κs =
     let a = made c in
     let z = sized a in (
-      z.before.before.before.before.pre.0,
+      z.requires.0,
       (
-        most 4096 z.before.before.area.result a.before.before.before.before.before.luma.ensures (omega arith) (omega arith),
-        most 1024 z.before.area2.result a.before.before.before.before.chroma.ensures (omega arith) (omega arith),
-        most 1024 z.before.area2.result a.before.before.before.chroma2.ensures (omega arith) (omega arith),
+        most 4096 z.area-large.result a.luma-y.ensures (omega arith) (omega arith),
+        most 1024 z.area-small.result a.chroma-u.ensures (omega arith) (omega arith),
+        most 1024 z.area-small.result a.chroma-v.ensures (omega arith) (omega arith),
       ),
     )
 
@@ -102,15 +102,14 @@ returns : tie.Need-returns
 returns c =
     let a = made c.before.before.before.before.before.before.before in
     let z = sized a in
-    let s = z.before.before.before.before in
     report_is _ c.told.ensures
     (memory_is
-    (part_is 4096 165 z.before.before.area.result a.before.before.before.before.before.luma.ensures (omega (arith, z.before.before.area.ensures.1)) z.before.before.area.ensures.0)
-    (part_is 1024 165 z.before.area2.result a.before.before.before.before.chroma.ensures (omega (arith, z.before.area2.ensures.1)) z.before.area2.ensures.0)
-    (part_is 1024 165 z.before.area2.result a.before.before.before.chroma2.ensures (omega (arith, z.before.area2.ensures.1)) z.before.area2.ensures.0)
-    (part_is 320 165 (column_width * (s.args.w / 16)) a.before.before.records.ensures (omega (arith, s.pre.0.width, s.pre.1.0)) refl)
-    (part_is 320 165 (mode_width * z.area3.result) a.before.records2.ensures (omega (arith, z.area3.ensures.1)) (ap (λ (n : ℕ). mode_width * n) z.area3.ensures.0))
-    (part_is 320 165 (strength_width * z.area3.result) a.records3.ensures (omega (arith, z.area3.ensures.1)) (ap (λ (n : ℕ). strength_width * n) z.area3.ensures.0)))
+    (part_is 4096 165 z.area-large.result a.luma-y.ensures (omega (arith, z.area-large.ensures.1)) z.area-large.ensures.0)
+    (part_is 1024 165 z.area-small.result a.chroma-u.ensures (omega (arith, z.area-small.ensures.1)) z.area-small.ensures.0)
+    (part_is 1024 165 z.area-small.result a.chroma-v.ensures (omega (arith, z.area-small.ensures.1)) z.area-small.ensures.0)
+    (part_is 320 165 (column_width * (z.args.w / 16)) a.records-columns.ensures (omega (arith, z.requires.0.width, z.requires.1.0)) refl)
+    (part_is 320 165 (mode_width * z.area-blocks.result) a.records-modes.ensures (omega (arith, z.area-blocks.ensures.1)) (ap (λ (n : ℕ). mode_width * n) z.area-blocks.ensures.0))
+    (part_is 320 165 (strength_width * z.area-blocks.result) a.records-strengths.ensures (omega (arith, z.area-blocks.ensures.1)) (ap (λ (n : ℕ). strength_width * n) z.area-blocks.ensures.0)))
 
 pub lent_spec : {M : Type 1} → statement M
 lent_spec = tie.close (tie.spec area-requires area-requires-2 area-requires-3 mul-column-bytes mul-mode-bytes mul-strength-bytes luma-requires chroma-requires chroma-requires-2 records-requires records-requires-2 records-requires-3 array-borrow-prefix-y slice-aggregate-told array-borrow-prefix-u slice-aggregate-told-2 array-borrow-prefix-v slice-aggregate-told-3 array-borrow-prefix-columns slice-aggregate-told-4 array-borrow-prefix-modes slice-aggregate-told-5 array-borrow-prefix-strengths slice-aggregate-told-6 told-requires returns)

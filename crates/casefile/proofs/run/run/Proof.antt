@@ -6,7 +6,7 @@ use Rattle.casefile.proofs.run.run.Statement.{statement}
 use Rattle.casefile.proofs.run.run.Tie as tie
 
 fine : (c : tie.Else-not-well_formed) → well_formed_of c.args.file.now ≡ true
-fine c = sym c.before.well-formed-2.ensures ∙ not-false _ c.if1.false
+fine c = sym c.well_formed-2.ensures ∙ not-false _ c.if-not-well_formed.false-raw
 
 formed : (c : tie.Else-not-well_formed) → Formed c.args.file.now
 formed c = well_formed_lem _ (fine c)
@@ -18,7 +18,7 @@ malformed-requires : tie.Need-malformed-requires
 malformed-requires c κs = search rules
 
 returns : tie.Need-returns-then-not-well_formed
-returns c = c.malformed.ensures ∙ run_malformed _ (sym c.before.before.well-formed-2.ensures ∙ not-true _ c.before.if1.true)
+returns c = c.malformed.ensures ∙ run_malformed _ (sym c.well_formed-2.ensures ∙ not-true _ c.if-not-well_formed.true-raw)
 
 width-requires : tie.Need-width-requires
 width-requires c κs = (formed c).long

@@ -13,7 +13,7 @@ returns : tie.Need-returns
 returns c =
     let d = called c in
     let g = given d in
-    given_is _ _ d.decode.ensures.0 g.tile-of.ensures g.before.header.ensures
+    given_is _ _ d.decode-d.ensures.0 g.tile_of.ensures g.header-h.ensures
 
 pub through_spec : {M : Type 1} → statement M
 through_spec = tie.close (tie.spec (λ c κs. search rules) (λ c κs. search rules) (λ c. search rules) (λ c κs. search rules) (λ c. search rules) (λ c. search rules) (λ c. search rules) (λ c. search rules) (λ c. search rules) (λ c. search rules) returns)

@@ -8,10 +8,10 @@ use Rattle.coefficients.proofs.block.read_block.Statement.{statement}
 use Rattle.coefficients.proofs.block.read_block.Tie as tie
 
 abbrev invariant_loop : tie.invariant-loop-n
-invariant_loop s table kind ctx first q0 q1 out₀ values₀ next₀ n₀ near₀ zero₀ reads₀ t1 t2 out values next n near zero reads = Going s table kind q0 q1 (block table kind q0 q1 near₀ n₀ out₀) next₀ n near zero next values reads × (out ≡ out₀)
+invariant_loop s table kind ctx first q0 q1 out₀ values₀ next₀ n₀ near₀ zero₀ reads₀ out values next n near zero reads = Going s table kind q0 q1 (block table kind q0 q1 near₀ n₀ out₀) next₀ n near zero next values reads × (out ≡ out₀)
 
 abbrev decreases_loop : tie.decreases-loop-n
-decreases_loop s table kind ctx first q0 q1 out₀ values₀ next₀ n₀ near₀ zero₀ reads₀ t1 t2 out values next n near zero reads = 16 - n
+decreases_loop s table kind ctx first q0 q1 out₀ values₀ next₀ n₀ near₀ zero₀ reads₀ out values next n near zero reads = 16 - n
 
 -- the turn, once the token was asked
 turn_at : (c : tie.After-walk_token-t invariant_loop decreases_loop) → (Turn c.args.s.now c.args.table.now c.args.kind c.args.q0 c.args.q1 (block c.args.table.now c.args.kind c.args.q0 c.args.q1 c.args.ctx c.args.first c.args.out.now) c.args.r c.loop-n.n c.loop-n.near c.loop-n.zero c.loop-n.next c.loop-n.values c.loop-n.reads c.walk_token-t.result.answer c.walk_token-t.result.reads)

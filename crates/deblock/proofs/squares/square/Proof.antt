@@ -15,22 +15,22 @@ first : (c : tie.Joined-column-ne0) → let f = when (not (eqb (start c).args.co
     (c.if-column-ne0.p ≡ f (start c).args.p.now) × (c.if-column-ne0.q ≡ f (start c).args.q.now)
 first c =
     ⊎_elim
-    (λ v. let e = ap not (ne_eqb _ 0 v.0.taken) in (when_yes _ _ e (v.8 ∙ rw (← c.outer_of-outer.ensures) v.3.ensures.0), when_yes _ _ e (v.9 ∙ rw (← c.outer_of-outer.ensures) v.3.ensures.1)))
-    (λ v. let e = ap not (eq-eqb _ 0 v.0.left) in (when_no _ _ e v.1, when_no _ _ e v.2)) c.if-column-ne0.branch
+    (λ v. let e = ap not (ne_eqb _ 0 v.if-column-ne0.true) in (when_yes _ _ e (v.p-is ∙ rw (← c.outer_of-outer.ensures) v.vertical.ensures.0), when_yes _ _ e (v.q-is ∙ rw (← c.outer_of-outer.ensures) v.vertical.ensures.1)))
+    (λ v. let e = ap not (eq-eqb _ 0 v.if-column-ne0.false) in (when_no _ _ e v.p-is, when_no _ _ e v.q-is)) c.if-column-ne0.branch-raw
 
 second : (c : tie.Joined-inside) → let f = when (eqb (start c.before).args.t.inside 1) (inners_of true (inner_edge_of (start c.before).args.simple (start c.before).args.t) (start c.before).args.w ((start c.before).args.column * (start c.before).args.n) ((start c.before).args.row * (start c.before).args.n) (start c.before).args.n) in
     (c.if-inside.p ≡ f c.if-column-ne0.p) × (c.if-inside.q ≡ f c.if-column-ne0.q)
 second c =
     ⊎_elim
-    (λ v. (when_yes _ _ v.0.taken (v.8 ∙ rw (← c.inner_of-inner.ensures) v.3.ensures.0), when_yes _ _ v.0.taken (v.9 ∙ rw (← c.inner_of-inner.ensures) v.3.ensures.1)))
-    (λ v. (when_no _ _ v.0.left v.1, when_no _ _ v.0.left v.2)) c.if-inside.branch
+    (λ v. (when_yes _ _ v.if-inside.true-raw (v.p-is ∙ rw (← c.inner_of-inner.ensures) v.inners.ensures.0), when_yes _ _ v.if-inside.true-raw (v.q-is ∙ rw (← c.inner_of-inner.ensures) v.inners.ensures.1)))
+    (λ v. (when_no _ _ v.if-inside.false-raw v.p-is, when_no _ _ v.if-inside.false-raw v.q-is)) c.if-inside.branch-raw
 
 third : (c : tie.Joined-row-ne0) → let f = when (not (eqb (start c.before.before).args.row 0)) (horizontal_edges (outer_edge (start c.before.before).args.simple (start c.before.before).args.t) (start c.before.before).args.w ((start c.before.before).args.column * (start c.before.before).args.n) ((start c.before.before).args.row * (start c.before.before).args.n) (start c.before.before).args.n) in
     (c.if-row-ne0.p ≡ f c.if-inside.p) × (c.if-row-ne0.q ≡ f c.if-inside.q)
 third c =
     ⊎_elim
-    (λ v. let e = ap not (ne_eqb _ 0 v.0.taken) in (when_yes _ _ e (v.8 ∙ rw (← c.outer_of-outer.ensures) v.3.ensures.0), when_yes _ _ e (v.9 ∙ rw (← c.outer_of-outer.ensures) v.3.ensures.1)))
-    (λ v. let e = ap not (eq-eqb _ 0 v.0.left) in (when_no _ _ e v.1, when_no _ _ e v.2)) c.if-row-ne0.branch
+    (λ v. let e = ap not (ne_eqb _ 0 v.if-row-ne0.true) in (when_yes _ _ e (v.p-is ∙ rw (← c.outer_of-outer.ensures) v.horizontal.ensures.0), when_yes _ _ e (v.q-is ∙ rw (← c.outer_of-outer.ensures) v.horizontal.ensures.1)))
+    (λ v. let e = ap not (eq-eqb _ 0 v.if-row-ne0.false) in (when_no _ _ e v.p-is, when_no _ _ e v.q-is)) c.if-row-ne0.branch-raw
 
 -- none of them changes the lengths
 long1 : (c : tie.Joined-column-ne0) → (length c.if-column-ne0.p ≡ length (start c).args.p.now) × (length c.if-column-ne0.q ≡ length (start c).args.q.now)
@@ -50,16 +50,16 @@ vertical-requires : tie.Need-vertical-requires
 vertical-requires c κs = (square_left c.requires.0 c.requires.1.0 (past_first _ c.requires.1.0 c.if-column-ne0.true), c.requires.1.1.0)
 
 inners-requires : tie.Need-inners-requires
-inners-requires c κs = let s = start c.before.before.before in let l = long1 c.before.before.before in (rw l.0 s.pre.0, beside_same l.0 l.1 s.pre.1.1.0)
+inners-requires c κs = let s = start c.before.before.before in let l = long1 c.before.before.before in (rw l.0 s.requires.0, beside_same l.0 l.1 s.requires.1.1.0)
 
 horizontal-requires : tie.Need-horizontal-requires
 horizontal-requires c κs =
     let s = start c.before.before.before.before in
     let l = long2 c.before.before.before in
-    (rw l.0 (square_top s.pre.0 s.pre.1.0 (past_first _ s.pre.1.0 c.if-row-ne0.true)), beside_same l.0 l.1 s.pre.1.1.0)
+    (rw l.0 (square_top s.requires.0 s.requires.1.0 (past_first _ s.requires.1.0 c.if-row-ne0.true)), beside_same l.0 l.1 s.requires.1.1.0)
 
 inners-requires-2 : tie.Need-inners-requires-then-inside-2
-inners-requires-2 c κs = let s = start c.before.before.before.before.before in let l = long3 c.before.before.before in (rw l.0 s.pre.0, beside_same l.0 l.1 s.pre.1.1.0)
+inners-requires-2 c κs = let s = start c.before.before.before.before.before in let l = long3 c.before.before.before in (rw l.0 s.requires.0, beside_same l.0 l.1 s.requires.1.1.0)
 
 same_length : tie.Need-shape_of-p-then-inside-2
 same_length c = rw c.inners-then-inside-2.ensures.0 (length_inners _ _ _ _ _ _ _) ∙ (long3 c.before.before.before.before.before.before.before.before).0

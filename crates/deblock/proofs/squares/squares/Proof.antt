@@ -57,9 +57,9 @@ loop-again c =
       refl,
       refl,
       plane_turn _ _ _ _ c.loop-k.k _ c.loop-k.invariant.3
-          (⊎_elim (λ v. block_yes _ _ _ _ c.loop-k.k c.loop-k.p e v.0.taken (v.8 ∙ v.3.ensures.0)) (λ v. block_no _ _ _ _ c.loop-k.k e v.0.left v.1) c.if-t-ne0.branch),
+          (⊎_elim (λ v. block_yes _ _ _ _ c.loop-k.k c.loop-k.p e v.if-t-ne0.true (v.p-is ∙ v.square.ensures.0)) (λ v. block_no _ _ _ _ c.loop-k.k e v.if-t-ne0.false v.p-is) c.if-t-ne0.branch-raw),
       plane_turn _ _ _ _ c.loop-k.k _ c.loop-k.invariant.4
-          (⊎_elim (λ v. block_yes _ _ _ _ c.loop-k.k c.loop-k.q e v.0.taken (v.9 ∙ v.3.ensures.1)) (λ v. block_no _ _ _ _ c.loop-k.k e v.0.left v.2) c.if-t-ne0.branch),
+          (⊎_elim (λ v. block_yes _ _ _ _ c.loop-k.k c.loop-k.q e v.if-t-ne0.true (v.q-is ∙ v.square.ensures.1)) (λ v. block_no _ _ _ _ c.loop-k.k e v.if-t-ne0.false v.q-is) c.if-t-ne0.branch-raw),
     )
 
 same_length : tie.Need-shape_of-p invariant_loop decreases_loop

@@ -10,7 +10,7 @@ returns : tie.Need-returns-then-tile-ne-TILE_NUMBERS
 returns c = rescue_called_refused _ _ _ _ _ c.if-tile-ne-TILE_NUMBERS.true
 
 returns-2 : tie.Need-returns
-returns-2 c = rescue_called_found _ _ _ _ _ (called c).before.before.before.before.before.before.before.before.before.if1.false (called c).before.before.before.before.before.before.before.before.tile-of.ensures (called c).rescue.ensures c.tell_rescue.ensures
+returns-2 c = rescue_called_found _ _ _ _ _ (called c).if-tile-ne-TILE_NUMBERS.false (called c).tile_of.ensures (called c).rescue-answer.ensures c.tell_rescue.ensures
 
 pub hookbarley_rescue_spec : {M : Type 1} → statement M
-hookbarley_rescue_spec = tie.close (tie.spec returns (λ c κs. search rules) (λ c κs. search rules) (λ c κs. search rules) (λ c. (called c).rescue.auto.1.1.1.0) (λ c. (called c).rescue.auto.1.1.1.1.0) (λ c. (called c).rescue.auto.1.1.1.1.1.0) (λ c. (called c).rescue.auto.1.1.1.1.1.1.0) (λ c. (called c).rescue.auto.1.1.1.1.1.1.1.0) (λ c. (called c).rescue.auto.1.1.1.1.1.1.1.1.0) (λ c. (called c).rescue.auto.1.1.1.1.1.1.1.1.1.0) returns-2)
+hookbarley_rescue_spec = tie.close (tie.spec returns (λ c κs. search rules) (λ c κs. search rules) (λ c κs. search rules) (λ c. (called c).rescue-answer.auto.y) (λ c. (called c).rescue-answer.auto.u) (λ c. (called c).rescue-answer.auto.v) (λ c. (called c).rescue-answer.auto.columns) (λ c. (called c).rescue-answer.auto.modes) (λ c. (called c).rescue-answer.auto.strengths) (λ c. (called c).rescue-answer.auto.marks) returns-2)

@@ -1,9 +1,6 @@
 use Rattle.numbers.specs.Words.{ℕ, ◌+◌, ◌-◌, ◌≤◌, zero-add, arith, ◌≡◌, sym, ◌∙◌, ap, List, length, get_or, set, copied, copied_none, copied_next, length_copied}
+use Rattle.lent.proofs.records.store.Invariants.{Storing}
 use Rattle.lent.proofs.records.store.Goals as goal
-
-record Storing (mem₀ : List ℕ) (at : ℕ) (bytes mem : List ℕ) (j : ℕ) : Type 0 where
-  same : mem ≡ copied mem₀ at bytes 0 j
-  upto : j ≤ length bytes
 
 module _ {mem₀ : List ℕ} {at : ℕ} {bytes mem : List ℕ} {j : ℕ} (h : Storing mem₀ at bytes mem j) where
   copied_long : length mem ≡ length mem₀

@@ -24,11 +24,11 @@ valid1 c = (run_valid (segment_within (start c).args.a (start c).requires.1) (by
 abbrev prior : tie.In-Got → tie.In-Read
 prior c = c.before.before.before.before
 
-two : (c : tie.In-Got) → (Took (skip (start (prior c)).args.a) (start (prior c)).args.s.now (prior c).before.first.given.0.1.0 (given c.in-Got.skip c.in-Got.u) c.skip-k.result.reads)
+two : (c : tie.In-Got) → (Took (skip (start (prior c)).args.a) (start (prior c)).args.s.now (prior c).in-Read.t (given c.in-Got.skip c.in-Got.u) c.skip-k.result.reads)
 two c = symbol_gave c.skip-k.ensures c.in-Got.is
 
 valid2 : (c : tie.In-Got) → Valid (start (prior c)).args.s.now c.in-Got.u
-valid2 c = let a = start (prior c) in (run_valid (skip_within a.args.a a.pre.1) (bytes (prior c)) (valid1 (prior c)) (two c).gave).valid
+valid2 c = let a = start (prior c) in (run_valid (skip_within a.args.a a.requires.1) (bytes (prior c)) (valid1 (prior c)) (two c).gave).valid
 
 segment-requires : tie.Need-segment-c-requires
 segment-requires c κs = search rules

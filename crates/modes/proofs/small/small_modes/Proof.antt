@@ -31,7 +31,7 @@ fine : (c : tie.Else-not-contexts_fine) → contexts_of (start c).args.top.now (
 fine c = sym c.contexts_fine.ensures ∙ not-false _ c.if-not-contexts_fine.false-raw
 
 abbrev whole : tie.After-sixteen-q → Given (List ℕ)
-whole c = let a = (start c.before).args in run (small_modes_of a.top.now a.left.now) a.s.now a.r
+whole c = run (small_modes_of (start c.before).args.top.now (start c.before).args.left.now) (start c.before).args.s.now (start c.before).args.r
 
 sixteen-requires : tie.Need-sixteen-q-requires
 sixteen-requires c κs = (good c, (above_fact (start c).args.top.now (start c).args.left.now (fine c), left_fact (start c).args.top.now (start c).args.left.now (fine c)))

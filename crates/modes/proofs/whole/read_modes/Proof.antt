@@ -28,9 +28,9 @@ abbrev start : tie.Else-not-contexts_fine → tie.Start
 start c = c.before.before.before.before.before.before.before
 
 good : (c : tie.Else-not-contexts_fine) → Valid (start c).args.s.now (start c).args.r
-good c = let e = c.before.before.before.before in valid_fact _ _ (sym e.before.valid.ensures ∙ not-false _ e.if1.false)
+good c = valid_fact _ _ (sym c.valid.ensures ∙ not-false _ c.if-not-valid.false-raw)
 
-fine : (c : tie.Else-not-contexts_fine) → contexts_of (start c).args.t4 (start c).args.t5 ≡ true
+fine : (c : tie.Else-not-contexts_fine) → contexts_of (start c).args.top (start c).args.left ≡ true
 fine c = sym c.contexts_fine.ensures ∙ not-false _ c.if-not-contexts_fine.false-raw
 
 bytes : (c : tie.Else-not-contexts_fine) → Bytes (start c).args.s.now
@@ -43,8 +43,8 @@ known c =
       skip = let f : Fits w8 (start c).args.a.skip_probability = search rules in f.fits;
     }
 
-beside : (c : tie.Else-not-contexts_fine) → Modes (start c).args.t4 × Modes (start c).args.t5
-beside c = (above_fact (start c).args.t4 (start c).args.t5 (fine c), left_fact (start c).args.t4 (start c).args.t5 (fine c))
+beside : (c : tie.Else-not-contexts_fine) → Modes (start c).args.top × Modes (start c).args.left
+beside c = (above_fact (start c).args.top (start c).args.left (fine c), left_fact (start c).args.top (start c).args.left (fine c))
 
 widen-requires : tie.Need-widen-requires
 widen-requires c κs = search rules
@@ -68,8 +68,7 @@ tested c = c.before.before.before.before.before.before.before
 gave : (c : tie.Else-not-inside) → (run (modes_of (start (tested c)).args.a (start (tested c)).args.top (start (tested c)).args.left) (start (tested c)).args.s.now (start (tested c)).args.r ≡ given (macroblock_of c.quick-q.result.kinds c.quick-q.result.modes) (narrow_of (start (tested c)).args.s.now c.quick-q.result.next))
 gave c =
     let t = tested c in
-    let a = (start t).args in
-    wide_modes a.s.now a.a a.r a.t4 a.t5 (bytes t) (good t) (omega (arith, (start t).good.0)) c.before.before.before.before.before.before.widen.ensures c.before.before.before.quick.ensures c.before.inside.ensures (not-false _ c.if3.false)
+    wide_modes (start t).args.s.now (start t).args.a (start t).args.r (start t).args.top (start t).args.left (bytes t) (good t) (omega (arith, (start t).well_formed.0)) c.widen.ensures c.quick-q.ensures c.inside.ensures (not-false _ c.if-not-inside.false-raw)
 
 modes-read-requires : tie.Need-modes_read-reads-requires
 modes-read-requires c κs =

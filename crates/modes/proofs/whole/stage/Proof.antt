@@ -19,7 +19,7 @@ bytes c i = (c.shared_slice_known-1.given i).fits
 
 -- what each call gave, and that the reader after it is in range
 one : (c : tie.In-Read) → (Took (prefix (start c).args.a) (start c).args.s.now (start c).args.r (given c.in-Read.p c.in-Read.t) c.head-h.result.reads)
-one c = let t = c.head-h.ensures in took_told to_headed t (headed _ t.0 ∙ ap from_headed c.in-Read.is)
+one c = took_told to_headed c.head-h.ensures (headed _ c.head-h.ensures.0 ∙ ap from_headed c.in-Read.is)
 
 valid1 : (c : tie.In-Read) → Valid (start c).args.s.now c.in-Read.t
 valid1 c = (run_valid (prefix_within (start c).args.a (start c).requires.1.1) (bytes c) (start c).requires.0 (one c).gave).valid
@@ -27,13 +27,13 @@ valid1 c = (run_valid (prefix_within (start c).args.a (start c).requires.1.1) (b
 abbrev prior : tie.In-At → tie.In-Read
 prior c = c.before.before.before.before
 
-two : (c : tie.In-At) → (Took (luma (prior c).before.first.given.0.0.small (start (prior c)).args.top.now (start (prior c)).args.left.now) (start (prior c)).args.s.now (prior c).before.first.given.0.1.0 (given c.luma-l.result.modes c.in-At.u) c.luma-l.result.reads)
+two : (c : tie.In-At) → (Took (luma (prior c).in-Read.p.small (start (prior c)).args.top.now (start (prior c)).args.left.now) (start (prior c)).args.s.now (prior c).in-Read.t (given c.luma-l.result.modes c.in-At.u) c.luma-l.result.reads)
 two c =
     took_told (to_sixteen zeros) c.luma-l.ensures (sixteened zeros _ c.luma-l.ensures.0 ∙ ap (λ (x : Next). next_given x c.luma-l.result.modes) c.in-At.is)
 
 valid2 : (c : tie.In-At) → Valid (start (prior c)).args.s.now c.in-At.u
 valid2 c =
-    (run_valid (luma_within (prior c).before.first.given.0.0.small (start (prior c)).args.top.now (start (prior c)).args.left.now) (bytes (prior c)) (valid1 (prior c)) (two c).gave).valid
+    (run_valid (luma_within (prior c).in-Read.p.small (start (prior c)).args.top.now (start (prior c)).args.left.now) (bytes (prior c)) (valid1 (prior c)) (two c).gave).valid
 
 head-requires : tie.Need-head-h-requires
 head-requires c κs = search rules

@@ -4,7 +4,7 @@ use Rattle.tile.specs.Tile.{span_at_of, blocks_of}
 use Rattle.tile.specs.PartitionsLaws.{part_bytes}
 use Rattle.lent.specs.Memory.{Memory, memory_of, packed}
 use Rattle.picture.specs.Halt.{state_of}
-use Rattle.picture.specs.Picture.{Picture, State, cut_out, start_of, column_of, partition_of, step_at, Turned, turned_of, turned, reads_at_lem, Shared}
+use Rattle.picture.specs.Picture.{Picture, State, cut_out, start_of, column_of, partition_of, step_at, Turned, turned_of, turned, reads_at, Shared}
 use Rattle.picture.specs.CountsLaws.{reads_in}
 use Rattle.picture.specs.PictureLaws.{task_at, task_is, column_below, partition_below, turn_asks, ends_at, turn_at}
 use Rattle.picture.proofs.Answers.{not_done}
@@ -28,16 +28,16 @@ abbrev inner : tie.After-turn-m invariant_loop decreases_loop → tie.In-loop-k 
 inner c = c.before.before.before.before.before.before.before.before.before.before.before
 
 abbrev pic : tie.At-loop-k invariant_loop decreases_loop → Picture
-pic c = let a = (start c).args in cut_out packed a.bytes.now a.tile a.frame a.table.now
+pic c = cut_out packed (start c).args.bytes.now (start c).args.tile (start c).args.frame (start c).args.table.now
 
 abbrev mem₀ : tie.At-loop-k invariant_loop decreases_loop → Memory
-mem₀ c = let a = (start c).args in memory_of a.y.now a.u.now a.v.now a.columns.now a.modes.now a.strengths.now
+mem₀ c = memory_of (start c).args.y.now (start c).args.u.now (start c).args.v.now (start c).args.columns.now (start c).args.modes.now (start c).args.strengths.now
 
 abbrev end : tie.At-loop-k invariant_loop decreases_loop → Total
 end c = total_of (pic c) (state_of (start c).args.tile.reader c.openers-readers.result c.empty-left.result (mem₀ c))
 
 abbrev state : tie.At-loop-k invariant_loop decreases_loop → State
-state c = let l = c.loop-k in state_of l.r l.readers l.left (memory_of l.y l.u l.v l.columns l.modes l.strengths)
+state c = state_of c.loop-k.r c.loop-k.readers c.loop-k.left (memory_of c.loop-k.y c.loop-k.u c.loop-k.v c.loop-k.columns c.loop-k.modes c.loop-k.strengths)
 
 shared : (c : tie.At-loop-k invariant_loop decreases_loop) → Shared (pic c)
 shared c = (start c).requires.0
@@ -70,7 +70,7 @@ pick_eight c =
 
 -- what the call is given is macroblock k's
 tasked : (c : tie.After-task_of invariant_loop decreases_loop) → c.task_of.result ≡ task_at (pic c.before.before.before.before.before) c.loop-k.k (state c.before.before.before.before.before)
-tasked c = let a = c.before.before.before.before.before in task_is (pic a) a.loop.k (state a) c.task_of.ensures (picked c.before.before.before) refl
+tasked c = task_is (pic c.before.before.before.before.before) c.loop-k.k (state c.before.before.before.before.before) c.task_of.ensures (picked c.before.before.before) refl
 
 tokens_are : (c : tie.After-token-tokens invariant_loop decreases_loop) → c.token-tokens.result.now ≡ (pic c.before.before.before).token (partition_of (pic c.before.before.before) c.loop-k.k)
 tokens_are c = c.token-tokens.ensures ∙ ap (pic c.before.before.before).token (picked c.before)
@@ -80,12 +80,12 @@ after c =
     turned_of c.turn-m.result.answer c.turn-m.result.left (memory_of c.turn-m.new.y c.turn-m.new.u c.turn-m.new.v c.turn-m.new.columns c.turn-m.new.modes c.turn-m.new.strengths)
 
 -- and so is what it answered
-turned_is : (c : tie.After-turn-m invariant_loop decreases_loop) → (after c ≡ turned packed (inner c).loop-k.false (inner c).loop-k.k (column_of (pic (inner c).before) (inner c).loop-k.k) (state (inner c).before).mem (step_at (pic (inner c).before) (inner c).loop-k.k (state (inner c).before)))
-turned_is c = let a = (inner c).before in turn_at (pic a) a.loop.k (state a) _ _ c.turn-m.ensures.0 (tasked c.before.before.before.before.before.before.before) a.before.before.before.before.part.ensures (tokens_are c.before.before.before.before.before.before.before.before.before)
+turned_is : (c : tie.After-turn-m invariant_loop decreases_loop) → (after c ≡ turned packed (inner c).loop-k.left (inner c).loop-k.k (column_of (pic (inner c).before) (inner c).loop-k.k) (state (inner c).before).mem (step_at (pic (inner c).before) (inner c).loop-k.k (state (inner c).before)))
+turned_is c = turn_at (pic (inner c).before) (inner c).loop-k.k (state (inner c).before) _ _ c.turn-m.ensures.0 (tasked c.before.before.before.before.before.before.before) (inner c).part-first.ensures (tokens_are c.before.before.before.before.before.before.before.before.before)
 
 -- and what it read
-counted : (c : tie.After-turn-m invariant_loop decreases_loop) → (c.turn-m.result.reads ≡ reads_at_lem (pic (inner c).before) (inner c).loop-k.k (state (inner c).before))
-counted c = let a = (inner c).before in reads_in (pic a) a.loop.k (state a) _ _ c.turn-m.ensures.1 (tasked c.before.before.before.before.before.before.before) a.before.before.before.before.part.ensures (tokens_are c.before.before.before.before.before.before.before.before.before)
+counted : (c : tie.After-turn-m invariant_loop decreases_loop) → (c.turn-m.result.reads ≡ reads_at (pic (inner c).before) (inner c).loop-k.k (state (inner c).before))
+counted c = reads_in (pic (inner c).before) (inner c).loop-k.k (state (inner c).before) _ _ c.turn-m.ensures.1 (tasked c.before.before.before.before.before.before.before) (inner c).part-first.ensures (tokens_are c.before.before.before.before.before.before.before.before.before)
 
 kept : (c : tie.After-turn-m invariant_loop decreases_loop) → KeptAll (after c).mem (mem₀ (inner c).before)
 kept c =
@@ -115,12 +115,12 @@ turn-requires c κs = turn_asks (pic c.before.before.before.before.before.before
 
 plus-requires : tie.Need-plus-reads-requires invariant_loop decreases_loop
 plus-requires c κs =
-    let live = live_from (inner c.before.before.before.before.before.before.before.before.before.before.before.before.before).openers-readers.ensures (inner c.before.before.before.before.before.before.before.before.before.before.before.before.before).empty-left.ensures (start (inner c.before.before.before.before.before.before.before.before.before.before.before.before.before).before).pre.1 in
+    let live = live_from (inner c.before.before.before.before.before.before.before.before.before.before.before.before.before).openers-readers.ensures (inner c.before.before.before.before.before.before.before.before.before.before.before.before.before).empty-left.ensures (start (inner c.before.before.before.before.before.before.before.before.before.before.before.before.before).before).requires.1 in
     going_able (shared (inner c.before.before.before.before.before.before.before.before.before.before.before.before.before).before) (inner c.before.before.before.before.before.before.before.before.before.before.before.before.before).loop-k.invariant.0 (less (inner c.before.before.before.before.before.before.before.before.before.before.before.before.before)) (counted c.before.before.before.before.before.before.before.before.before.before.before.before.before) (total_most (shared (inner c.before.before.before.before.before.before.before.before.before.before.before.before.before).before) (first_bytes (inner c.before.before.before.before.before.before.before.before.before.before.before.before.before).before) (λ q h. token_bytes (inner c.before.before.before.before.before.before.before.before.before.before.before.before.before).before q) live (small (inner c.before.before.before.before.before.before.before.before.before.before.before.before.before).before))
 
 returns : tie.Need-returns-in_default invariant_loop decreases_loop
 returns c =
-    stop_is (state_of (inner c.before.before.before.before.before.before.before.before.before.before.before.before.before.before.before.before.before).loop-k.r (inner c.before.before.before.before.before.before.before.before.before.before.before.before.before.before.before.before.before).loop-k.readers (inner c.before.before.before.before.before.before.before.before.before.before.before.before.before.before.before.before.before).loop-k.false (after c.before.before.before.before.before.before.before.before.before.before.before.before.before.before.before.before.before).mem) c.stop.ensures
+    stop_is (state_of (inner c.before.before.before.before.before.before.before.before.before.before.before.before.before.before.before.before.before).loop-k.r (inner c.before.before.before.before.before.before.before.before.before.before.before.before.before.before.before.before.before).loop-k.readers (inner c.before.before.before.before.before.before.before.before.before.before.before.before.before.before.before.before.before).loop-k.left (after c.before.before.before.before.before.before.before.before.before.before.before.before.before.before.before.before.before).mem) c.stop.ensures
     (going_refused (shared (inner c.before.before.before.before.before.before.before.before.before.before.before.before.before.before.before.before.before).before) (inner c.before.before.before.before.before.before.before.before.before.before.before.before.before.before.before.before.before).loop-k.invariant.0 (less (inner c.before.before.before.before.before.before.before.before.before.before.before.before.before.before.before.before.before)) (counted c.before.before.before.before.before.before.before.before.before.before.before.before.before.before.before.before.before) c.plus-reads.ensures (after c.before.before.before.before.before.before.before.before.before.before.before.before.before.before.before.before.before) (turned_is c.before.before.before.before.before.before.before.before.before.before.before.before.before.before.before.before.before) (not_done c.turn-m.result.answer c.in_default.in_default-own.keys2) c.stopped.ensures) (begin (inner c.before.before.before.before.before.before.before.before.before.before.before.before.before.before.before.before.before).before)
 
 mul-readers : tie.Need-offset_bounds-readers-p-in-loop-k invariant_loop decreases_loop
@@ -137,10 +137,9 @@ loop-less c = omega (arith, less c.before.before.before.before.before.before.bef
 
 loop-again : tie.Need-loop-k-preserved invariant_loop decreases_loop
 loop-again c =
-    let i = inner c.before.before.before.before.before.before.before.before.before.before.before.before.before.before.before.before.before.before in
-    let a = i.before in (
-      going_next (shared a) a.loop.inv.0 (less i) (counted c.before.before.before.before.before.before.before.before.before.before.before.before.before.before.before.before.before.before) c.plus-reads.ensures (after c.before.before.before.before.before.before.before.before.before.before.before.before.before.before.before.before.before.before) (turned_is c.before.before.before.before.before.before.before.before.before.before.before.before.before.before.before.before.before.before) c.in-Done.is
-          (ends_at (pic a) (state a) a.loop.k (shared a) a.loop.inv.0.live (less i) (first_bytes a) (token_bytes a _)) (picked c.before.before.before.before.before.before.before.before.before.before.before.before.before.before.before.before.before.before.before.before.before.before.before.before.before.before.before.before),
+    let i = inner c.before.before.before.before.before.before.before.before.before.before.before.before.before.before.before.before.before.before in (
+      going_next (shared i.before) i.loop-k.invariant.0 (less i) (counted c.before.before.before.before.before.before.before.before.before.before.before.before.before.before.before.before.before.before) c.plus-reads.ensures (after c.before.before.before.before.before.before.before.before.before.before.before.before.before.before.before.before.before.before) (turned_is c.before.before.before.before.before.before.before.before.before.before.before.before.before.before.before.before.before.before) c.in-Done.is
+          (ends_at (pic i.before) (state i.before) i.loop-k.k (shared i.before) i.loop-k.invariant.0.live (less i) (first_bytes i.before) (token_bytes i.before _)) (picked c.before.before.before.before.before.before.before.before.before.before.before.before.before.before.before.before.before.before.before.before.before.before.before.before.before.before.before.before),
       omega (arith, less i),
     )
 

@@ -16,14 +16,14 @@ abbrev start : tie.After-decode-read → tie.Start
 start c = c.before.before.before.before.before.before.before.before.before.before.before.before.before.before.before.before.before.before
 
 abbrev before : tie.After-decode-read → Memory
-before c = let a = (start c).args in memory_of a.y.now a.u.now a.v.now a.columns.now a.modes.now a.strengths.now
+before c = memory_of (start c).args.y.now (start c).args.u.now (start c).args.v.now (start c).args.columns.now (start c).args.modes.now (start c).args.strengths.now
 
 abbrev step : tie.After-decode-read → Step
 step c =
     step_of (start c).args.first.now (start c).args.tokens.now (start c).args.task.readers (start c).args.task.frame (start c).args.table.now (record { top = column_at packed (start c).args.columns.now (start c).args.task.place.column; left = beside_of (start c).args.task.place.column (start c).args.task.left }) (start c).args.task.place (planes_in (before c))
 
 abbrev painted : tie.After-decode-read → Planes
-painted c = let l = c.decode-read.new.1.1.1.1.1.1.1 in record { y = l.0; u = l.1.0; v = l.1.1.0 }
+painted c = record { y = c.decode-read.new.y; u = c.decode-read.new.u; v = c.decode-read.new.v }
 
 answer : (c : tie.After-decode-read) → record { answer = c.decode-read.result.outcome; planes = painted c } ≡ to_macroblock_called (planes_in (before c)) (step c)
 answer c =
@@ -41,7 +41,7 @@ ends c x e =
     (λ i. (c.shared_slice_known-3-1.given i).fits) x e
 
 returns : tie.Need-returns-in_default
-returns c = let d = called c.before.before in (turn_stopped _ _ _ (before d) (step d) (answer d) (not_done d.decode.result.outcome.answer c.in_default.in_default-own.keys2), counted d)
+returns c = let d = called c.before.before in (turn_stopped _ _ _ (before d) (step d) (answer d) (not_done d.decode-read.result.outcome.answer c.in_default.in_default-own.keys2), counted d)
 
 returns-2 : tie.Need-returns
 returns-2 c =

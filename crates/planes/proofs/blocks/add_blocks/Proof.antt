@@ -25,14 +25,14 @@ sub-block-requires c κs = (c.requires.1.0, (omega (arith, c.loop-i-test), (c.re
 
 -- the first coefficient, as it is read
 abbrev first : tie.After-add-arg-in-loop-i-2-1 invariant_loop decreases_loop → ℤ
-first c = let a = c.args in get_or a.c.now (a.from + c.loop-i.i) (pos 0)
+first c = get_or c.args.c.now (c.args.from + c.loop-i.i) (pos 0)
 
 dc : (c : tie.After-add-arg-in-loop-i-2-1 invariant_loop decreases_loop) → Know (round w16 (first c)) (first c) (negsuc 32767) (pos 32767)
 dc c = taken (first c) c.add-arg-in-loop-i-2-1.given
 
 -- its number among all
 among : (c : tie.After-sub_block-s invariant_loop decreases_loop) → (c.args.from + c.loop-i.i < 16) × (c.args.from + c.loop-i.i < length c.args.c.now)
-among c = let r = c.requires.1.1 in (omega (arith, r.few, c.loop-i-test), omega (arith, r.room, c.loop-i-test))
+among c = (omega (arith, c.requires.1.1.few, c.loop-i-test), omega (arith, c.requires.1.1.room, c.loop-i-test))
 
 add-requires : tie.Need-add-requires invariant_loop decreases_loop
 add-requires c κs = (lies_block (lies c.before.before.before.before), ((among c.before.before.before.before).0, c.requires.1.1.near))

@@ -31,23 +31,21 @@ abbrev turn : tie.After-add-arg-in-loop-i-2-1 invariant_loop decreases_loop → 
 turn c = c.before.before.before.before.before.before.before.before.before.before
 
 abbrev first : tie.After-add-arg-in-loop-i-2-1 invariant_loop decreases_loop → ℤ
-first c = let t = turn c in get_or t.before.before.before.before.args.c.now t.before.before.loop.i (pos 0)
+first c = let t = turn c in get_or t.args.c.now t.loop-i.i (pos 0)
 
 dc : (c : tie.After-add-arg-in-loop-i-2-1 invariant_loop decreases_loop) → Know (round w16 (first c)) (first c) (negsuc 32767) (pos 32767)
 dc c = taken (first c) c.add-arg-in-loop-i-2-1.given
 
 add-requires : tie.Need-add-requires invariant_loop decreases_loop
-add-requires c κs = (lies_block (still c.before.before.before.before.before.before), (omega arith, (turn c).before.before.before.before.requires.1.near))
+add-requires c κs = (lies_block (still c.before.before.before.before.before.before), (omega arith, (turn c).requires.1.near))
 
 loop-again : tie.Need-loop-i-preserved invariant_loop decreases_loop
 loop-again c =
-    let t = turn c.before.before.before in
-    let s = t.before.before.before.before in
-    let l = t.before.before.loop in (
+    let t = turn c.before.before.before in (
       omega arith,
-      small_turn s.pre.1 _ _ _ l.i (omega arith) t.sub-block.ensures refl (dc c.before.before.before).eq s.args.right s.args.modes.now _
-          l.inv.1 (lies t) c.predict_small.ensures c.add.ensures.1 c.add.ensures.0,
-      below_next (λ (j : ℕ). Fits16 (get_or s.args.c.now (0 + j) (pos 0))) l.i (subst (λ (k : ℕ). Fits16 (get_or s.args.c.now k (pos 0))) (sym (zero-add l.i)) (inside (dc c.before.before.before))) l.inv.2,
+      small_turn t.requires.1 _ _ _ t.loop-i.i (omega arith) t.sub_block-s.ensures refl (dc c.before.before.before).eq t.args.right t.args.modes.now _
+          t.loop-i.invariant.1 (lies t) c.predict_small.ensures c.add.ensures.1 c.add.ensures.0,
+      below_next (λ (j : ℕ). Fits16 (get_or t.args.c.now (0 + j) (pos 0))) t.loop-i.i (subst (λ (k : ℕ). Fits16 (get_or t.args.c.now k (pos 0))) (sym (zero-add t.loop-i.i)) (inside (dc c.before.before.before))) t.loop-i.invariant.2,
     )
 
 returns : tie.Need-returns invariant_loop decreases_loop

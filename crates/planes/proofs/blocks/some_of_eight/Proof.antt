@@ -14,7 +14,7 @@ decreases_loop c n first some₀ k₀ some k = 16 - k
 
 -- the last of the eight is a number of a block
 place : (c : tie.In-loop-k invariant_loop decreases_loop) → c.args.n * c.loop-k.k + (c.args.first + 7) < 16 * c.args.n
-place c = let s = c.before.before in lane_below s.args.n (s.args.first + 7) c.loop-k.k (omega arith) (omega arith)
+place c = lane_below c.args.n (c.args.first + 7) c.loop-k.k (omega arith) (omega arith)
 
 join-requires : tie.Need-join-requires invariant_loop decreases_loop
 join-requires c κs = (omega (arith, place c.before, c.requires.0), c.loop-k.invariant.2.long)

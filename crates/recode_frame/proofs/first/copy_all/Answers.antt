@@ -16,7 +16,7 @@ pub bounds-tops-column : goal.bounds-tops-column
 bounds-tops-column c = omega (arith, mod-lt c.loop-k.k {m = c.args.wide} c.requires.0, c.requires.1)
 
 pub copy_modes-m-requires : goal.copy_modes-m-requires
-copy_modes-m-requires c = (c.loop-k.invariant.rows (c.loop-k.k % c.args.wide), subst Modes (sym c.beside-aside.ensures) (left_modes (c.loop-k.k % c.args.wide) c.loop-k.false c.loop-k.invariant.lefts))
+copy_modes-m-requires c = (c.loop-k.invariant.rows (c.loop-k.k % c.args.wide), subst Modes (sym c.beside-aside.ensures) (left_modes (c.loop-k.k % c.args.wide) c.loop-k.left c.loop-k.invariant.lefts))
 
 pub offset_bounds-tops-column-in-loop-k : goal.offset_bounds-tops-column-in-loop-k
 offset_bounds-tops-column-in-loop-k c = omega (arith, mod-lt c.loop-k.k {m = c.args.wide} c.requires.0, c.requires.1)

@@ -28,13 +28,13 @@ abbrev begin : tie.At-loop-k invariant_loop decreases_loop → tie.Start invaria
 begin c = c.before.before.before.before.before.before.before.before.before.before.before.before.before.before.before.before.before.before
 
 abbrev pic : tie.At-loop-k invariant_loop decreases_loop → Picture
-pic c = let a = (begin c).args in pictured_of (call_of a.bytes.now a.tile a.header.now)
+pic c = pictured_of (call_of (begin c).args.bytes.now (begin c).args.tile (begin c).args.header.now)
 
 abbrev state : tie.At-loop-k invariant_loop decreases_loop → State
-state c = let l = c.loop-k in state_of l.r l.readers l.left (memory_of l.y l.u l.v l.columns l.modes l.strengths)
+state c = state_of c.loop-k.r c.loop-k.readers c.loop-k.left (memory_of c.loop-k.y c.loop-k.u c.loop-k.v c.loop-k.columns c.loop-k.modes c.loop-k.strengths)
 
 abbrev state₀ : tie.At-loop-k invariant_loop decreases_loop → State
-state₀ c = let a = (begin c).args in state_of a.stop.reader a.stop.readers a.stop.left (memory_of a.y.now a.u.now a.v.now a.columns.now a.modes.now a.strengths.now)
+state₀ c = state_of (begin c).args.stop.reader (begin c).args.stop.readers (begin c).args.stop.left (memory_of (begin c).args.y.now (begin c).args.u.now (begin c).args.v.now (begin c).args.columns.now (begin c).args.modes.now (begin c).args.strengths.now)
 
 shared : (c : tie.At-loop-k invariant_loop decreases_loop) → Shared (pic c)
 shared c = (begin c).requires.1.0
@@ -68,11 +68,11 @@ after c =
 
 -- what the call is given is macroblock k's
 tasked : (c : tie.After-task_of invariant_loop decreases_loop) → c.task_of.result ≡ task_at (pic c.before.before.before.before) c.loop-k.k (state c.before.before.before.before)
-tasked c = let a = c.before.before.before.before in task_is (pic a) a.loop.k (state a) c.task_of.ensures (picked c.before.before) (frame_is a)
+tasked c = task_is (pic c.before.before.before.before) c.loop-k.k (state c.before.before.before.before) c.task_of.ensures (picked c.before.before) (frame_is c.before.before.before.before)
 
 -- and so is what it answered
-turned_is : (c : tie.After-turn-m invariant_loop decreases_loop) → (after c ≡ turned packed (inner c).loop-k.false (inner c).loop-k.k (column_of (pic (inner c).before) (inner c).loop-k.k) (state (inner c).before).mem (rebuilt_at (pic (inner c).before) (inner c).loop-k.k (state (inner c).before)))
-turned_is c = let a = (inner c).before in rebuilt_turn (pic a) a.loop.k (state a) _ c.turn-m.ensures (tasked c.before.before.before.before.before.before.before) a.before.before.before.before.before.before.part.ensures
+turned_is : (c : tie.After-turn-m invariant_loop decreases_loop) → (after c ≡ turned packed (inner c).loop-k.left (inner c).loop-k.k (column_of (pic (inner c).before) (inner c).loop-k.k) (state (inner c).before).mem (rebuilt_at (pic (inner c).before) (inner c).loop-k.k (state (inner c).before)))
+turned_is c = rebuilt_turn (pic (inner c).before) (inner c).loop-k.k (state (inner c).before) _ c.turn-m.ensures (tasked c.before.before.before.before.before.before.before) (inner c).part-first.ensures
 
 returns : tie.Need-returns-in_default invariant_loop decreases_loop
 returns c = gone_none _ _ c.args.stop.answer (state_of c.args.stop.reader c.args.stop.readers c.args.stop.left (memory_of c.args.y.now c.args.u.now c.args.v.now c.args.columns.now c.args.modes.now c.args.strengths.now)) c.in_default.in_default-own.keys2 c.finished.ensures
@@ -95,7 +95,7 @@ loop-less c = let i = inner c.before.before.before.before.before.before.before.b
 loop-again : tie.Need-loop-k-preserved invariant_loop decreases_loop
 loop-again c =
     let i = inner c.before.before.before.before.before.before.before.before.before.before.before.before.before.before.before.before in
-    going_next (shared i.before) i.before.loop.inv (less i) (first_bytes i.before) (after c.before.before.before.before.before.before.before.before.before.before.before.before.before.before.before.before) (turned_is c.before.before.before.before.before.before.before.before.before.before.before.before.before.before.before.before) c.in-Done.is (picked c.before.before.before.before.before.before.before.before.before.before.before.before.before.before.before.before.before.before.before.before.before.before.before.before.before)
+    going_next (shared i.before) i.loop-k.invariant (less i) (first_bytes i.before) (after c.before.before.before.before.before.before.before.before.before.before.before.before.before.before.before.before) (turned_is c.before.before.before.before.before.before.before.before.before.before.before.before.before.before.before.before) c.in-Done.is (picked c.before.before.before.before.before.before.before.before.before.before.before.before.before.before.before.before.before.before.before.before.before.before.before.before.before)
 
 returns-2 : tie.Need-returns-after-loop-k invariant_loop decreases_loop
 returns-2 c = gone_tokens _ (pic c.before) (state₀ c.before) c.in-NoTokens.is (going_end c.loop-k.invariant c.loop-k-test.false)
@@ -103,8 +103,7 @@ returns-2 c = gone_tokens _ (pic c.before) (state₀ c.before) c.in-NoTokens.is 
 returns-3 : tie.Need-returns-in_default-finish invariant_loop decreases_loop
 returns-3 c =
     let i = inner c.before.before.before.before.before.before.before.before.before.before.before.before.before in
-    let a = i.before in
-    gone_tokens _ (pic a) (state₀ a) a.before.before.before.before.before.before.before.before.before.before.answer.given.1 (going_refused (shared a) a.loop.inv (less i) (after c.before.before.before.before.before.before.before.before.before.before.before.before.before) (turned_is c.before.before.before.before.before.before.before.before.before.before.before.before.before) (not_done c.turn-m.result.answer c.in_default-finish.in_default-finish-own.keys2))
+    gone_tokens _ (pic i.before) (state₀ i.before) i.in-NoTokens.is (going_refused (shared i.before) i.loop-k.invariant (less i) (after c.before.before.before.before.before.before.before.before.before.before.before.before.before) (turned_is c.before.before.before.before.before.before.before.before.before.before.before.before.before) (not_done c.turn-m.result.answer c.in_default-finish.in_default-finish-own.keys2))
 
 pub rest_spec : {M : Type 1} → statement M
-rest_spec = tie.close (tie.spec invariant_loop decreases_loop (λ c. search rules) (λ c κs. search rules) returns mul-blocks (λ c κs. search rules) (λ c κs. search rules) loop-holds (λ c. some_wide _ _ _ (less c)) (λ c κs. search rules) (λ c. omega (arith, pick_eight c)) (λ c. pick_eight c) (λ c κs. (some_wide _ _ _ (less c.before.before), (shared c.before.before.before).wide)) turn-requires (λ c. search rules) (λ c. omega (arith, pick_eight c.before.before.before.before.before.before.before.before.before.before.before.before.before.before.before.before.before.before.before.before.before.before.before.before)) (λ c. pick_eight c.before.before.before.before.before.before.before.before.before.before.before.before.before.before.before.before.before.before.before.before.before.before.before.before) add-k loop-less loop-again (λ c. c.loop-k.invariant.live.y ∙ sym (begin c.before).pre.1.1.0.y) (λ c. c.loop-k.invariant.live.u ∙ sym (begin c.before).pre.1.1.0.u) (λ c. c.loop-k.invariant.live.v ∙ sym (begin c.before).pre.1.1.0.v) (λ c. c.loop-k.invariant.live.columns ∙ sym (begin c.before).pre.1.1.0.columns) (λ c. c.loop-k.invariant.live.modes ∙ sym (begin c.before).pre.1.1.0.modes) (λ c. c.loop-k.invariant.live.strengths ∙ sym (begin c.before).pre.1.1.0.strengths) returns-2 (λ c. c.turn-m.auto.y ∙ (inner c.before.before.before.before.before.before.before.before.before.before.before.before.before).loop-k.invariant.live.y ∙ sym (begin (inner c.before.before.before.before.before.before.before.before.before.before.before.before.before).before).pre.1.1.0.y) (λ c. c.turn-m.auto.u ∙ (inner c.before.before.before.before.before.before.before.before.before.before.before.before.before).loop-k.invariant.live.u ∙ sym (begin (inner c.before.before.before.before.before.before.before.before.before.before.before.before.before).before).pre.1.1.0.u) (λ c. c.turn-m.auto.v ∙ (inner c.before.before.before.before.before.before.before.before.before.before.before.before.before).loop-k.invariant.live.v ∙ sym (begin (inner c.before.before.before.before.before.before.before.before.before.before.before.before.before).before).pre.1.1.0.v) (λ c. c.turn-m.auto.columns ∙ (inner c.before.before.before.before.before.before.before.before.before.before.before.before.before).loop-k.invariant.live.columns ∙ sym (begin (inner c.before.before.before.before.before.before.before.before.before.before.before.before.before).before).pre.1.1.0.columns) (λ c. c.turn-m.auto.modes ∙ (inner c.before.before.before.before.before.before.before.before.before.before.before.before.before).loop-k.invariant.live.modes ∙ sym (begin (inner c.before.before.before.before.before.before.before.before.before.before.before.before.before).before).pre.1.1.0.modes) (λ c. c.turn-m.auto.strengths ∙ (inner c.before.before.before.before.before.before.before.before.before.before.before.before.before).loop-k.invariant.live.strengths ∙ sym (begin (inner c.before.before.before.before.before.before.before.before.before.before.before.before.before).before).pre.1.1.0.strengths) returns-3)
+rest_spec = tie.close (tie.spec invariant_loop decreases_loop (λ c. search rules) (λ c κs. search rules) returns mul-blocks (λ c κs. search rules) (λ c κs. search rules) loop-holds (λ c. some_wide _ _ _ (less c)) (λ c κs. search rules) (λ c. omega (arith, pick_eight c)) (λ c. pick_eight c) (λ c κs. (some_wide _ _ _ (less c.before.before), (shared c.before.before.before).wide)) turn-requires (λ c. search rules) (λ c. omega (arith, pick_eight c.before.before.before.before.before.before.before.before.before.before.before.before.before.before.before.before.before.before.before.before.before.before.before.before)) (λ c. pick_eight c.before.before.before.before.before.before.before.before.before.before.before.before.before.before.before.before.before.before.before.before.before.before.before.before) add-k loop-less loop-again (λ c. c.loop-k.invariant.live.y ∙ sym (begin c.before).requires.1.1.0.y) (λ c. c.loop-k.invariant.live.u ∙ sym (begin c.before).requires.1.1.0.u) (λ c. c.loop-k.invariant.live.v ∙ sym (begin c.before).requires.1.1.0.v) (λ c. c.loop-k.invariant.live.columns ∙ sym (begin c.before).requires.1.1.0.columns) (λ c. c.loop-k.invariant.live.modes ∙ sym (begin c.before).requires.1.1.0.modes) (λ c. c.loop-k.invariant.live.strengths ∙ sym (begin c.before).requires.1.1.0.strengths) returns-2 (λ c. c.turn-m.auto.y ∙ (inner c.before.before.before.before.before.before.before.before.before.before.before.before.before).loop-k.invariant.live.y ∙ sym (begin (inner c.before.before.before.before.before.before.before.before.before.before.before.before.before).before).requires.1.1.0.y) (λ c. c.turn-m.auto.u ∙ (inner c.before.before.before.before.before.before.before.before.before.before.before.before.before).loop-k.invariant.live.u ∙ sym (begin (inner c.before.before.before.before.before.before.before.before.before.before.before.before.before).before).requires.1.1.0.u) (λ c. c.turn-m.auto.v ∙ (inner c.before.before.before.before.before.before.before.before.before.before.before.before.before).loop-k.invariant.live.v ∙ sym (begin (inner c.before.before.before.before.before.before.before.before.before.before.before.before.before).before).requires.1.1.0.v) (λ c. c.turn-m.auto.columns ∙ (inner c.before.before.before.before.before.before.before.before.before.before.before.before.before).loop-k.invariant.live.columns ∙ sym (begin (inner c.before.before.before.before.before.before.before.before.before.before.before.before.before).before).requires.1.1.0.columns) (λ c. c.turn-m.auto.modes ∙ (inner c.before.before.before.before.before.before.before.before.before.before.before.before.before).loop-k.invariant.live.modes ∙ sym (begin (inner c.before.before.before.before.before.before.before.before.before.before.before.before.before).before).requires.1.1.0.modes) (λ c. c.turn-m.auto.strengths ∙ (inner c.before.before.before.before.before.before.before.before.before.before.before.before.before).loop-k.invariant.live.strengths ∙ sym (begin (inner c.before.before.before.before.before.before.before.before.before.before.before.before.before).before).requires.1.1.0.strengths) returns-3)

@@ -15,14 +15,14 @@ abbrev start : tie.After-rebuild-m → tie.Start
 start c = c.before.before.before.before.before.before.before.before.before.before.before.before.before.before.before.before.before.before
 
 abbrev before : tie.After-rebuild-m → Memory
-before c = let a = (start c).args in memory_of a.y.now a.u.now a.v.now a.columns.now a.modes.now a.strengths.now
+before c = memory_of (start c).args.y.now (start c).args.u.now (start c).args.v.now (start c).args.columns.now (start c).args.modes.now (start c).args.strengths.now
 
 abbrev step : tie.After-rebuild-m → Step
 step c =
     rebuilt_of (start c).args.first.now (start c).args.task.readers (start c).args.task.frame (record { top = column_at packed (start c).args.columns.now (start c).args.task.place.column; left = beside_of (start c).args.task.place.column (start c).args.task.left }) (start c).args.task.place (planes_in (before c))
 
 abbrev painted : tie.After-rebuild-m → Planes
-painted c = let l = c.rebuild-m.new.1.1.1.1.1 in record { y = l.0; u = l.1.0; v = l.1.1.0 }
+painted c = record { y = c.rebuild-m.new.y; u = c.rebuild-m.new.u; v = c.rebuild-m.new.v }
 
 answer : (c : tie.After-rebuild-m) → record { answer = c.rebuild-m.result; planes = painted c } ≡ to_macroblock_called (planes_in (before c)) (step c)
 answer c =

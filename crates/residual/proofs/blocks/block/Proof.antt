@@ -39,9 +39,7 @@ start c = c.before.before.before.before.before.before.before.before.before
 part : (c : tie.After-decode-b) → (BlockPart (start c).args.table.now c.kind_of-k.result c.context_at-ctx.result c.sixteen-c.result (start c).args.s.now (start c).args.m.reader c.decode-b.result c.decode-b.new.out)
 part c =
     let b = start c in
-    let a = b.args in
-    let h = b.pre.0 in
-    coded_read _ _ _ _ _ _ h.reader h.size (kind_fine a.f a.small a.i c.kind_of-k.ensures) c.context_at-ctx.ensures.1 (sixteen_fine _ c.sixteen-c.ensures h.whole.each) c.decode-b.ensures
+    coded_read _ _ _ _ _ _ b.requires.0.reader b.requires.0.size (kind_fine b.args.f b.args.small b.args.i c.kind_of-k.ensures) c.context_at-ctx.ensures.1 (sixteen_fine _ c.sixteen-c.ensures b.requires.0.whole.each) c.decode-b.ensures
 
 returns : tie.Need-returns-in_default
 returns c =

@@ -43,7 +43,7 @@ same_length : tie.Need-shape_of-out-then-not-e invariant_loop decreases_loop
 same_length c = blocking_long _ _ _ _ _ _ _ _ _ _ _ c.loop-n.invariant.0
 
 returns : tie.Need-returns-then-not-e invariant_loop decreases_loop
-returns c = (blocking_stops _ _ _ _ _ _ _ _ _ _ _ c.requires.1.1.0 c.requires.1.1.1 c.loop-n.invariant.0 (λ i. (c.shared_slice_known-1.given c.loop-n.invariant.0).fits) (c.shared_slice_known-2-1.given c.loop-n.here).fits c.loop-n-test.true c.fill-full.ensures c.bit-e.ensures.0 (block c.args.table.now c.args.k.kind c.args.k.q0 c.args.k.q1 c.args.ctx c.args.k.first) refl (not-true _ c.if-not-e.true), (omega (arith, c.loop-n.invariant.0.most, c.loop-n-test.true), c.bit-e.ensures.1))
+returns c = (blocking_stops _ _ _ _ _ _ _ _ _ _ _ c.requires.1.1.0 c.requires.1.1.1 c.loop-n.invariant.0 (λ qi. (c.shared_slice_known-1.given qi).fits) (c.shared_slice_known-2-1.given c.loop-n.here).fits c.loop-n-test.true c.fill-full.ensures c.bit-e.ensures.0 (block c.args.table.now c.args.k.kind c.args.k.q0 c.args.k.q1 c.args.ctx c.args.k.first) refl (not-true _ c.if-not-e.true), (omega (arith, c.loop-n.invariant.0.most, c.loop-n-test.true), c.bit-e.ensures.1))
 
 pass-zeros-requires : tie.Need-pass_zeros-z-requires invariant_loop decreases_loop
 pass-zeros-requires c κs = ((c.requires.0.0, c.requires.1.0.0), ((c.requires.1.0.1.0, (c.loop-n-test.true, blocking_inside _ _ _ _ _ _ _ _ _ _ _ c.loop-n.invariant.0 c.requires.1.0.0 c.requires.1.0.1.0)), (c.requires.0.1.0, c.bit-e.ensures.1)))
@@ -61,7 +61,7 @@ same-length-2 : tie.Need-shape_of-out-then-z-eq16 invariant_loop decreases_loop
 same-length-2 c = blocking_long _ _ _ _ _ _ _ _ _ _ _ c.loop-n.invariant.0
 
 returns-2 : tie.Need-returns-then-z-eq16 invariant_loop decreases_loop
-returns-2 c = (blocking_zeros _ _ _ _ _ _ _ _ _ _ _ c.requires.1.1.0 c.requires.1.1.1 c.loop-n.invariant.0 (λ i. (c.shared_slice_known-1.given c.loop-n.invariant.0).fits) (c.shared_slice_known-2-1.given c.loop-n.here).fits c.loop-n-test.true c.fill-full.ensures c.bit-e.ensures.0 c.pass_zeros-z.ensures.0 (block c.args.table.now c.args.k.kind c.args.k.q0 c.args.k.q1 c.args.ctx c.args.k.first) refl (not-false _ c.if-not-e.false) c.if-z-eq16.true, (omega (arith, c.loop-n.invariant.0.most, c.loop-n-test.true), c.pass_zeros-z.ensures.1))
+returns-2 c = (blocking_zeros _ _ _ _ _ _ _ _ _ _ _ c.requires.1.1.0 c.requires.1.1.1 c.loop-n.invariant.0 (λ qi. (c.shared_slice_known-1.given qi).fits) (c.shared_slice_known-2-1.given c.loop-n.here).fits c.loop-n-test.true c.fill-full.ensures c.bit-e.ensures.0 c.pass_zeros-z.ensures.0 (block c.args.table.now c.args.k.kind c.args.k.q0 c.args.k.q1 c.args.ctx c.args.k.first) refl (not-false _ c.if-not-e.false) c.if-z-eq16.true, (omega (arith, c.loop-n.invariant.0.most, c.loop-n-test.true), c.pass_zeros-z.ensures.1))
 
 -- a number follows the zeros
 numbered : (c : tie.Else-z-eq16 invariant_loop decreases_loop) → c.pass_zeros-z.result.n < 16

@@ -11,7 +11,7 @@ element-copy-out-k : tie.Need-bounds-norms-range
 element-copy-out-k c = search rules
 
 few : (c : tie.After-k-1) → (get_or c.args.norms.now (c.args.range - 1) 0 < 8)
-few c = let p = c.requires in norm_few p.0 p.1.0 p.1.1
+few c = norm_few c.requires.0 c.requires.1.0 c.requires.1.1
 
 cast-k : tie.Need-overflow_cast-k-2
 cast-k c = record { fits = omega (arith, few c) }
@@ -37,7 +37,7 @@ wrapping-sub-u32-requires c κs = search rules
 returns : tie.Need-returns
 returns c =
     let t = norm_byte c.requires.0 c.requires.1.0 c.requires.1.1 in
-    (lifted_is c.requires.0 c.requires.1.0 c.requires.1.1 c.args.w c.args.value (wrapped32 _ _ _ (omega arith) (omega (arith, few c.before.before)) c.wrapping_sub_u32.ensures.value), record { least = t.0; most = t.1 })
+    (lifted_is c.requires.0 c.requires.1.0 c.requires.1.1 c.args.w c.args.value (wrapped32 _ _ _ (omega arith) (omega (arith, few c.before.before)) c.wrapping_sub_u32.ensures), record { least = t.0; most = t.1 })
 
 pub lifted_spec : {M : Type 1} → statement M
 lifted_spec = tie.close (tie.spec sub-k element-copy-out-k cast-k cast-t11 shl-t12 add-t7 element-copy-out-t10 cast-t15 wrapping-sub-u32-requires returns)

@@ -21,10 +21,10 @@ abbrev near : tie.After-part-near → Var
 near c = known (part_read (b c.before).is 27 c.part-near.ensures tt)
 
 abbrev p0 : tie.After-eighth → List Var
-p0 c = let n = c.before.before.before.before.before.before.before.before.before.before in known (step_read (a n.before.before).is 3 c.eighth.ensures) ∷ near n ∷ []
+p0 c = known (step_read (a c.before.before.before.before.before.before.before.before.before.before.before.before.before).is 3 c.eighth.ensures) ∷ near c.before.before.before.before.before.before.before.before.before.before.before ∷ []
 
 abbrev q0 : tie.After-eighth-2 → List Var
-q0 c = let n = c.before.before.before.before.before.before.before.before.before.before.before.before.before in known (step_read (a n.before.before).is 4 c.eighth-2.ensures) ∷ near n ∷ []
+q0 c = known (step_read (a c.before.before.before.before.before.before.before.before.before.before.before.before.before.before.before.before).is 4 c.eighth-2.ensures) ∷ near c.before.before.before.before.before.before.before.before.before.before.before.before.before.before ∷ []
 
 returns : tie.Need-returns
 unfolding tapped
