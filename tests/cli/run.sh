@@ -12,6 +12,7 @@ need python3 python3 || exit 1
 out=target/cli-test
 rm -rf $out target/cli
 mkdir -p $out
+trap 'find $out -type l -delete' EXIT # rt takes no link below the repository's top
 program target/cli/hookbarley -Werror || exit 1
 kept=tests/second/kept
 tried=0
