@@ -23,7 +23,7 @@ TABLE = "## Faults that the prover must refuse"
 # writes it at a proof file or a statement. rt cuts the line, so a fact is told by its beginning.
 FACTS = [
     r"^note: src/\S+:\d+:\d+: it is not proved that ",
-    r": error: (?:`[^`]*`: )?(?:as printed, the two types (?:first )?differ |the two types differ |`[^`]*` (?:`[^`]*` )?left a goal|the goal )",
+    r": error: (?:`[^`]*`: )?(?:as printed, |computed as far as they go, )?the two types (?:are|(?:first )?differ) ",
     r": error: (?:`[^`]*`: )?`(?:search|omega|grind|cc|simp)[^`]*`: (?:no proof|it is not|found no|could not|cannot)",
     r"\bdoes not hold\b",
     r"All of that holds, and the goal fails",
