@@ -25,6 +25,7 @@ FACTS = [
     r"^note: src/\S+:\d+:\d+: it is not proved that ",
     r": error: (?:`[^`]*`: )?(?:as printed, |computed as far as they go, )?the two types (?:are|(?:first )?differ) ",
     r": error: (?:`[^`]*`: )?`(?:search|omega|grind|cc|simp)\b[^`]*`:? (?:(?:found )?no proof|did not prove|the goal does not follow|the equations do not join)",
+    r": error: (?:`[^`]*`: )?give a proof of that as the last argument",
     r"\bdoes not hold\b",
     r"All of that holds, and the goal fails",
 ]
