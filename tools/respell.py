@@ -105,9 +105,11 @@ def turn_antt(text, names):
 
 
 def turn_rust(text, names):
-    camel = {o: n for o, n in names.items() if "-" not in o}
+    """A clause names no lemma, so what is in snake case already stays; each word is turned once."""
+    camel = {o: n for o, n in names.items() if re.search("[A-Z]", o) and "-" not in o}
+    dashed = {o: n for o, n in names.items() if "-" in o}
     text = re.sub(r"\b\w+\b", lambda m: camel.get(m[0], m[0]), text)
-    whole = lambda m: WORD.sub(lambda w: names.get(w[0], w[0]), m[0])
+    whole = lambda m: WORD.sub(lambda w: dashed.get(w[0], w[0]), m[0])
     text = re.sub(r"ghost use [^;]*;", whole, text)
     text = re.sub(r"(?s)\b(?:requires|ensures|ghost)\*? *(?:\w+ )?\{.*?\}(?=\n)", whole, text)
     return re.sub(r"`[^`\n]*`", lambda m: turn_page_span(m[0], names), text)

@@ -109,5 +109,5 @@ abbrev pub Bytes : List ℕ → Type 0
 Bytes s = (i : ℕ) → get_or s i 0 < 256
 
 -- what `copy` leaves where there is room for all
-pub copy_whole : (from to : List ℕ) → length from ≤ length to → take (length to) from ++ drop (length from) to ≡ take (length from) from ++ drop (length from) to
-copy_whole from to h = ap (λ (l : List ℕ). l ++ drop (length from) to) (take_all (length to) from h ∙ sym (take-length from))
+pub copy_whole : (from to : List ℕ) {new : List ℕ} → new ≡ take (length to) from ++ drop (length from) to → length from ≤ length to → new ≡ take (length from) from ++ drop (length from) to
+copy_whole from to e h = e ∙ ap (λ (l : List ℕ). l ++ drop (length from) to) (take_all (length to) from h ∙ sym (take-length from))

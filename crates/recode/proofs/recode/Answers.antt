@@ -1,4 +1,4 @@
-use Rattle.numbers.specs.Words.{ℕ, ◌≤◌, arith, refl, ◌∙◌, ap, subst, List, length}
+use Rattle.numbers.specs.Words.{ℕ, ◌≤◌, arith, refl, ◌∙◌, ap, subst, List, length, copy_whole}
 use Rattle.lent.specs.Memory.{memory_of}
 use Rattle.choices.specs.Choices.{call_of}
 use Rattle.recode.specs.PassLaws.{recode_refused, recode_fitted, recode_laid}
@@ -7,8 +7,7 @@ use Rattle.recode.proofs.recode.Goals as goal
 pub returns-then-written-ne0 : goal.returns-then-written-ne0
 returns-then-written-ne0 c = recode_refused (call_of c.args.bytes.now c.args.tile c.args.header.now) (memory_of c.args.y.now c.args.u.now c.args.v.now c.args.columns.now c.args.modes.now c.args.strengths.now) c.args.out.now c.least-at.result c.least-at.ensures.1 c.recode_tokens-written.ensures refl (subst (λ (l : List ℕ). c.least-at.result ≤ length l) c.part-first.ensures c.least-at.ensures.0) c.if-written-ne0.true c.refused.ensures
 
-pub copy-requires : goal.copy-requires
-copy-requires c = let z = recode_fitted (call_of c.args.bytes.now c.args.tile c.args.header.now) (memory_of c.args.y.now c.args.u.now c.args.v.now c.args.columns.now c.args.modes.now c.args.strengths.now) c.args.out.now c.least-at.result c.least-at.ensures.1 c.recode_tokens-written.ensures refl (λ i. (c.shared_slice_known-1.given i).fits) (λ h. c.least-at.ensures.2 h ∙ ap length c.part-first.ensures) c.if-written-ne0.false in omega (arith, z.first, ap length c.part-first.ensures, c.least-at.ensures.1)
-
 pub returns : goal.returns
-returns c = recode_laid (call_of c.args.bytes.now c.args.tile c.args.header.now) (memory_of c.args.y.now c.args.u.now c.args.v.now c.args.columns.now c.args.modes.now c.args.strengths.now) c.args.out.now c.least-at.result c.least-at.ensures.1 c.recode_tokens-written.ensures refl (recode_fitted (call_of c.args.bytes.now c.args.tile c.args.header.now) (memory_of c.args.y.now c.args.u.now c.args.v.now c.args.columns.now c.args.modes.now c.args.strengths.now) c.args.out.now c.least-at.result c.least-at.ensures.1 c.recode_tokens-written.ensures refl (λ i. (c.shared_slice_known-1.given i).fits) (λ h. c.least-at.ensures.2 h ∙ ap length c.part-first.ensures) c.if-written-ne0.false) c.part-first.ensures c.copy.ensures.1 c.one_tile-after.ensures
+returns c =
+    let z = recode_fitted (call_of c.args.bytes.now c.args.tile c.args.header.now) (memory_of c.args.y.now c.args.u.now c.args.v.now c.args.columns.now c.args.modes.now c.args.strengths.now) c.args.out.now c.least-at.result c.least-at.ensures.1 c.recode_tokens-written.ensures refl (λ i. (c.shared_slice_known-1.given i).fits) (λ h. c.least-at.ensures.2 h ∙ ap length c.part-first.ensures) c.if-written-ne0.false in
+    recode_laid (call_of c.args.bytes.now c.args.tile c.args.header.now) (memory_of c.args.y.now c.args.u.now c.args.v.now c.args.columns.now c.args.modes.now c.args.strengths.now) c.args.out.now c.least-at.result c.least-at.ensures.1 c.recode_tokens-written.ensures refl z c.part-first.ensures (copy_whole _ _ c.copy.ensures (omega (arith, z.first, ap length c.part-first.ensures, c.least-at.ensures.1))) c.one_tile-after.ensures

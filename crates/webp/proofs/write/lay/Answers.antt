@@ -1,10 +1,8 @@
-use Rattle.numbers.specs.Words.{◌-◌, ◌≤◌, ◌∙◌, arith, length, take, drop, length-take, length-drop, copy_whole}
+use Rattle.numbers.specs.Words.{arith, length-take, length-drop, copy_whole}
 use Rattle.webp.specs.WriteLaws.{laid_is}
 use Rattle.webp.proofs.write.lay.Goals as goal
 
 pub returns : goal.returns
 returns c =
     let a = c.args in
-    let room = take (length a.out.now - a.at) (drop a.at a.out.now) in
-    let h : length a.b.now ≤ length room = rw (length-take, length-drop) (omega arith) in
-    laid_is a.out.now a.at a.b.now c.requires (c.copy.ensures ∙ copy_whole a.b.now room h)
+    laid_is a.out.now a.at a.b.now c.requires (copy_whole _ _ c.copy.ensures (rw (length-take, length-drop) (omega arith)))
