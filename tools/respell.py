@@ -36,9 +36,13 @@ def bare(text):
 
 
 def in_snake_case(name):
-    name = name.replace("getD", "get_or").replace("List·", "list_")
+    name = name.replace("getD", "get_or").replace("CC", "Cc")
     words = re.sub(r"(?<=[a-z0-9])[A-Z]", lambda m: "_" + m[0].lower(), name)
     return words.replace("-", "_").replace("·", "_")
+
+
+# Names of the kit's under an older name of the kit's: today's stands for both.
+KITS = {"List·getD-append": "get_or-append", "List·getD-eq-default": "get_or-eq_default"}
 
 
 def turns(name, foreign):
@@ -73,7 +77,7 @@ def of_rust():
 def table():
     declared, foreign, words = named()
     rust = of_rust()
-    turned = {n: in_snake_case(n) for n in declared if turns(n, foreign)}
+    turned = {n: in_snake_case(n) for n in declared if turns(n, foreign) and n not in KITS}
     taken = (words - set(turned)) | foreign
     by = collections.defaultdict(list)
     for old in sorted(turned):
@@ -93,7 +97,7 @@ def table():
     met = collections.Counter(turned.values())
     bad = [n for n, k in met.items() if k > 1 or n in words - set(turned) or n in foreign]
     assert not bad, bad
-    return turned
+    return turned | KITS
 
 
 def turn_antt(text, names):

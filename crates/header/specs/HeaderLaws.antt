@@ -1,5 +1,5 @@
 -- The laws of the header's test: what a fine header is.
-use Rattle.numbers.specs.Words.{ℕ, zero, suc, ◌+◌, ◌-◌, ◌/◌, ◌%◌, ◌<◌, add-one, arith, ◌≡◌, refl, sym, ap, Bool, true, false, not, ◌||◌, ⊎_elim, eqb, lt_or, never, not_so, both_left, both_right, both_true, eq-eqb, eqb-true, not-true, List, length, list_get_or_eq_default, ℤ, pos, negsuc, ◌+ℤ◌, ◌*ℤ◌, lt_z, shr_z, In, Each, of_le, of_eq, nlt_le, add_parts, up_times, dn_times}
+use Rattle.numbers.specs.Words.{ℕ, zero, suc, ◌+◌, ◌-◌, ◌/◌, ◌%◌, ◌<◌, add-one, arith, ◌≡◌, refl, sym, ap, Bool, true, false, not, ◌||◌, ⊎_elim, eqb, lt_or, never, not_so, both_left, both_right, both_true, eq-eqb, eqb-true, not-true, List, length, get_or-eq_default, ℤ, pos, negsuc, ◌+ℤ◌, ◌*ℤ◌, lt_z, shr_z, In, Each, of_le, of_eq, nlt_le, add_parts, up_times, dn_times}
 use Rattle.header.specs.Header.{entry_count, entry, probability_of, outside, fine_to, entries_of, header_of}
 
 -- ---- a probability
@@ -71,7 +71,7 @@ entries_each h e =
     record {
       at = λ i. ⊎_elim
           (λ l. inside (entry h i) (fine_at h (length h) i e l))
-          (λ g. rw (list_get_or_eq_default h (pos 0) {n = i} g) (record { low = of_le (omega arith); high = of_le (omega arith) }))
+          (λ g. rw (get_or-eq_default h (pos 0) {n = i} g) (record { low = of_le (omega arith); high = of_le (omega arith) }))
           (lt_or i (length h));
     }
 

@@ -1,6 +1,6 @@
 -- The laws of column records, in both forms: what was written is read back, the other columns stay, and every context in the memory stays in
 -- range.
-use Rattle.numbers.specs.Words.{ℕ, ◌+◌, ◌*◌, ◌<◌, zero-add, arith, ◌≡◌, refl, sym, ◌∙◌, ap, ap₂, true, ⊎_elim, lit<, eq_or, List, length, get_or, replicate, list_get_or_append, length-append, get_or-append-add}
+use Rattle.numbers.specs.Words.{ℕ, ◌+◌, ◌*◌, ◌<◌, zero-add, arith, ◌≡◌, refl, sym, ◌∙◌, ap, ap₂, true, ⊎_elim, lit<, eq_or, List, length, get_or, replicate, get_or-append, length-append, get_or-append-add}
 use Rattle.modes.specs.declared.contexts.Context.{Context}
 use Rattle.modes.specs.Modes.{empty_context, context_fine_of, Shaped}
 use Rattle.column.specs.Column.{digits_of}
@@ -19,7 +19,7 @@ module _ (c : Context) (z : Shaped c) where
   in_bytes e packed = context_back c z e
   in_bytes e old =
       let a = bytes_are 0 4 (column_bytes old c) c.modes z.modes
-      (λ j h. sym (list_get_or_append c.modes c.flags 0 j (rw z.modes h)) ∙ ap (λ (n : ℕ). get_or (column_bytes old c) n 0) (sym (zero-add j))) in
+      (λ j h. sym (get_or-append c.modes c.flags 0 j (rw z.modes h)) ∙ ap (λ (n : ℕ). get_or (column_bytes old c) n 0) (sym (zero-add j))) in
       let b = bytes_are 4 9 (column_bytes old c) c.flags z.flags
       (λ j h. sym (get_or-append-add c.modes c.flags j 0) ∙ ap (λ (n : ℕ). get_or (column_bytes old c) (n + j) 0) z.modes) in
       λ i. record { modes = a i; flags = b i }

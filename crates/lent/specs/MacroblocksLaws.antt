@@ -1,5 +1,5 @@
 -- The laws of the records of macroblocks: what was written is read back, and the other records stay.
-use Rattle.numbers.specs.Words.{ℕ, suc, ◌+◌, ◌<◌, ◌≡◌, refl, sym, ◌∙◌, ap, Bool, true, false, ◌&&◌, ltb, lit<, both_left, both_true, lt-ltb, bit_of, List, [], ◌∷◌, ◌++◌, length, get_or, list_get_or_append, length-append, get_or-append-add, get_or-append_seam, copied}
+use Rattle.numbers.specs.Words.{ℕ, suc, ◌+◌, ◌<◌, ◌≡◌, refl, sym, ◌∙◌, ap, Bool, true, false, ◌&&◌, ltb, lit<, both_left, both_true, lt-ltb, bit_of, List, [], ◌∷◌, ◌++◌, length, get_or, get_or-append, length-append, get_or-append-add, get_or-append_seam, copied}
 use Rattle.modes.specs.Modes.{zeros, Macroblock, kinds_of}
 use Rattle.modes.specs.ModesLaws.{InRange}
 use Rattle.modes.specs.declared.answers.Kinds.{Kinds}
@@ -29,7 +29,7 @@ module _ (k : Kinds) (modes : List ℕ) (e : length modes ≡ 16) where
       rw (on_back k.skip, on_back k.small, d)
 
   modes_in_lem : modes_in (mode_record k modes) ≡ modes
-  modes_in_lem = bytes_are 3 16 (mode_record k modes) modes e (λ j h. sym (get_or-append-add (k.segment ∷ bit_of k.skip ∷ bit_of k.small ∷ []) (modes ++ (k.chroma ∷ [])) j 0 ∙ list_get_or_append modes (k.chroma ∷ []) 0 j (rw e h)))
+  modes_in_lem = bytes_are 3 16 (mode_record k modes) modes e (λ j h. sym (get_or-append-add (k.segment ∷ bit_of k.skip ∷ bit_of k.small ∷ []) (modes ++ (k.chroma ∷ [])) j 0 ∙ get_or-append modes (k.chroma ∷ []) 0 j (rw e h)))
 
 module _ (mem : List ℕ) (i : ℕ) (k : Kinds) (modes : List ℕ) where
   pub mode_set_length : length (mode_set mem i k modes) ≡ length mem

@@ -1,5 +1,5 @@
 -- The laws of records, for every width: what was written is read back, the other records stay, and what the calls answer.
-use Rattle.numbers.specs.Words.{ℕ, suc, ◌+◌, ◌-◌, ◌*◌, ◌/◌, ◌≤◌, ◌<◌, le-div_iff_mul-le, mul-le-mul_right, suc-mul, zero-add, arith, ◌≡◌, sym, ◌∙◌, ap, Bool, true, false, ◌&&◌, inl, inr, ⊎_elim, ltb, lt_or, both_true, both_false, le-ltb, lt-ltb, List, [], ◌++◌, append-nil, length, get_or, take, drop, replicate, list_get_or_append, length-append, length-drop, length-replicate, ext_get_or, get_or-append-add, get_or-drop, get_or-take, length-take-le, build_listed, get_or_build, built, build_same, get_or_constant, copied, Off, length_copied, copied_in, copied_off}
+use Rattle.numbers.specs.Words.{ℕ, suc, ◌+◌, ◌-◌, ◌*◌, ◌/◌, ◌≤◌, ◌<◌, le-div_iff_mul-le, mul-le-mul_right, suc-mul, zero-add, arith, ◌≡◌, sym, ◌∙◌, ap, Bool, true, false, ◌&&◌, inl, inr, ⊎_elim, ltb, lt_or, both_true, both_false, le-ltb, lt-ltb, List, [], ◌++◌, append-nil, length, get_or, take, drop, replicate, get_or-append, length-append, length-drop, length-replicate, ext_get_or, get_or-append-add, get_or-drop, get_or-take, length-take-le, build_listed, get_or_build, built, build_same, get_or_constant, copied, Off, length_copied, copied_in, copied_off}
 use Rattle.lent.specs.Memory.{record_at, record_set, records_in, bytes_of, Written, record_written, record_found}
 use Rattle.numbers.specs.declared.Checked.TheVariants as K
 
@@ -117,7 +117,7 @@ copied_middle a b c d e =
     inner : (j : ℕ) → j < length c → get_or (copied l (length a) c 0 (length c)) (length a + j) 0 ≡ get_or (a ++ (c ++ d)) (length a + j) 0
     inner j h =
         copied_in l (length a) c 0 (length c) j (omega (arith, long)) h ∙ ap (λ (n : ℕ). get_or c n 0) (zero-add j)
-        ∙ sym (get_or-append-add a (c ++ d) j 0 ∙ list_get_or_append c d 0 j h)
+        ∙ sym (get_or-append-add a (c ++ d) j 0 ∙ get_or-append c d 0 j h)
 
     later : (j : ℕ) → get_or (copied l (length a) c 0 (length c)) (length a + (length c + j)) 0 ≡ get_or (a ++ (c ++ d)) (length a + (length c + j)) 0
     later j =
@@ -127,7 +127,7 @@ copied_middle a b c d e =
 
     at : (i : ℕ) → get_or (copied l (length a) c 0 (length c)) i 0 ≡ get_or (a ++ (c ++ d)) i 0
     at i = ⊎_elim
-        (λ h. copied_off l (length a) c 0 (length c) i (inl h) ∙ list_get_or_append a (b ++ d) 0 i h ∙ sym (list_get_or_append a (c ++ d) 0 i h))
+        (λ h. copied_off l (length a) c 0 (length c) i (inl h) ∙ get_or-append a (b ++ d) 0 i h ∙ sym (get_or-append a (c ++ d) 0 i h))
         (λ h. ⊎_elim
         (λ k. let f : i ≡ length a + (i - length a) = omega arith in rw f (inner (i - length a) k))
         (λ k. let f : i ≡ length a + (length c + (i - length a - length c)) = omega arith in rw f (later (i - length a - length c)))

@@ -1,5 +1,5 @@
 -- The laws of the public call: what its checks say, that good arguments give the macroblock, and that a refusal changes nothing.
-use Rattle.numbers.specs.Words.{ℕ, zero, suc, ◌*◌, ◌/◌, ◌%◌, ◌≤◌, ◌<◌, mul-div_cancel, arith, ◌≡◌, refl, sym, ◌∙◌, ap, subst, Bool, true, false, ◌&&◌, eqb, ltb, leb, both_left, both_right, both_true, both_false, eq-eqb, eqb-true, le-leb, le-ltb, leb-true, lt-leb, lt-ltb, ltb-true, List, length, get_or, list_get_or_eq_default, w8, Fits}
+use Rattle.numbers.specs.Words.{ℕ, zero, suc, ◌*◌, ◌/◌, ◌%◌, ◌≤◌, ◌<◌, mul-div_cancel, arith, ◌≡◌, refl, sym, ◌∙◌, ap, subst, Bool, true, false, ◌&&◌, eqb, ltb, leb, both_left, both_right, both_true, both_false, eq-eqb, eqb-true, le-leb, le-ltb, leb-true, lt-leb, lt-ltb, ltb-true, List, length, get_or, get_or-eq_default, w8, Fits}
 use Rattle.header.specs.Header.{probability_count}
 use Rattle.reader.specs.declared.boolean.Reader.{Reader}
 use Rattle.reader.specs.Reading.{valid_of}
@@ -33,7 +33,7 @@ levels_fact l n e = go
     go (suc zero) = leb-true _ _ (both_right (at 0) (at 1) two)
     go (suc (suc zero)) = leb-true _ _ (both_left (at 2) (at 3) more)
     go (suc (suc (suc zero))) = leb-true _ _ (both_right (at 2) (at 3) more)
-    go (suc (suc (suc (suc i)))) = rw (list_get_or_eq_default l 0 {n = suc (suc (suc (suc i)))} (omega arith)) (omega arith)
+    go (suc (suc (suc (suc i)))) = rw (get_or-eq_default l 0 {n = suc (suc (suc (suc i)))} (omega arith)) (omega arith)
 
 pub levels_test : (l : List ℕ) → ((i : ℕ) → get_or l i 0 ≤ 63) → levels_fine_of l ≡ true
 levels_test l h = both_true (both_true (le-leb _ _ (h 0)) (le-leb _ _ (h 1))) (both_true (le-leb _ _ (h 2)) (le-leb _ _ (h 3)))

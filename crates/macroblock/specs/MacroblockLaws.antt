@@ -1,5 +1,5 @@
 -- The laws of one macroblock: what its inner functions ask, and what its three squares and its two grammars give.
-use Rattle.numbers.specs.Words.{ℕ, ◌+◌, ◌*◌, ◌/◌, ◌≤◌, arith, ◌≡◌, refl, sym, ◌∙◌, ap, Bool, true, false, not, ◌||◌, inl, inr, ⊎_elim, lt_or, never, List, length, get_or, take, drop, replicate, list_get_or_eq_default, length-drop, length-take, drop-drop, get_or-drop, get_or-take, length-take-le, take_all, ℤ, pos, negsuc, Each, of_le}
+use Rattle.numbers.specs.Words.{ℕ, ◌+◌, ◌*◌, ◌/◌, ◌≤◌, arith, ◌≡◌, refl, sym, ◌∙◌, ap, Bool, true, false, not, ◌||◌, inl, inr, ⊎_elim, lt_or, never, List, length, get_or, take, drop, replicate, get_or-eq_default, length-drop, length-take, drop-drop, get_or-drop, get_or-take, length-take-le, take_all, ℤ, pos, negsuc, Each, of_le}
 use Rattle.reader.specs.declared.boolean.Reader.{Reader}
 use Rattle.reader.specs.Reading.{Given, given, missing, run}
 use Rattle.header.specs.declared.frame.Frame.{Frame}
@@ -28,7 +28,7 @@ each_part c n k e =
     record {
       at = λ i. ⊎_elim
           (λ l. rw (get_or-take n (drop k c) i (pos 0) l, get_or-drop k c i (pos 0)) (e.at (k + i)))
-          (λ g. rw (list_get_or_eq_default (take n (drop k c)) (pos 0) {n = i} (short i g)) (record { low = of_le (omega arith); high = of_le (omega arith) }))
+          (λ g. rw (get_or-eq_default (take n (drop k c)) (pos 0) {n = i} (short i g)) (record { low = of_le (omega arith); high = of_le (omega arith) }))
           (lt_or i n);
     }
   where
@@ -130,8 +130,8 @@ ended_is f m d e g h = rw (e, g, h)
 
 -- no level, where there is no such segment
 pub level_none : (f : Frame) (small : Bool) {segment : ℕ} → length f.large ≡ 4 → length f.small ≡ 4 → 4 ≤ segment → 0 ≡ level_at f small segment
-level_none f true {segment} e g h = sym (list_get_or_eq_default f.small 0 {n = segment} (omega (arith, g)))
-level_none f false {segment} e g h = sym (list_get_or_eq_default f.large 0 {n = segment} (omega (arith, e)))
+level_none f true {segment} e g h = sym (get_or-eq_default f.small 0 {n = segment} (omega (arith, g)))
+level_none f false {segment} e g h = sym (get_or-eq_default f.large 0 {n = segment} (omega (arith, e)))
 
 -- THE LAW of the end: where all is in range, it is the macroblock
 pub complete_good : (f : Frame) (place : Place) (p : Planes) (m : Macroblock) (next : Reader) (d : Model) (after : Reader) → Sound f → Laid place p → Painting m d.coefficients

@@ -1,5 +1,5 @@
 -- The table of small modes' probabilities: the code's is the RFC's with both modes renumbered, and each entry is in 1..255.
-use Rattle.numbers.specs.Words.{ℕ, ◌+◌, ◌-◌, ◌*◌, ◌/◌, ◌%◌, ◌≤◌, ◌<◌, arith, ◌≡◌, refl, sym, ◌∙◌, ap, true, ◌&&◌, ⊎_elim, ltb, leb, lit<, lt_or, both_left, both_right, leb-true, ltb-true, List, length, get_or, take, drop, list_get_or_eq_default, length-drop, ext_get_or, get_or-drop, get_or-take, length-take-le, length_build, get_or_build, built, all_of, permuted, all_of_lem, all_of_any, permuted_at}
+use Rattle.numbers.specs.Words.{ℕ, ◌+◌, ◌-◌, ◌*◌, ◌/◌, ◌%◌, ◌≤◌, ◌<◌, arith, ◌≡◌, refl, sym, ◌∙◌, ap, true, ◌&&◌, ⊎_elim, ltb, leb, lit<, lt_or, both_left, both_right, leb-true, ltb-true, List, length, get_or, take, drop, get_or-eq_default, length-drop, ext_get_or, get_or-drop, get_or-take, length-take-le, length_build, get_or_build, built, all_of, permuted, all_of_lem, all_of_any, permuted_at}
 use Rattle.reader.specs.ReadingLaws.{Bytes}
 use Rattle.modes.specs.Table.{rfc_numbers, rfc_of, rfc_place, rfc_table, probabilities, renumbered_table}
 
@@ -49,7 +49,7 @@ module _ (above left : ℕ) where
   pub probabilities_bytes : Bytes (probabilities above left)
   probabilities_bytes i = ⊎_elim
       (λ (h : i < 9). (probabilities_in i h).1)
-      (λ (h : 9 ≤ i). rw (list_get_or_eq_default (probabilities above left) 0 {n = i} (rw probabilities_length h)) (lit< tt))
+      (λ (h : 9 ≤ i). rw (get_or-eq_default (probabilities above left) 0 {n = i} (rw probabilities_length h)) (lit< tt))
       (lt_or i 9)
 
   nine_are : above < 10 → left < 10 → take 9 (drop (at above left) renumbered_table) ≡ probabilities above left

@@ -108,6 +108,10 @@ byte_at s i = get_or s i 0
 abbrev pub Bytes : List ℕ → Type 0
 Bytes s = (i : ℕ) → get_or s i 0 < 256
 
--- what `copy` leaves where there is room for all
-pub copy_whole : (from to : List ℕ) {new : List ℕ} → new ≡ take (length to) from ++ drop (length from) to → length from ≤ length to → new ≡ take (length from) from ++ drop (length from) to
-copy_whole from to e h = e ∙ ap (λ (l : List ℕ). l ++ drop (length from) to) (take_all (length to) from h ∙ sym (take-length from))
+-- what `copy` leaves: as much of a as b has room for, then the rest of b
+abbrev pub copied_over : List ℕ → List ℕ → List ℕ
+copied_over a b = take (length b) a ++ drop (length a) b
+
+-- where there is room for all
+pub copy_whole : (a b : List ℕ) {c : List ℕ} → c ≡ copied_over a b → length a ≤ length b → c ≡ take (length a) a ++ drop (length a) b
+copy_whole a b e h = e ∙ ap (λ (l : List ℕ). l ++ drop (length a) b) (take_all (length b) a h ∙ sym (take-length a))

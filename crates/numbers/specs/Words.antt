@@ -1,6 +1,6 @@
 -- The words that other crates' specs and proofs are written in: the kit's, under the kit's own names, and those of this crate.
 -- numbers
-pub use Rattle.std.specs.Prelude.{ℕ, zero, suc, ◌+◌, ◌-◌, ◌*◌, ◌/◌, ◌%◌, ◌^◌, min, max, ◌≤◌, ◌<◌, ◌≡◌, refl, Bool, true, false, not, ◌&&◌, ◌||◌, cond, ◌⊎◌, eqb, ltb, leb, T, List, [], ◌∷◌, ◌++◌, length, get_or, set, take, drop, replicate, ℤ, pos, negsuc, neg_ℤ, nat_abs, ◌+ℤ◌, ◌-ℤ◌, ◌*ℤ◌, ◌≤ℤ◌}
+pub use Rattle.std.specs.Prelude.{ℕ, zero, suc, ◌+◌, ◌-◌, ◌*◌, ◌/◌, ◌%◌, ◌^◌, min, max, ◌≤◌, ◌<◌, ◌≡◌, ◌≢◌, refl, Bool, true, false, not, ◌&&◌, ◌||◌, cond, ◌⊎◌, eqb, ltb, leb, T, List, [], ◌∷◌, ◌++◌, length, get_or, set, take, drop, replicate, ℤ, pos, negsuc, neg_ℤ, nat_abs, ◌+ℤ◌, ◌-ℤ◌, ◌*ℤ◌, ◌≤ℤ◌}
 pub use Rattle.std.proofs.Common.{add-one, add_assoc, add-mul, add-suc, add-zero, div-add-mod', div-lt_iff_lt-mul, div-mul-le_self, div-one, le-div_iff_mul-le, le_of_mul-le-mul_right, lt_of_mul-lt-mul_right, mod-eq_of_lt, mod-lt, mul_assoc, mul_comm, mul-div_cancel, mul-le-mul, mul-le-mul_left, mul-le-mul_right, mul-lt-mul_of_pos_right, mul-one, mul-suc, mul-zero, one-mul, pow-suc, sub-add_cancel, suc-add, suc-mul, zero-add, arith, pow-add, pow_mono, pow_pos, shr-shr, sym, ◌∙◌, ap, ap₂, subst, inl, inr, ⊎_elim, lit<, lit≤, append_assoc, append-nil, drop_of_length-le, length-append, length-drop, length-set, length-take, take-append-drop, drop_at, drop-cons, drop-drop, ext_get_or, get_or-append-add, get_or-drop, get_or-set_other, get_or-set_same, get_or-take, length-take-le, lt-length-set, set-set, take_all, take_at, take-suc}
 pub use Rattle.std.proofs.Math.Nat.{add-mul-div_right, add-mul-mod_self_right, div-add-mod, div-div-eq-div-mul, div-eq_of_lt, div-eq_of_lt-le, mod-add-div', mod-le, mul-add-mod_self_left, mul-div-mul_right, mul-lt-mul_of_pos_left, mul-mod_left, pow-succ'}
 pub use Rattle.std.proofs.Math.Decide.{dec_lt, ℕ_discrete}
@@ -15,12 +15,12 @@ pub use Rattle.numbers.specs.Powers.{twice, doubled, doubled_less, halved, mod_s
 pub use Rattle.numbers.specs.Tests.{lt_or, eq_or, not_first, never, not_so, both_left, both_right, both_true, both_false, cond_at, eq-eqb, eqb-false, eqb-true, le-leb, le-ltb, leb-false, leb-true, lt-leb, lt-ltb, ltb-false, ltb-true, ne_eqb, not-false, not-true}
 pub use Rattle.numbers.specs.Flags.{bit_of, bit_small}
 -- lists and tables
-pub use Rattle.std.proofs.Math.ListN.{get_or-append as list_get_or_append, get_or-eq_default as list_get_or_eq_default}
+pub use Rattle.std.proofs.Math.ListN.{get_or-append, get_or-eq_default}
 pub use Rattle.std.proofs.lemmas.List.{get_or-replicate, length-replicate, drop-append-le, set-append_left, set_at, set-get_or, take-set-le}
 pub use Rattle.std.proofs.Math.Seq.{append_snoc, drop-append-add, drop-append_seam, drop-length, get_or-append_seam, length-sets, set_out, take-append_seam, take-length}
 pub use Rattle.std.proofs.lemmas.List.Edits.{sets, sets-eq}
 unfoldable pub use Rattle.numbers.specs.Lists.{build}
-pub use Rattle.numbers.specs.Lists.{listed, Filled, ◌∷≡◌, set_keeps, length_build, build_listed, get_or_build, get_or_build_past, built, build_same, filled_none, filled_next, filled_all, get_or_constant, constant, build_constant, byte_at, Bytes, copy_whole}
+pub use Rattle.numbers.specs.Lists.{listed, Filled, ◌∷≡◌, set_keeps, length_build, build_listed, get_or_build, get_or_build_past, built, build_same, filled_none, filled_next, filled_all, get_or_constant, constant, build_constant, byte_at, Bytes, copied_over, copy_whole}
 unfoldable pub use Rattle.numbers.specs.Runs.{placed, copied}
 pub use Rattle.numbers.specs.Runs.{Off, off_less, placed_none, placed_next, length_placed, placed_in, placed_off, placed_keeps, placed_self, placed_same, copied_placed, copied_none, copied_next, length_copied, copied_keeps, copied_in, copied_off}
 unfoldable pub use Rattle.numbers.specs.Stores.{stored_at}

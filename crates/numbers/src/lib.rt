@@ -2,8 +2,8 @@
 // another crate's specs and proofs cite them through specs/Words.antt.
 #![tactic(auto)]
 
-ghost use Rattle.std.specs.Prelude.{◌≡◌, ◌++◌, length, take, drop};
-ghost use Rattle.numbers.specs.Lists.{byte_at};
+ghost use Rattle.std.specs.Prelude.{◌≡◌};
+ghost use Rattle.numbers.specs.Lists.{byte_at, copied_over};
 ghost use Rattle.numbers.specs.Clamp.{clamp_z, up_to};
 ghost use Rattle.numbers.specs.Wrap.{wrap16_of};
 
@@ -69,7 +69,7 @@ pub fn byte_or_zero(s: &[u8], i: usize) -> u8
 
 // As much of `from` as `to` has room for, at the start of `to`; what lies behind it in `to` is left alone.
 pub fn copy(from: &[u8], to: &mut [u8])
-    ensures { to.new ≡ take (length to.old) from.now ++ drop (length from.now) to.old }
+    ensures { to.new ≡ copied_over from.now to.old }
 {
     let n = from.len().min(to.len());
     to[..n].copy_from_slice(&from[..n]);

@@ -796,8 +796,8 @@ pub hookbarley_key_frame_lem : (bytes : List ℕ) (header : List ℤ) (tile y u 
 hookbarley_key_frame_lem bytes header tile y u v columns modes strengths = determined (show_called_of bytes header tile (memory_of y u v columns modes strengths))
 
 -- hookbarley::recoding::hookbarley_recode
-pub hookbarley_recode_lem : (bytes : List ℕ) (header : List ℤ) (tile y u v columns modes strengths out result : List ℕ) → One (λ o. o ≡ recode_called_of bytes header tile (memory_of y u v columns modes strengths) out result)
-hookbarley_recode_lem bytes header tile y u v columns modes strengths out result = determined (recode_called_of bytes header tile (memory_of y u v columns modes strengths) out result)
+pub hookbarley_recode_lem : (bytes : List ℕ) (header : List ℤ) (tile y u v columns modes strengths out res : List ℕ) → One (λ o. o ≡ recode_called_of bytes header tile (memory_of y u v columns modes strengths) out res)
+hookbarley_recode_lem bytes header tile y u v columns modes strengths out res = determined (recode_called_of bytes header tile (memory_of y u v columns modes strengths) out res)
 
 -- hookbarley::frame_recoding::hookbarley_recode_frame
 pub hookbarley_recode_frame_lem : (bytes y u v columns modes strengths out : List ℕ) → One (λ o. o ≡ recode_frame_of bytes (memory_of y u v columns modes strengths) out)

@@ -1,5 +1,5 @@
 -- The laws of the walk of coeff_tree: what the code and the callers of `walk_token` cite.
-use Rattle.numbers.specs.Words.{ℕ, ◌+◌, ◌-◌, ◌≤◌, ◌<◌, arith, ◌≡◌, refl, sym, ◌∙◌, ap, Bool, true, false, ⊎_elim, ltb, lit<, lit≤, lt_or, both_true, le-leb, List, length, get_or, take, drop, list_get_or_eq_default, length-drop, length-take, get_or-drop, get_or-take, length-take-le}
+use Rattle.numbers.specs.Words.{ℕ, ◌+◌, ◌-◌, ◌≤◌, ◌<◌, arith, ◌≡◌, refl, sym, ◌∙◌, ap, Bool, true, false, ⊎_elim, ltb, lit<, lit≤, lt_or, both_true, le-leb, List, length, get_or, take, drop, get_or-eq_default, length-drop, length-take, get_or-drop, get_or-take, length-take-le}
 use Rattle.reader.specs.Reading.{Reader, Given, given, missing, run, Within}
 use Rattle.reader.specs.ReadingLaws.{Bytes, Valid, valid_test}
 use Rattle.reader.specs.Token.{Token, token_tree, token_start, token, eleven_at, to_token, token_of, token_answer}
@@ -38,7 +38,7 @@ unfolding eleven_at
 eleven_bytes table at y i =
     ⊎_elim
     (λ (h : i < 11). rw (eleven_at_lem table at i h) (y (at + i)))
-    (λ (h : 11 ≤ i). rw (list_get_or_eq_default (take 11 (drop at table)) 0 {n = i} (simp length-take (omega arith))) (lit< tt))
+    (λ (h : 11 ≤ i). rw (get_or-eq_default (take 11 (drop at table)) 0 {n = i} (simp length-take (omega arith))) (lit< tt))
     (lt_or i 11)
 
 pub token_fits : (table : List ℕ) (at : ℕ) (z : Bool) → Bytes table → Within (λ t. t < 12) 7 (token (eleven_at table at) z)

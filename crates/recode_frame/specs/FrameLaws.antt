@@ -1,5 +1,5 @@
 -- The bytes of the frame that is written: its head, and where its two partitions lie.
-use Rattle.numbers.specs.Words.{ℕ, suc, ◌+◌, ◌-◌, ◌*◌, ◌/◌, ◌%◌, ◌≤◌, ◌<◌, arith, ◌≡◌, sym, ◌∙◌, ap, List, [], ◌++◌, append_assoc, append-nil, length, get_or, take, drop, list_get_or_append, length-append, length-drop, drop-append_seam, get_or-drop, get_or-take, length-take-le, take-append_seam}
+use Rattle.numbers.specs.Words.{ℕ, suc, ◌+◌, ◌-◌, ◌*◌, ◌/◌, ◌%◌, ◌≤◌, ◌<◌, arith, ◌≡◌, sym, ◌∙◌, ap, List, [], ◌++◌, append_assoc, append-nil, length, get_or, take, drop, get_or-append, length-append, length-drop, drop-append_seam, get_or-drop, get_or-take, length-take-le, take-append_seam}
 use Rattle.tile.specs.Tile.{contents_of}
 use Rattle.frame.specs.Tag.{three_at, tag_of}
 use Rattle.frame.specs.OneLaws.{Retagged}
@@ -33,7 +33,7 @@ module _ (b : List ℕ) (n : ℕ) (rest : List ℕ) where
     head_same i h k = ap (λ (j : ℕ). get_or b j 0) {x = i} {y = 3 + (i - 3)} (omega arith) ∙ kept (i - 3) (omega arith) ∙ ap (λ (j : ℕ). get_or (new_head b n ++ rest) j 0) {x = suc (suc (suc (i - 3)))} {y = i} (omega arith)
       where
         kept : (j : ℕ) → j < 7 → get_or b (3 + j) 0 ≡ get_or (new_head b n ++ rest) (suc (suc (suc j))) 0
-        kept j q = sym (list_get_or_append (take 7 (drop 3 b)) rest 0 j (rw seven q) ∙ get_or-take 7 (drop 3 b) j 0 q ∙ get_or-drop 3 b j 0)
+        kept j q = sym (get_or-append (take 7 (drop 3 b)) rest 0 j (rw seven q) ∙ get_or-take 7 (drop 3 b) j 0 q ∙ get_or-drop 3 b j 0)
 
 -- ---- the frame
 module _ (b first tokens : List ℕ) (l : 10 ≤ length b) where

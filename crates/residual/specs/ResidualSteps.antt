@@ -1,5 +1,5 @@
 -- The residual one part at a time: what a part that the code read makes of the state, and what is then left to read.
-use Rattle.numbers.specs.Words.{ℕ, zero, suc, ◌+◌, ◌*◌, ◌≤◌, ◌<◌, add-one, arith, ◌≡◌, refl, sym, ◌∙◌, ap, ap₂, Bool, true, false, ◌&&◌, inl, inr, eqb, ltb, leb, lt_or, both_left, both_right, both_true, eq-eqb, eqb-true, le-leb, leb-true, List, length, get_or, set, replicate, list_get_or_eq_default, placed, placed_next, all_below, all_below_lem, ℤ, pos}
+use Rattle.numbers.specs.Words.{ℕ, zero, suc, ◌+◌, ◌*◌, ◌≤◌, ◌<◌, add-one, arith, ◌≡◌, refl, sym, ◌∙◌, ap, ap₂, Bool, true, false, ◌&&◌, inl, inr, eqb, ltb, leb, lt_or, both_left, both_right, both_true, eq-eqb, eqb-true, le-leb, leb-true, List, length, get_or, set, replicate, get_or-eq_default, placed, placed_next, all_below, all_below_lem, ℤ, pos}
 use Rattle.header.specs.Header.{probability_count, header_of}
 use Rattle.reader.specs.declared.boolean.Reader.{Reader}
 use Rattle.reader.specs.Reading.{Given, given, missing, valid_of, run, count}
@@ -120,7 +120,7 @@ flags_fact {l} n e = record { long = n; each = go }
     go : (i : ℕ) → get_or l i 0 ≤ 1
     go i = elim (lt_or i 9) [
       | inl k ↦ leb-true _ _ (all_below_lem (λ j. leb (get_or l j 0) 1) 9 e i k)
-      | inr k ↦ rw (list_get_or_eq_default l 0 {n = i} (rw n k)) (omega arith)
+      | inr k ↦ rw (get_or-eq_default l 0 {n = i} (rw n k)) (omega arith)
     ]
 
 module _ (table top left : List ℕ) (size : ℕ) where

@@ -1,5 +1,5 @@
 -- The laws of counting.
-use Rattle.numbers.specs.Words.{ℕ, zero, suc, ◌+◌, ◌-◌, ◌*◌, ◌≤◌, ◌<◌, add-one, zero-add, ℕ_discrete, arith, ◌≡◌, refl, sym, ◌∙◌, ap, subst, Bool, true, false, ◌⊎◌, inl, inr, lt_or, eq_or, eq-eqb, le-ltb, lt-ltb, ne_eqb, bit_of, List, [], ◌∷◌, ◌++◌, length, get_or, set, replicate, list_get_or_append, length-append, length-set, ext_get_or, get_or-append-add, get_or-set_other, get_or-set_same, set_out, build, length_build, get_or_build, get_or_constant}
+use Rattle.numbers.specs.Words.{ℕ, zero, suc, ◌+◌, ◌-◌, ◌*◌, ◌≤◌, ◌<◌, add-one, zero-add, ℕ_discrete, arith, ◌≡◌, refl, sym, ◌∙◌, ap, subst, Bool, true, false, ◌⊎◌, inl, inr, lt_or, eq_or, eq-eqb, le-ltb, lt-ltb, ne_eqb, bit_of, List, [], ◌∷◌, ◌++◌, length, get_or, set, replicate, get_or-append, length-append, length-set, ext_get_or, get_or-append-add, get_or-set_other, get_or-set_same, set_out, build, length_build, get_or_build, get_or_constant}
 use Rattle.lent.specs.declared.macroblocks.ModeRecord.{ModeRecord}
 use Rattle.lent.specs.declared.macroblocks.StrengthRecord.{StrengthRecord}
 use Rattle.lent.specs.Memory.{mode_found, strength_found}
@@ -347,7 +347,7 @@ module _ (modes strengths : List ℕ) where
 -- ---- the tables side by side
 module _ (n : ℕ) (f : ℕ → ℕ) (r : List ℕ) where
   here : (y : ℕ) → y < n → get_or (build n f ++ r) y 0 ≡ f y
-  here y h = list_get_or_append (build n f) r 0 y (rw (length_build n f) h) ∙ get_or_build n f y 0 h
+  here y h = get_or-append (build n f) r 0 y (rw (length_build n f) h) ∙ get_or_build n f y 0 h
 
   past : (i j : ℕ) → i ≡ n + j → get_or (build n f ++ r) i 0 ≡ get_or r j 0
   past i j e = ap (λ (k : ℕ). get_or (build n f ++ r) k 0) {x = i} {y = length (build n f) + j} (omega (arith, length_build n f)) ∙ get_or-append-add (build n f) r j 0

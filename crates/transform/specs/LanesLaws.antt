@@ -1,5 +1,5 @@
 -- What the proofs and callers cite of blocks by lanes and of their residuals.
-use Rattle.numbers.specs.Words.{ℕ, ◌+◌, ◌-◌, ◌*◌, ◌/◌, ◌%◌, ◌≤◌, ◌<◌, add-one, mul_comm, arith, digits_div, digits_lt, digits_mod, ◌≡◌, refl, sym, ◌∙◌, ap, ap₂, Bool, true, false, ◌&&◌, inl, inr, ⊎_elim, lt_or, eq_or, eqb-true, ne_eqb, List, [], ◌∷◌, ◌++◌, length, get_or, take, drop, replicate, list_get_or_append, list_get_or_eq_default, length-append, length-drop, take-append-drop, drop_at, get_or-append-add, get_or-drop, get_or-take, length-take-le, take_at, ◌∷≡◌, length_build, build_listed, get_or_build, built, build_same, get_or_constant, stored_at, stored_none, stored_in, stored_keeps, stored_more, stored_same, all_below, all_below_lem, ℤ, pos, negsuc, le_z, In, Each, clamp_same, signed_in}
+use Rattle.numbers.specs.Words.{ℕ, ◌+◌, ◌-◌, ◌*◌, ◌/◌, ◌%◌, ◌≤◌, ◌<◌, add-one, mul_comm, arith, digits_div, digits_lt, digits_mod, ◌≡◌, refl, sym, ◌∙◌, ap, ap₂, Bool, true, false, ◌&&◌, inl, inr, ⊎_elim, lt_or, eq_or, eqb-true, ne_eqb, List, [], ◌∷◌, ◌++◌, length, get_or, take, drop, replicate, get_or-append, get_or-eq_default, length-append, length-drop, take-append-drop, drop_at, get_or-append-add, get_or-drop, get_or-take, length-take-le, take_at, ◌∷≡◌, length_build, build_listed, get_or_build, built, build_same, get_or_constant, stored_at, stored_none, stored_in, stored_keeps, stored_more, stored_same, all_below, all_below_lem, ℤ, pos, negsuc, le_z, In, Each, clamp_same, signed_in}
 use Rattle.transform.specs.Transform.{Grid, at, cell, grid_of, vertical_pass, horizontal_pass, result_of, results_of, samples_of}
 use Rattle.transform.specs.TransformBounds.{numeral_in}
 use Rattle.transform.specs.TransformLaws.{CoefficientsIn, range_in, SmallIn, small_samples_in}
@@ -80,7 +80,7 @@ pub luma_number : (c : List ℤ) (p : ℕ) → p < 256 → get_or (macroblock_la
 unfolding macroblock_lanes
 luma_number c p h =
     let x : List ℤ = by_lanes 16 (take 256 c) in
-    list_get_or_append x (by_lanes 8 (drop 256 c)) (pos 0) p (omega (arith, length_by_lanes 16 (take 256 c)))
+    get_or-append x (by_lanes 8 (drop 256 c)) (pos 0) p (omega (arith, length_by_lanes 16 (take 256 c)))
     ∙ lanes_number 16 (take 256 c) p (omega arith) ∙ get_or-take 256 c (16 * (p % 16) + p / 16) (pos 0) (omega arith)
 
 pub chroma_number : (c : List ℤ) (p : ℕ) → p < 128 → get_or (macroblock_lanes c) (256 + p) (pos 0) ≡ get_or c (256 + (16 * (p % 8) + p / 8)) (pos 0)
@@ -181,7 +181,7 @@ each_within l h z c e = record { at = go }
     go : (k : ℕ) → In l h (at c k)
     go k = elim (lt_or k (length c)) [
       | inl p ↦ range_in l h (at c k) (all_below_lem (λ i. le_z l (at c i) && le_z (at c i) h) (length c) e k p)
-      | inr p ↦ rw (list_get_or_eq_default c (pos 0) p) z
+      | inr p ↦ rw (get_or-eq_default c (pos 0) p) z
     ]
 
 pub each_small_lem : (c : List ℤ) → each_small_of c ≡ true → Each (negsuc 2047) (pos 2047) c

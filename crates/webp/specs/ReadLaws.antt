@@ -1,7 +1,7 @@
 -- The reader's laws: what each test says, the number of the first that fails, what a file has that is not refused.
 use Rattle.numbers.specs.Words.{ℕ, ◌+◌, ◌*◌, ◌%◌, ◌≤◌, ◌<◌, arith, ◌≡◌, refl, sym, ◌∙◌, Bool, true, false, ◌&&◌, ◌||◌, ◌⊎◌, inl, inr, ⊎_elim, eqb, leb, both_left, both_right, eq-eqb, eqb-true, le-leb, leb-true, lt-leb, ne_eqb, List, length, get_or, byte_at}
 use Rattle.webp.specs.declared.read.Found.TheVariants as F
-use Rattle.webp.specs.Webp.{uint32_at, riff, webp, vp8, four_cCAt, marked_of, sized_of, lossy_of, chunk_size, filled_of, find_refusal, found_refusal, find_of}
+use Rattle.webp.specs.Webp.{uint32_at, riff, webp, vp8, four_cc_at, marked_of, sized_of, lossy_of, chunk_size, filled_of, find_refusal, found_refusal, find_of}
 
 -- ---- numbers of four bytes
 module _ (s : List ℕ) (i : ℕ) where
@@ -12,17 +12,17 @@ module _ (s : List ℕ) (i : ℕ) where
 
 -- ---- marks
 module _ (s : List ℕ) (i : ℕ) (c : List ℕ) where
-  pub four_cC_short : length s < i + 4 → false ≡ four_cCAt s i c
-  unfolding four_cCAt
-  four_cC_short h = rw (lt-leb _ _ h)
+  pub four_cc_short : length s < i + 4 → false ≡ four_cc_at s i c
+  unfolding four_cc_at
+  four_cc_short h = rw (lt-leb _ _ h)
 
-  pub four_cC_long : i + 4 ≤ length s → eqb (byte_at s i) (get_or c 0 0) && eqb (byte_at s (i + 1)) (get_or c 1 0) && eqb (byte_at s (i + 2)) (get_or c 2 0) && eqb (byte_at s (i + 3)) (get_or c 3 0) ≡ four_cCAt s i c
-  unfolding four_cCAt
-  four_cC_long h = rw (le-leb _ _ h)
+  pub four_cc_long : i + 4 ≤ length s → eqb (byte_at s i) (get_or c 0 0) && eqb (byte_at s (i + 1)) (get_or c 1 0) && eqb (byte_at s (i + 2)) (get_or c 2 0) && eqb (byte_at s (i + 3)) (get_or c 3 0) ≡ four_cc_at s i c
+  unfolding four_cc_at
+  four_cc_long h = rw (le-leb _ _ h)
 
 -- ---- the tests, as the code finds them
 module _ (s : List ℕ) where
-  pub marked_both : {a b : Bool} → a ≡ four_cCAt s 0 riff → b ≡ four_cCAt s 8 webp → a && b ≡ marked_of s
+  pub marked_both : {a b : Bool} → a ≡ four_cc_at s 0 riff → b ≡ four_cc_at s 8 webp → a && b ≡ marked_of s
   unfolding marked_of
   marked_both p q = rw (p, q)
 
@@ -34,7 +34,7 @@ module _ (s : List ℕ) where
   unfolding sized_of
   sized_long h e = rw (le-leb _ _ h, e)
 
-  pub lossy_mark : four_cCAt s 12 vp8 ≡ lossy_of s
+  pub lossy_mark : four_cc_at s 12 vp8 ≡ lossy_of s
   unfolding lossy_of
   lossy_mark = refl
 
@@ -79,10 +79,10 @@ module _ (marked sized lossy filled : Bool) where
 
 -- ---- what a file that is not refused has
 pub record Fits (s : List ℕ) : Type 0 where
-  pub riff : four_cCAt s 0 riff ≡ true
-  pub webp : four_cCAt s 8 webp ≡ true
+  pub riff : four_cc_at s 0 riff ≡ true
+  pub webp : four_cc_at s 8 webp ≡ true
   pub size : uint32_at s 4 + 8 ≡ length s
-  pub vp8 : four_cCAt s 12 vp8 ≡ true
+  pub vp8 : four_cc_at s 12 vp8 ≡ true
   pub long : 20 ≤ length s
   pub ends : 20 + chunk_size s + chunk_size s % 2 ≡ length s
   pub pad : (chunk_size s % 2 ≡ 0) ⊎ (byte_at s (20 + chunk_size s) ≡ 0)
@@ -106,7 +106,7 @@ fits_facts s p q r t =
     let rest = both_right (leb 20 (length s)) _ t in
     record {
       riff = both_left _ _ p;
-      webp = both_right (four_cCAt s 0 riff) _ p;
+      webp = both_right (four_cc_at s 0 riff) _ p;
       size = eqb-true _ _ (both_right (leb 8 (length s)) _ q);
       vp8 = r;
       long = leb-true 20 _ (both_left _ _ t);

@@ -28,8 +28,8 @@ abbrev pub vp8 : List ℕ
 vp8 = 86 ∷ 80 ∷ 56 ∷ 32 ∷ []
 
 -- whether these four stand at place i
-unfoldable pub four_cCAt : List ℕ → ℕ → List ℕ → Bool
-four_cCAt s i c =
+unfoldable pub four_cc_at : List ℕ → ℕ → List ℕ → Bool
+four_cc_at s i c =
     leb (i + 4) (length s)
     && (eqb (byte_at s i) (get_or c 0 0) && eqb (byte_at s (i + 1)) (get_or c 1 0) && eqb (byte_at s (i + 2)) (get_or c 2 0) && eqb (byte_at s (i + 3)) (get_or c 3 0))
 
@@ -57,7 +57,7 @@ file_of frame = riff ++ uint32_of (riff_size (length frame)) ++ webp ++ chunk_of
 -- ---- the reader: four tests
 -- 2.4: the marks
 unfoldable pub marked_of : List ℕ → Bool
-marked_of s = four_cCAt s 0 riff && four_cCAt s 8 webp
+marked_of s = four_cc_at s 0 riff && four_cc_at s 8 webp
 
 -- 2.4: the RIFF size counts what follows it, to the last byte
 unfoldable pub sized_of : List ℕ → Bool
@@ -65,7 +65,7 @@ sized_of s = leb 8 (length s) && eqb (uint32_at s 4 + 8) (length s)
 
 -- 2.5: the first chunk's kind
 unfoldable pub lossy_of : List ℕ → Bool
-lossy_of s = four_cCAt s 12 vp8
+lossy_of s = four_cc_at s 12 vp8
 
 -- 2.3: the chunk with its pad byte ends where the bytes end, and a pad byte is 0
 abbrev pub chunk_size : List ℕ → ℕ

@@ -2,8 +2,8 @@
 use Rattle.numbers.specs.Words.{ℕ, ◌+◌, ◌*◌, ◌/◌, ◌%◌, ◌≤◌, ◌<◌, div-add-mod, div-div-eq-div-mul, mod-eq_of_lt, arith, ◌≡◌, refl, sym, ◌∙◌, ap, Bool, true, ◌&&◌, inl, inr, ⊎_elim, eqb, leb, eq_or, both_left, both_right, both_true, eq-eqb, eqb-true, List, [], ◌∷◌, ◌++◌, append_assoc, length, get_or, take, drop, length-append, length-drop, take-append-drop, drop-drop, get_or-append-add, get_or-drop, get_or-take, length-take-le, take-append_seam, ◌∷≡◌, build_listed, built, get_or_constant, constant, byte_at}
 pub use Rattle.numbers.specs.Lists.{Bytes}
 use Rattle.webp.specs.declared.read.Found.TheVariants as F
-use Rattle.webp.specs.Webp.{uint32_at, uint32_of, riff, webp, vp8, four_cCAt, pad_of, riff_size, file_of, marked_of, sized_of, lossy_of, chunk_size, filled_of, found_refusal, find_of}
-use Rattle.webp.specs.ReadLaws.{Fits, fits, four_cC_long, sized_long, filled_even, filled_pad, refusal_none, find_good, find_bad}
+use Rattle.webp.specs.Webp.{uint32_at, uint32_of, riff, webp, vp8, four_cc_at, pad_of, riff_size, file_of, marked_of, sized_of, lossy_of, chunk_size, filled_of, found_refusal, find_of}
+use Rattle.webp.specs.ReadLaws.{Fits, fits, four_cc_long, sized_long, filled_even, filled_pad, refusal_none, find_good, find_bad}
 use Rattle.webp.specs.WriteLaws.{head_of, head_length, file_parts, file_length}
 
 -- ---- sizes
@@ -19,9 +19,9 @@ uint32_again : (a b c d : ℕ) → a < 256 → b < 256 → c < 256 → d < 256 �
 uint32_again a b c d p q r t = omega arith ∷≡ omega arith ∷≡ omega arith ∷≡ omega arith ∷≡ refl
 
 -- ---- a written file is found
-four_cC_yes : (s : List ℕ) (i : ℕ) (c : List ℕ) → i + 4 ≤ length s → byte_at s i ≡ get_or c 0 0 → byte_at s (i + 1) ≡ get_or c 1 0 → byte_at s (i + 2) ≡ get_or c 2 0 → byte_at s (i + 3) ≡ get_or c 3 0 → four_cCAt s i c ≡ true
-four_cC_yes s i c h p q r t =
-    sym (four_cC_long s i c h)
+four_cc_yes : (s : List ℕ) (i : ℕ) (c : List ℕ) → i + 4 ≤ length s → byte_at s i ≡ get_or c 0 0 → byte_at s (i + 1) ≡ get_or c 1 0 → byte_at s (i + 2) ≡ get_or c 2 0 → byte_at s (i + 3) ≡ get_or c 3 0 → four_cc_at s i c ≡ true
+four_cc_yes s i c h p q r t =
+    sym (four_cc_long s i c h)
     ∙ both_true (both_true (both_true (eq-eqb _ _ p) (eq-eqb _ _ q)) (eq-eqb _ _ r)) (eq-eqb _ _ t)
 
 module _ (frame : List ℕ) (fits : length frame ≤ 4294967274) where
@@ -38,8 +38,8 @@ module _ (frame : List ℕ) (fits : length frame ≤ 4294967274) where
   unfolding marked_of file_of
   file_marked =
       both_true
-      (four_cC_yes (file_of frame) 0 riff (rw (file_length frame) (omega arith)) refl refl refl refl)
-      (four_cC_yes (file_of frame) 8 webp (rw (file_length frame) (omega arith)) refl refl refl refl)
+      (four_cc_yes (file_of frame) 0 riff (rw (file_length frame) (omega arith)) refl refl refl refl)
+      (four_cc_yes (file_of frame) 8 webp (rw (file_length frame) (omega arith)) refl refl refl refl)
 
   file_sized : sized_of (file_of frame) ≡ true
   file_sized =
@@ -49,7 +49,7 @@ module _ (frame : List ℕ) (fits : length frame ≤ 4294967274) where
 
   file_lossy : lossy_of (file_of frame) ≡ true
   unfolding lossy_of file_of
-  file_lossy = four_cC_yes (file_of frame) 12 vp8 (rw (file_length frame) (omega arith)) refl refl refl refl
+  file_lossy = four_cc_yes (file_of frame) 12 vp8 (rw (file_length frame) (omega arith)) refl refl refl refl
 
   -- the byte behind the frame is the pad byte, or there is none
   file_behind : byte_at (file_of frame) (20 + length frame) ≡ 0
@@ -80,8 +80,8 @@ unfoldable four : List ℕ → ℕ → List ℕ
 four s i = byte_at s i ∷ byte_at s (i + 1) ∷ byte_at s (i + 2) ∷ byte_at s (i + 3) ∷ []
 
 module _ (s : List ℕ) (i : ℕ) where
-  four_mark : (c : List ℕ) → four_cCAt s i c ≡ true → four s i ≡ get_or c 0 0 ∷ get_or c 1 0 ∷ get_or c 2 0 ∷ get_or c 3 0 ∷ []
-  unfolding four four_cCAt
+  four_mark : (c : List ℕ) → four_cc_at s i c ≡ true → four s i ≡ get_or c 0 0 ∷ get_or c 1 0 ∷ get_or c 2 0 ∷ get_or c 3 0 ∷ []
+  unfolding four four_cc_at
   four_mark c e =
       let x : Bool = eqb (byte_at s i) (get_or c 0 0) in
       let y : Bool = eqb (byte_at s (i + 1)) (get_or c 1 0) in

@@ -1,7 +1,7 @@
 // The reader: four tests of the file's layout, each for every input, and the number of the first that fails.
 ghost use Rattle.std.specs.Prelude.{◌≡◌, ◌+◌, ◌<◌, ◌≤◌, length};
 ghost use Rattle.numbers.specs.Lists.{byte_at};
-ghost use Rattle.webp.specs.Webp.{uint32_at, four_cCAt, marked_of, sized_of, lossy_of, filled_of, find_refusal, find_of};
+ghost use Rattle.webp.specs.Webp.{uint32_at, four_cc_at, marked_of, sized_of, lossy_of, filled_of, find_refusal, find_of};
 
 // Where the frame stands in the file.
 #[derive(Clone, Copy)]
@@ -36,7 +36,7 @@ fn uint32(s: &[u8], at: usize) -> usize
 // Whether these four characters stand at the place.
 fn fourcc(s: &[u8], at: usize, c: [u8; 4]) -> bool
     requires { at ≤ 12 }
-    ensures { result ≡ four_cCAt s.now at c }
+    ensures { result ≡ four_cc_at s.now at c }
 {
     if s.len() < at + 4 {
         return false;

@@ -1,5 +1,5 @@
 -- The laws of the writer and its room, as the code makes them.
-use Rattle.numbers.specs.Words.{ℕ, zero, suc, ◌+◌, ◌-◌, ◌*◌, ◌/◌, ◌%◌, ◌^◌, ◌≤◌, ◌<◌, div-add-mod', arith, ◌≡◌, refl, sym, ◌∙◌, ap, subst, Bool, true, false, ◌&&◌, ⊎_elim, ltb, leb, eq_or, both_left, both_right, both_true, eq-eqb, le-leb, leb-true, lt-leb, lt-ltb, ltb-true, ne_eqb, List, ◌++◌, length, get_or, set, list_get_or_append, list_get_or_eq_default, length-set, set-append_left, set_out}
+use Rattle.numbers.specs.Words.{ℕ, zero, suc, ◌+◌, ◌-◌, ◌*◌, ◌/◌, ◌%◌, ◌^◌, ◌≤◌, ◌<◌, div-add-mod', arith, ◌≡◌, refl, sym, ◌∙◌, ap, subst, Bool, true, false, ◌&&◌, ⊎_elim, ltb, leb, eq_or, both_left, both_right, both_true, eq-eqb, le-leb, leb-true, lt-leb, lt-ltb, ltb-true, ne_eqb, List, ◌++◌, length, get_or, set, get_or-append, get_or-eq_default, length-set, set-append_left, set_out}
 use Rattle.wide.specs.Wide.{less32, doublings_of}
 use Rattle.writer.specs.Encoder.{add_one_of, carried}
 use Rattle.writer.specs.NumberLaws.{length_add_one}
@@ -33,7 +33,7 @@ module _ (i : ℕ) (l : List ℕ) (h : 0 < i) where
 pub add_one_past : (n : ℕ) (l : List ℕ) → length l < n → l ≡ add_one_of n l
 add_one_past zero l h = absurd (omega arith)
 add_one_past (suc i) l h =
-    let z : get_or l i 0 ≡ 0 = list_get_or_eq_default l 0 {n = i} (omega arith) in
+    let z : get_or l i 0 ≡ 0 = get_or-eq_default l 0 {n = i} (omega arith) in
     sym (set_out l i (get_or l i 0 + 1) (omega arith)) ∙ add_one_here i l (λ e. omega (arith, z))
 
 -- a carry changes only what is written
@@ -41,7 +41,7 @@ add_one_append : (n : ℕ) (xs ys : List ℕ) → n ≤ length xs → add_one_of
 unfolding add_one_of
 add_one_append zero xs ys h = refl
 add_one_append (suc i) xs ys h =
-    let g : get_or (xs ++ ys) i 0 ≡ get_or xs i 0 = list_get_or_append xs ys 0 i (omega arith) in
+    let g : get_or (xs ++ ys) i 0 ≡ get_or xs i 0 = get_or-append xs ys 0 i (omega arith) in
     ⊎_elim
     (λ (e : get_or xs i 0 ≡ 255).
     rw (eq-eqb _ _ e, add_one_of, eq-eqb (get_or (xs ++ ys) i 0) 255 (g ∙ e), add_one_of)

@@ -1,4 +1,4 @@
-use Rattle.numbers.specs.Words.{ℕ, ◌≤◌, arith, refl, ◌∙◌, ap, subst, List, length, copy_whole}
+use Rattle.numbers.specs.Words.{ℕ, ◌-◌, ◌≤◌, arith, refl, ◌∙◌, ap, subst, List, ◌++◌, length, take, drop, copy_whole}
 use Rattle.lent.specs.Memory.{memory_of}
 use Rattle.choices.specs.Choices.{call_of}
 use Rattle.recode.specs.PassLaws.{recode_refused, recode_fitted, recode_laid}
@@ -9,5 +9,8 @@ returns-then-written-ne0 c = recode_refused (call_of c.args.bytes.now c.args.til
 
 pub returns : goal.returns
 returns c =
+    let a = c.args in
+    let k = c.least-at.result in
+    let room : List ℕ = take k a.out.now ++ (c.recode_tokens-written.new.out ++ drop (length a.out.now - k) (drop k a.out.now)) in
     let z = recode_fitted (call_of c.args.bytes.now c.args.tile c.args.header.now) (memory_of c.args.y.now c.args.u.now c.args.v.now c.args.columns.now c.args.modes.now c.args.strengths.now) c.args.out.now c.least-at.result c.least-at.ensures.1 c.recode_tokens-written.ensures refl (λ i. (c.shared_slice_known-1.given i).fits) (λ h. c.least-at.ensures.2 h ∙ ap length c.part-first.ensures) c.if-written-ne0.false in
-    recode_laid (call_of c.args.bytes.now c.args.tile c.args.header.now) (memory_of c.args.y.now c.args.u.now c.args.v.now c.args.columns.now c.args.modes.now c.args.strengths.now) c.args.out.now c.least-at.result c.least-at.ensures.1 c.recode_tokens-written.ensures refl z c.part-first.ensures (copy_whole _ _ c.copy.ensures (omega (arith, z.first, ap length c.part-first.ensures, c.least-at.ensures.1))) c.one_tile-after.ensures
+    recode_laid (call_of c.args.bytes.now c.args.tile c.args.header.now) (memory_of c.args.y.now c.args.u.now c.args.v.now c.args.columns.now c.args.modes.now c.args.strengths.now) c.args.out.now c.least-at.result c.least-at.ensures.1 c.recode_tokens-written.ensures refl z c.part-first.ensures (copy_whole c.part-first.result.now room c.copy.ensures (omega (arith, z.first, ap length c.part-first.ensures, c.least-at.ensures.1))) c.one_tile-after.ensures

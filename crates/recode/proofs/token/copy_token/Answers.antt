@@ -11,7 +11,7 @@ first table at =
     ap (λ (k : ℕ). get_or table k 0) e ∙ sym (eleven_at_lem table at 0 (omega arith))
 
 pub copy_value-requires : goal.copy_value-requires
-copy_value-requires c = record { tree_value = (c.requires).0; at_in_bounds = (c.requires).1 }
+copy_value-requires c = record { tree_value = c.requires.tree_value; at_in_bounds = c.requires.at_in_bounds }
 
 pub returns-then-zero : goal.returns-then-zero
 returns-then-zero c = (token_from (eleven_at c.args.table.now c.args.at) c.if-zero.true c.copy_value.ensures.0, c.copy_value.ensures.1)
@@ -23,7 +23,7 @@ pub returns-then-not-e : goal.returns-then-not-e
 returns-then-not-e c = (token_from (eleven_at c.args.table.now c.args.at) c.if-zero.false (from_leaf (eleven_at c.args.table.now c.args.at) 0 (omega arith) (first c.args.table.now c.args.at) (ask_copies (c.shared_slice_known-2-1.given _).fits c.ask-e.ensures) (not-true _ c.if-not-e.true) refl), omega arith)
 
 pub copy_value-requires-2 : goal.copy_value-requires-2
-copy_value-requires-2 c = record { tree_value = (c.requires).0; at_in_bounds = (c.requires).1 }
+copy_value-requires-2 c = record { tree_value = c.requires.tree_value; at_in_bounds = c.requires.at_in_bounds }
 
 pub returns : goal.returns
 returns c = (token_from (eleven_at c.args.table.now c.args.at) c.if-zero.false (from_node (eleven_at c.args.table.now c.args.at) 0 (omega arith) (first c.args.table.now c.args.at) (ask_copies (c.shared_slice_known-2-1.given _).fits c.ask-e.ensures) (not-false _ c.if-not-e.false) refl c.copy_value-2.ensures.0), c.copy_value-2.ensures.1)

@@ -15,7 +15,7 @@ pub returns-then-not-z : goal.returns-then-not-z
 returns-then-not-z c = (from_leaf (eleven_at c.args.table.now c.args.at) 1 (omega arith) (sym (eleven_at_lem c.args.table.now c.args.at 1 (omega arith))) (ask_copies (c.shared_slice_known-2-1.given _).fits c.ask-z.ensures) (not-true _ c.if-not-z.true) refl, omega arith)
 
 pub copy_number-requires : goal.copy_number-requires
-copy_number-requires c = record { tree_value = (c.requires).0; at_in_bounds = (c.requires).1 }
+copy_number-requires c = record { tree_value = c.requires.tree_value; at_in_bounds = c.requires.at_in_bounds }
 
 pub returns : goal.returns
 returns c = (from_node (eleven_at c.args.table.now c.args.at) 1 (omega arith) (sym (eleven_at_lem c.args.table.now c.args.at 1 (omega arith))) (ask_copies (c.shared_slice_known-2-1.given _).fits c.ask-z.ensures) (not-false _ c.if-not-z.false) refl c.copy_number.ensures.0, c.copy_number.ensures.1)
