@@ -1,7 +1,7 @@
 -- Each public function promises one answer: for every input, whatever meets its contract, lent memory included, is the same, and something
 -- meets it. Every contract is an equation with a definition: a line for each function, under its path, with the right side of its `ensures`
 -- and its arguments' own names. tools/determined.py, in the gate, compares the two word by word.
-use Rattle.numbers.specs.Words.{ℕ, ◌≡◌, refl, sym, ◌∙◌, Bool, cond, List, byte_at, ℤ, pos, up_to, clip_z, signed_byte_z, wrap16_of}
+use Rattle.numbers.specs.Words.{ℕ, ◌≡◌, refl, sym, ◌∙◌, Bool, cond, List, byte_at, copied_over, ℤ, pos, up_to, clip_z, signed_byte_z, wrap16_of}
 use Rattle.reader.specs.Reading.{valid_of, first_reader, symbol_answer, run}
 use Rattle.reader.specs.Counts.{tree_count, token_count, extra_count}
 use Rattle.reader.specs.Extra.{extra_answer}
@@ -106,6 +106,10 @@ numbers_byte_or_zero s i = determined (byte_at s i)
 -- numbers::clamp_to
 pub numbers_clamp_to : (v : ℤ) (top : ℕ) → One (λ o. o ≡ up_to top v)
 numbers_clamp_to v top = determined (up_to top v)
+
+-- numbers::copy
+pub numbers_copy : (from to : List ℕ) → One (λ o. o ≡ copied_over from to)
+numbers_copy from to = determined (copied_over from to)
 
 -- ---- reader
 -- reader::boolean::valid
