@@ -1,5 +1,6 @@
 -- What the call on a key frame's header answers, as its code finds it.
-use Rattle.numbers.specs.Words.{ℕ, zero, suc, arith, ◌≡◌, refl, sym, ◌∙◌, ap, ⊎_elim, eq-eqb, ne_eqb, bit_of, List, length, ℤ}
+use Rattle.std.specs.Prelude.{◌≡◌}
+use Rattle.numbers.specs.Words.{ℕ, zero, suc, arith, refl, sym, ◌∙◌, ap, ⊎_elim, eq-eqb, ne_eqb, bit_of, List, length, ℤ}
 use Rattle.reader.specs.Reading.{Bytes}
 use Rattle.frame.specs.declared.take.Answer.{Answer}
 use Rattle.frame.specs.Take.{nothing_taken, taken_of, into_of}

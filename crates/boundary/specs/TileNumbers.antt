@@ -1,5 +1,6 @@
 -- A tile as C hands it over: the 28 numbers of `struct hookbarley_tile`.
-use Rattle.numbers.specs.Words.{ℕ, ◌+◌, ◌<◌, true, false, eqb, ltb, List, [], ◌∷◌, ◌++◌, length, get_or, listed}
+use Rattle.std.specs.Prelude.{◌+◌, ◌<◌, ◌∷◌, ◌++◌}
+use Rattle.numbers.specs.Words.{ℕ, true, false, eqb, ltb, List, [], length, get_or, listed}
 use Rattle.reader.specs.declared.boolean.Reader.{Reader}
 use Rattle.tile.specs.declared.Span.{Span}
 use Rattle.tile.specs.declared.Tile.{Tile}

@@ -1,5 +1,6 @@
 -- There and back: a tile's numbers make the same tile, and a tile made of numbers has these numbers.
-use Rattle.numbers.specs.Words.{ℕ, ◌≤◌, ◌<◌, arith, ◌≡◌, refl, sym, ◌∙◌, ⊎_elim, lt_or, eq-eqb, le-ltb, lt-ltb, ne_eqb, List, length, get_or, listed, build_listed, built}
+use Rattle.std.specs.Prelude.{◌≤◌, ◌<◌, ◌≡◌}
+use Rattle.numbers.specs.Words.{ℕ, arith, refl, sym, ◌∙◌, ⊎_elim, lt_or, eq-eqb, le-ltb, lt-ltb, ne_eqb, List, length, get_or, listed, build_listed, built}
 use Rattle.reader.specs.declared.boolean.Reader.{Reader}
 use Rattle.reader.specs.Reading.{Valid}
 use Rattle.tile.specs.declared.Tile.{Tile}

@@ -1,6 +1,7 @@
 -- The layout of a case file, big-endian: version (1 byte); length of the rest (4); width, height (2 each); count (1); 1096 header
 -- entries (2 each, signed); the lengths of the first partition and of `count` token partitions (4 each); their bytes.
-use Rattle.numbers.specs.Words.{ℕ, zero, suc, ◌+◌, ◌*◌, ◌≤◌, Bool, true, false, ◌&&◌, eqb, ltb, leb, List, length, build, byte_at, ℤ, pos, ◌-ℤ◌}
+use Rattle.std.specs.Prelude.{◌+◌, ◌*◌, ◌≤◌, ◌&&◌, ◌-ℤ◌}
+use Rattle.numbers.specs.Words.{ℕ, zero, suc, Bool, true, false, eqb, ltb, leb, List, length, build, byte_at, ℤ, pos}
 use Rattle.reader.specs.Reading.{first_reader}
 use Rattle.tile.specs.declared.Span.{Span}
 use Rattle.tile.specs.declared.Tile.{Tile}

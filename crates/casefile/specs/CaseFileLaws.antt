@@ -1,5 +1,6 @@
 -- What a well_formed_lem file has, and the laws of its parts.
-use Rattle.numbers.specs.Words.{ℕ, ◌+◌, ◌*◌, ◌≤◌, ◌<◌, add-one, arith, ◌≡◌, refl, ◌∙◌, ap, subst, true, false, ◌&&◌, ⊎_elim, eqb, leb, lt_or, both_left, both_right, le-leb, le-ltb, leb-true, lt-leb, lt-ltb, List, length, byte_at, ℤ, pos, negsuc, ◌-ℤ◌, In, Know, num, plainly, round, know_sub, wider, unsigned_below, answered, w32}
+use Rattle.std.specs.Prelude.{◌+◌, ◌*◌, ◌≤◌, ◌<◌, ◌≡◌, ◌&&◌, ◌-ℤ◌}
+use Rattle.numbers.specs.Words.{ℕ, add-one, arith, refl, ◌∙◌, ap, subst, true, false, ⊎_elim, eqb, leb, lt_or, both_left, both_right, le-leb, le-ltb, leb-true, lt-leb, lt-ltb, List, length, byte_at, ℤ, pos, negsuc, In, Know, num, plainly, round, know_sub, wider, unsigned_below, answered, w32}
 use Rattle.reader.specs.declared.boolean.Reader.{Reader}
 use Rattle.reader.specs.Reading.{first_reader}
 use Rattle.tile.specs.declared.Span.{Span}

@@ -1,5 +1,6 @@
 -- What is told of memory: the sum of its bytes, and their hash, FNV-1a of 64 bits.
-use Rattle.numbers.specs.Words.{ℕ, zero, suc, ◌+◌, ◌*◌, ◌%◌, bit_xor, List, length, get_or}
+use Rattle.std.specs.Prelude.{◌+◌, ◌*◌, ◌%◌}
+use Rattle.numbers.specs.Words.{ℕ, zero, suc, bit_xor, List, length, get_or}
 
 -- ---- the sum of the first i bytes, of all
 unfoldable pub sum_to : List ℕ → ℕ → ℕ

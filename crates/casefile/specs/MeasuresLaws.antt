@@ -1,5 +1,6 @@
 -- The laws of sums and hashes: one byte more, the bound of a sum, and the product of the hash in halves of 32 bits.
-use Rattle.numbers.specs.Words.{ℕ, ◌+◌, ◌*◌, ◌/◌, ◌%◌, ◌<◌, add-one, div-add-mod', mod-eq_of_lt, mod-lt, mul-add-mod_self_left, arith, ◌≡◌, refl, sym, ◌∙◌, ap, lit<, List, length, get_or}
+use Rattle.std.specs.Prelude.{◌+◌, ◌*◌, ◌/◌, ◌%◌, ◌<◌, ◌≡◌}
+use Rattle.numbers.specs.Words.{ℕ, add-one, div-add-mod', mod-eq_of_lt, mod-lt, mul-add-mod_self_left, arith, refl, sym, ◌∙◌, ap, lit<, List, length, get_or}
 use Rattle.casefile.specs.Measures.{sum_to, sum_of, fnv_step, fnv_to, fnv_of}
 
 module _ (l : List ℕ) where

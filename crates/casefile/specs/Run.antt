@@ -1,5 +1,6 @@
 -- A case file run through the picture call, over memory of the lengths that its size asks, each byte 165; and what is told of it.
-use Rattle.numbers.specs.Words.{ℕ, ◌*◌, ◌/◌, true, false, ◌&&◌, leb, List, replicate}
+use Rattle.std.specs.Prelude.{◌*◌, ◌/◌, ◌&&◌}
+use Rattle.numbers.specs.Words.{ℕ, true, false, leb, List, replicate}
 use Rattle.tile.specs.Tile.{blocks_of}
 use Rattle.lent.specs.Memory.{Memory, memory_of, column_width, mode_width, strength_width}
 use Rattle.choices.specs.Choices.{number_of, values_of}

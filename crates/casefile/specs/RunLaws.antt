@@ -1,5 +1,6 @@
 -- The laws of a run: a plane's sum by the number, and a file by its form.
-use Rattle.numbers.specs.Words.{ℕ, ◌≤◌, ◌≡◌, sym, ◌∙◌, ap, ap₂, true, false, ◌&&◌, leb, List, length, take, replicate, length-replicate, get_or-take, length-take-le, get_or_constant, constant, ℤ}
+use Rattle.std.specs.Prelude.{◌≤◌, ◌≡◌, ◌&&◌}
+use Rattle.numbers.specs.Words.{ℕ, sym, ◌∙◌, ap, ap₂, true, false, leb, List, length, take, replicate, length-replicate, get_or-take, length-take-le, get_or_constant, constant, ℤ}
 use Rattle.tile.specs.declared.Tile.{Tile}
 use Rattle.lent.specs.Memory.{Memory, memory_of}
 use Rattle.choices.specs.Choices.{call_of}

@@ -1,5 +1,6 @@
 -- The small choices of a picture call.
-use Rattle.numbers.specs.Words.{ℕ, suc, ◌≡◌, Bool, true, false, ◌&&◌, eqb, List, [], ◌∷◌, length, ℤ, pos, negsuc, Each}
+use Rattle.std.specs.Prelude.{◌≡◌, ◌&&◌, ◌∷◌}
+use Rattle.numbers.specs.Words.{ℕ, suc, Bool, true, false, eqb, List, [], length, ℤ, pos, negsuc, Each}
 use Rattle.header.specs.Header.{entry_count, entries_of}
 use Rattle.tile.specs.declared.Tile.{Tile}
 use Rattle.tile.specs.Tile.{sides_of, count_of, partitions_of}

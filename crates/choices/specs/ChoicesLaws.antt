@@ -1,5 +1,6 @@
 -- The laws of the small choices.
-use Rattle.numbers.specs.Words.{ℕ, zero, suc, ◌+◌, ◌≤◌, ◌<◌, add-one, arith, ◌≡◌, refl, sym, Bool, true, false, ◌&&◌, ◌⊎◌, inl, inr, ⊎_elim, eqb, lit<, lit≤, never, not_so, both_left, both_right, both_true, both_false, eq-eqb, eqb-true, ne_eqb, List, [], ◌∷◌, length, get_or, ℤ, pos, negsuc, ◌≤ℤ◌, lt_z, In, to_le, lt_parts}
+use Rattle.std.specs.Prelude.{◌+◌, ◌≤◌, ◌<◌, ◌≡◌, ◌&&◌, ◌⊎◌, ◌∷◌, ◌≤ℤ◌}
+use Rattle.numbers.specs.Words.{ℕ, zero, suc, add-one, arith, refl, sym, Bool, true, false, inl, inr, ⊎_elim, eqb, lit<, lit≤, never, not_so, both_left, both_right, both_true, both_false, eq-eqb, eqb-true, ne_eqb, List, [], length, get_or, ℤ, pos, negsuc, lt_z, In, to_le, lt_parts}
 use Rattle.reader.specs.declared.boolean.Reader.{Reader}
 use Rattle.reader.specs.ReadingLaws.{Bytes, Valid}
 use Rattle.header.specs.Header.{entry_count, entry, outside, fine_to, entries_of, header_of}

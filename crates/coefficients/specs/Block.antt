@@ -1,5 +1,6 @@
 -- The coefficients of a block (RFC 6386, sections 13, 3350-3370, 13.2, 13.3 and 14.1), as grammars over the tokens of `reader`.
-use Rattle.numbers.specs.Words.{ℕ, zero, suc, ◌+◌, ◌-◌, ◌*◌, Bool, true, false, ◌&&◌, eqb, ltb, leb, List, [], ◌∷◌, length, get_or, set, replicate, build, ℤ, pos, negsuc, neg_ℤ, le_z, In, wrap_z}
+use Rattle.std.specs.Prelude.{◌+◌, ◌-◌, ◌*◌, ◌&&◌, ◌∷◌}
+use Rattle.numbers.specs.Words.{ℕ, zero, suc, Bool, true, false, eqb, ltb, leb, List, [], length, get_or, set, replicate, build, ℤ, pos, negsuc, neg_ℤ, le_z, In, wrap_z}
 use Rattle.reader.specs.declared.boolean.Reader.{Reader}
 use Rattle.reader.specs.Reading.{Given, given, missing, valid_of, Reading, done, symbol, run, ◌>>=◌, count}
 use Rattle.reader.specs.declared.extra.Number.{Number}

@@ -1,5 +1,6 @@
 -- The laws of tokens and blocks that another crate cites.
-use Rattle.numbers.specs.Words.{ℕ, zero, suc, ◌+◌, ◌-◌, ◌*◌, ◌^◌, ◌≤◌, ◌<◌, arith, ◌≡◌, refl, sym, ◌∙◌, ap, Bool, true, false, ◌&&◌, ◌⊎◌, inl, inr, ⊎_elim, eqb, ltb, leb, lit<, lt_or, eq_or, not_first, both_left, both_right, both_true, eq-eqb, le-leb, le-ltb, leb-true, lt-ltb, ltb-true, ne_eqb, List, [], length, get_or, set, get_or-eq_default, length-set, length_build, get_or_build, all_of, all_below, all_of_any, all_below_lem, ℤ, pos, negsuc, Each, le_true, each_set, wrap_z, wrap_in}
+use Rattle.std.specs.Prelude.{◌+◌, ◌-◌, ◌*◌, ◌^◌, ◌≤◌, ◌<◌, ◌≡◌, ◌&&◌, ◌⊎◌}
+use Rattle.numbers.specs.Words.{ℕ, zero, suc, arith, refl, sym, ◌∙◌, ap, Bool, true, false, inl, inr, ⊎_elim, eqb, ltb, leb, lit<, lt_or, eq_or, not_first, both_left, both_right, both_true, eq-eqb, le-leb, le-ltb, leb-true, lt-ltb, ltb-true, ne_eqb, List, [], length, get_or, set, get_or-eq_default, length-set, length_build, get_or_build, all_of, all_below, all_of_any, all_below_lem, ℤ, pos, negsuc, Each, le_true, each_set, wrap_z, wrap_in}
 use Rattle.reader.specs.declared.boolean.Reader.{Reader}
 use Rattle.reader.specs.Reading.{Given, given, missing, valid_of, Reading, done, ask, symbol, ◌>>=◌, run, Within, ends, count}
 use Rattle.reader.specs.ReadingLaws.{Bytes, Valid, valid_test, within_symbol, within_bind, within_more}

@@ -1,6 +1,7 @@
 -- One step of the code at a time: laws that this crate's proofs cite, and `table_done`, which callers of `probabilities` cite. What else
 -- another crate cites stands in TokenLaws.
-use Rattle.numbers.specs.Words.{ℕ, suc, ◌+◌, ◌-◌, ◌*◌, ◌≤◌, ◌<◌, add-one, arith, ◌≡◌, refl, sym, ◌∙◌, ap, Bool, true, false, ◌&&◌, eqb, ltb, leb, both_left, both_right, eq-eqb, eqb-true, leb-true, lt-ltb, ltb-true, ne_eqb, List, length, get_or, set, replicate, all_of_any, ℤ, pos, negsuc, le_z, wrap_z}
+use Rattle.std.specs.Prelude.{◌+◌, ◌-◌, ◌*◌, ◌≤◌, ◌<◌, ◌≡◌, ◌&&◌}
+use Rattle.numbers.specs.Words.{ℕ, suc, add-one, arith, refl, sym, ◌∙◌, ap, Bool, true, false, eqb, ltb, leb, both_left, both_right, eq-eqb, eqb-true, leb-true, lt-ltb, ltb-true, ne_eqb, List, length, get_or, set, replicate, all_of_any, ℤ, pos, negsuc, le_z, wrap_z}
 use Rattle.header.specs.Header.{entry_count, probability_count}
 use Rattle.reader.specs.declared.boolean.Reader.{Reader}
 use Rattle.reader.specs.Reading.{Given, given, missing, valid_of, done, symbol, run, count}

@@ -1,5 +1,6 @@
 -- A macroblock column's context in four bytes (request M-107), and back.
-use Rattle.numbers.specs.Words.{ℕ, zero, suc, ◌+◌, ◌*◌, ◌/◌, ◌%◌, List, [], ◌∷◌, ◌++◌, get_or}
+use Rattle.std.specs.Prelude.{◌+◌, ◌*◌, ◌/◌, ◌%◌, ◌∷◌, ◌++◌}
+use Rattle.numbers.specs.Words.{ℕ, zero, suc, List, [], get_or}
 use Rattle.modes.specs.declared.contexts.Context.{Context}
 
 -- ---- numbers packed into one

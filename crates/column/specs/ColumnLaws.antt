@@ -1,5 +1,6 @@
 -- The laws of a packed context: what is packed comes out again, as the code packs and unpacks it.
-use Rattle.numbers.specs.Words.{ℕ, zero, suc, ◌+◌, ◌*◌, ◌/◌, ◌%◌, ◌^◌, ◌<◌, add-mul-div_right, add-mul-mod_self_right, div-eq_of_lt, mod-eq_of_lt, arith, bit_and, and_block, and_mask, ◌≡◌, refl, sym, ◌∙◌, ap, ap₂, Bool, true, ◌&&◌, eqb, lit<, both_left, both_right, eqb-true, List, [], ◌∷◌, length, get_or, listed, build_listed, built, all_below, all_below_lem}
+use Rattle.std.specs.Prelude.{◌+◌, ◌*◌, ◌/◌, ◌%◌, ◌^◌, ◌<◌, ◌≡◌, ◌&&◌, ◌∷◌}
+use Rattle.numbers.specs.Words.{ℕ, zero, suc, add-mul-div_right, add-mul-mod_self_right, div-eq_of_lt, mod-eq_of_lt, arith, bit_and, and_block, and_mask, refl, sym, ◌∙◌, ap, ap₂, Bool, true, eqb, lit<, both_left, both_right, eqb-true, List, [], length, get_or, listed, build_listed, built, all_below, all_below_lem}
 use Rattle.modes.specs.Modes.{each_below_of, context_fine_of, Shaped}
 use Rattle.modes.specs.ModesLaws.{each_fact}
 use Rattle.modes.specs.declared.contexts.Context.{Context}

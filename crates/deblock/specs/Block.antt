@@ -1,6 +1,7 @@
 -- A block of 128 samples, in which sixteen positions of an edge stand side by side: sample k of position i is its element i + 16 * k. So the
 -- block is itself a small plane, 16 wide and 8 high, with one edge across its middle: `sweep_of g 0 1 16 16`.
-use Rattle.numbers.specs.Words.{ℕ, zero, suc, ◌+◌, ◌*◌, ◌/◌, ◌%◌, Bool, List, get_or, build, copied}
+use Rattle.std.specs.Prelude.{◌+◌, ◌*◌, ◌/◌, ◌%◌}
+use Rattle.numbers.specs.Words.{ℕ, zero, suc, Bool, List, get_or, build, copied}
 use Rattle.filter.specs.Kernel.{samples_across}
 use Rattle.straight.specs.Straight.{acts_of}
 use Rattle.deblock.specs.Deblock.{Edge, across_of}

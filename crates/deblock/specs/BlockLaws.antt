@@ -1,5 +1,6 @@
 -- Laws of a block: rows copied, rows and columns exchanged, its sixteen positions, and an edge of a plane that went through it.
-use Rattle.numbers.specs.Words.{ℕ, zero, suc, ◌+◌, ◌-◌, ◌*◌, ◌/◌, ◌%◌, ◌≤◌, ◌<◌, add-one, mul-le-mul_right, arith, ◌≡◌, refl, sym, ◌∙◌, ap, subst, Bool, true, false, ◌||◌, ◌⊎◌, inl, inr, eqb, lt_or, eq_or, never, eqb-true, List, length, get_or, set, replicate, ext_get_or, Filled, length_build, get_or_build, get_or_build_past, built, build_same, filled_next, get_or_constant, copied, Off, length_copied, copied_keeps, copied_in, copied_off, all_below, all_below_lem}
+use Rattle.std.specs.Prelude.{◌+◌, ◌-◌, ◌*◌, ◌/◌, ◌%◌, ◌≤◌, ◌<◌, ◌≡◌, ◌||◌, ◌⊎◌}
+use Rattle.numbers.specs.Words.{ℕ, zero, suc, add-one, mul-le-mul_right, arith, refl, sym, ◌∙◌, ap, subst, Bool, true, false, inl, inr, eqb, lt_or, eq_or, never, eqb-true, List, length, get_or, set, replicate, ext_get_or, Filled, length_build, get_or_build, get_or_build_past, built, build_same, filled_next, get_or_constant, copied, Off, length_copied, copied_keeps, copied_in, copied_off, all_below, all_below_lem}
 use Rattle.filter.specs.Kernel.{samples_across}
 use Rattle.filter.specs.KernelLaws.{Bytes}
 use Rattle.straight.specs.Straight.{acts_of, straight_of}

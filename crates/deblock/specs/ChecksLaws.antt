@@ -1,5 +1,6 @@
 -- What the checks of the call say: which number each gives, and what is known past all.
-use Rattle.numbers.specs.Words.{ℕ, zero, suc, ◌+◌, ◌*◌, ◌/◌, ◌≤◌, ◌<◌, add-one, arith, ◌≡◌, refl, sym, ◌∙◌, ap, ap₂, Bool, true, false, ◌&&◌, cond, inl, inr, leb, not_so, both_left, both_right, both_true, le-leb, leb-true, List, length, all_below, all_below_lem}
+use Rattle.std.specs.Prelude.{◌+◌, ◌*◌, ◌/◌, ◌≤◌, ◌<◌, ◌≡◌, ◌&&◌}
+use Rattle.numbers.specs.Words.{ℕ, zero, suc, add-one, arith, refl, sym, ◌∙◌, ap, ap₂, Bool, true, false, cond, inl, inr, leb, not_so, both_left, both_right, both_true, le-leb, leb-true, List, length, all_below, all_below_lem}
 use Rattle.filter.specs.declared.strengths.Strength.{Strength}
 use Rattle.tile.specs.Tile.{sides_of, Sides}
 use Rattle.tile.specs.ChecksLaws.{sides_fact, sides_test}

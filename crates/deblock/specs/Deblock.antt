@@ -5,7 +5,8 @@
 --     p3 p2 p1 p0 | q0 q1 q2 q3
 --
 -- from left to right over a vertical edge and from top to bottom over a horizontal one.
-use Rattle.numbers.specs.Words.{ℕ, zero, suc, ◌+◌, ◌-◌, ◌*◌, ◌/◌, ◌%◌, ◌≡◌, Bool, true, false, not, ◌&&◌, cond, eqb, leb, List, length, get_or, set, build, all_below}
+use Rattle.std.specs.Prelude.{◌+◌, ◌-◌, ◌*◌, ◌/◌, ◌%◌, ◌≡◌, ◌&&◌}
+use Rattle.numbers.specs.Words.{ℕ, zero, suc, Bool, true, false, not, cond, eqb, leb, List, length, get_or, set, build, all_below}
 use Rattle.filter.specs.Kernel.{filter_of}
 use Rattle.filter.specs.declared.strengths.Strength.{Strength}
 use Rattle.lent.specs.Memory.{records_in, strength_width, strength_at_of, luma_fine_of, chroma_fine_of, strengths_fine_of}

@@ -1,5 +1,6 @@
 -- Laws of deblocking that the proofs of the code cite: changes one after the other, and what one position does.
-use Rattle.numbers.specs.Words.{ℕ, zero, suc, ◌+◌, ◌-◌, ◌*◌, ◌/◌, ◌%◌, ◌≤◌, ◌<◌, add-one, mul-le-mul_right, suc-mul, arith, ◌≡◌, refl, sym, ◌∙◌, ap, Bool, true, false, not, inl, inr, eqb, lt_or, never, eq-eqb, eqb-false, ne_eqb, List, length, get_or, set, length-set, ext_get_or, get_or-set_other, get_or-set_same, set-get_or, set_keeps, length_build, get_or_build, get_or_build_past}
+use Rattle.std.specs.Prelude.{◌+◌, ◌-◌, ◌*◌, ◌/◌, ◌%◌, ◌≤◌, ◌<◌, ◌≡◌}
+use Rattle.numbers.specs.Words.{ℕ, zero, suc, add-one, mul-le-mul_right, suc-mul, arith, refl, sym, ◌∙◌, ap, Bool, true, false, not, inl, inr, eqb, lt_or, never, eq-eqb, eqb-false, ne_eqb, List, length, get_or, set, length-set, ext_get_or, get_or-set_other, get_or-set_same, set-get_or, set_keeps, length_build, get_or_build, get_or_build_past}
 use Rattle.filter.specs.declared.strengths.Strength.{Strength}
 use Rattle.lent.specs.Memory.{strength_at_of}
 use Rattle.filter.specs.KernelLaws.{Bytes, filter_bytes, outermost_stay}

@@ -1,7 +1,8 @@
 -- What deblocking leaves alone. A position looks at eight samples and moves at most six, so an edge moves three samples on either side
 -- of it; what stands in macroblock rows from P on decides nothing above them but three sample rows; no macroblock moves a sample of
 -- a later one; and of the strength records nothing but the strengths counts.
-use Rattle.numbers.specs.Words.{ℕ, zero, suc, ◌+◌, ◌-◌, ◌*◌, ◌/◌, ◌%◌, ◌≤◌, ◌<◌, add-mul, add-suc, add-zero, div-add-mod', div-lt_iff_lt-mul, le-div_iff_mul-le, mul_comm, mul-le-mul_right, one-mul, arith, ◌≡◌, refl, sym, ◌∙◌, ap, Bool, true, false, not, cond, ◌⊎◌, inl, inr, eqb, leb, lt_or, eq_or, List, length, get_or, set, length-set, get_or-set_other, get_or-set_same, set_out, build_same, all_below}
+use Rattle.std.specs.Prelude.{◌+◌, ◌-◌, ◌*◌, ◌/◌, ◌%◌, ◌≤◌, ◌<◌, ◌≡◌, ◌⊎◌}
+use Rattle.numbers.specs.Words.{ℕ, zero, suc, add-mul, add-suc, add-zero, div-add-mod', div-lt_iff_lt-mul, le-div_iff_mul-le, mul_comm, mul-le-mul_right, one-mul, arith, refl, sym, ◌∙◌, ap, Bool, true, false, not, cond, inl, inr, eqb, leb, lt_or, eq_or, List, length, get_or, set, length-set, get_or-set_other, get_or-set_same, set_out, build_same, all_below}
 use Rattle.filter.specs.declared.strengths.Strength.{Strength}
 use Rattle.tile.specs.Tile.{sides_of}
 use Rattle.lent.specs.Memory.{strength_width, strength_at_of}

@@ -1,5 +1,6 @@
 -- Where edges lie in a plane of `len` samples, w to a row.
-use Rattle.numbers.specs.Words.{ℕ, zero, suc, ◌+◌, ◌-◌, ◌*◌, ◌/◌, ◌%◌, ◌≤◌, ◌<◌, add-mul, div-lt_iff_lt-mul, mod-lt, mul_comm, mul-le-mul_right, one-mul, arith, ◌≡◌, refl, sym, ◌∙◌, List, length}
+use Rattle.std.specs.Prelude.{◌+◌, ◌-◌, ◌*◌, ◌/◌, ◌%◌, ◌≤◌, ◌<◌, ◌≡◌}
+use Rattle.numbers.specs.Words.{ℕ, zero, suc, add-mul, div-lt_iff_lt-mul, mod-lt, mul_comm, mul-le-mul_right, one-mul, arith, refl, sym, ◌∙◌, List, length}
 use Rattle.lent.specs.Memory.{strength_width, strength_at_of}
 use Rattle.predict.specs.Predict.{Size}
 use Rattle.planes.specs.Places.{Square, by_size}

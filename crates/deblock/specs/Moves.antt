@@ -1,5 +1,6 @@
 -- How far deblocking can move a sample once all its edges are done: the bounds that follow from the kernel's. MovesLaws.antt proves them.
-use Rattle.numbers.specs.Words.{ℕ, zero, suc, ◌+◌, ◌-◌, ◌*◌, ◌/◌, ◌≤◌, Bool, true, false, get_or}
+use Rattle.std.specs.Prelude.{◌+◌, ◌-◌, ◌*◌, ◌/◌, ◌≤◌}
+use Rattle.numbers.specs.Words.{ℕ, zero, suc, Bool, true, false, get_or}
 use Rattle.filter.specs.Moves.{farthest}
 use Rattle.predict.specs.Predict.{Size}
 

@@ -1,6 +1,7 @@
 -- How far deblocking can move a sample once all its edges are done: each position of each edge moves it by no more than the kernel's
 -- bound there, and few edges reach it.
-use Rattle.numbers.specs.Words.{ℕ, zero, suc, ◌+◌, ◌-◌, ◌*◌, ◌/◌, ◌%◌, ◌≤◌, ◌<◌, add-mul, div-add-mod, div-add-mod', mod-lt, mul_comm, one-mul, arith, ◌≡◌, refl, sym, ◌∙◌, ap, ap₂, Bool, true, false, not, cond, ◌⊎◌, inl, inr, eqb, leb, lt_or, eq_or, eq-eqb, leb-true, ne_eqb, List, [], ◌∷◌, length, get_or, get_or-eq_default, build, all_below, all_below_lem, pos, ◌-ℤ◌, sub_parts_ℤ, nat_abs_parts}
+use Rattle.std.specs.Prelude.{◌+◌, ◌-◌, ◌*◌, ◌/◌, ◌%◌, ◌≤◌, ◌<◌, ◌≡◌, ◌⊎◌, ◌∷◌, ◌-ℤ◌}
+use Rattle.numbers.specs.Words.{ℕ, zero, suc, add-mul, div-add-mod, div-add-mod', mod-lt, mul_comm, one-mul, arith, refl, sym, ◌∙◌, ap, ap₂, Bool, true, false, not, cond, inl, inr, eqb, leb, lt_or, eq_or, eq-eqb, leb-true, ne_eqb, List, [], length, get_or, get_or-eq_default, build, all_below, all_below_lem, pos, sub_parts_ℤ, nat_abs_parts}
 use Rattle.filter.specs.Kernel.{apart}
 use Rattle.filter.specs.KernelLaws.{Bytes}
 use Rattle.filter.specs.Moves.{farthest}

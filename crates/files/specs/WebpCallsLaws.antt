@@ -1,5 +1,6 @@
 -- What the WebP calls answer, as their code finds it.
-use Rattle.numbers.specs.Words.{ℕ, ◌≡◌, ◌∙◌, ap, List}
+use Rattle.std.specs.Prelude.{◌≡◌}
+use Rattle.numbers.specs.Words.{ℕ, ◌∙◌, ap, List}
 use Rattle.webp.specs.declared.read.Found.{Found}
 use Rattle.webp.specs.declared.write.WrapAnswer.{WrapAnswer}
 use Rattle.webp.specs.Webp.{find_of, found_number_of, found_start_of, found_length_of, wrap_of, wrapped_number_of, wrapped_length_of}

@@ -1,6 +1,7 @@
 -- Why a sample moved (request M-105): the rule by which the kernel went, and for each of eight samples its value before and after, and the
 -- step that the rule added to it before the sum was clipped.
-use Rattle.numbers.specs.Words.{ℕ, ◌<◌, ◌≡◌, Bool, true, false, List, [], ◌∷◌, get_or}
+use Rattle.std.specs.Prelude.{◌<◌, ◌≡◌, ◌∷◌}
+use Rattle.numbers.specs.Words.{ℕ, Bool, true, false, List, [], get_or}
 use Rattle.filter.specs.declared.explain.Explanation.{Explanation}
 use Rattle.filter.specs.Kernel.{Rule, EdgeFailed, Rough, Simple, HighVariance, MacroblockEdge, InnerEdge, Samples, samples_across, within_limit_of, smooth, high_variance_of, rule_of, steps_of, moved_of}
 

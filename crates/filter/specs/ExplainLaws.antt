@@ -1,5 +1,6 @@
 -- Laws of explanations (request M-105): a rule is named exactly where its reason holds, and what is told of a sample is what the kernel does.
-use Rattle.numbers.specs.Words.{ℕ, zero, suc, ◌≤◌, ◌<◌, arith, ◌≡◌, refl, sym, ◌∙◌, ap, Bool, true, false, inl, inr, lt_or, never, List, [], ◌∷◌, length, get_or, get_or-eq_default, ℤ, pos, negsuc, ◌+ℤ◌, Each, clip_z}
+use Rattle.std.specs.Prelude.{◌≤◌, ◌<◌, ◌≡◌, ◌∷◌, ◌+ℤ◌}
+use Rattle.numbers.specs.Words.{ℕ, zero, suc, arith, refl, sym, ◌∙◌, ap, Bool, true, false, inl, inr, lt_or, never, List, [], length, get_or, get_or-eq_default, ℤ, pos, negsuc, Each, clip_z}
 use Rattle.filter.specs.Kernel.{Rule, EdgeFailed, Rough, Simple, HighVariance, MacroblockEdge, InnerEdge, Samples, samples_across, within_limit_of, first_false, smooth, rough_at, high_variance_of, rule_of, steps_of, moved_of, filter_of}
 use Rattle.filter.specs.KernelLaws.{rule_edge_failed, rule_simple, rule_rough, rule_smooth, filter_at, steps_in}
 use Rattle.filter.specs.Explain.{told_of, explain_of, smooth_pairs, smooth_pair, SmoothBefore, Reason, named}

@@ -1,6 +1,7 @@
 -- The loop filter's kernel, RFC 6386, sections 15.2, 4852-5016, and 15.3, 5069-5275: what eight samples across an edge become. It is in two
 -- steps: `rule_of` says which rule acts and why, and `steps_of` what that rule adds to each sample before the sum is clipped to a byte.
-use Rattle.numbers.specs.Words.{ℕ, suc, ◌+◌, ◌*◌, ◌<◌, Bool, true, false, not, ◌||◌, cond, ltb, leb, List, [], ◌∷◌, get_or, build, ℤ, pos, neg_ℤ, nat_abs, ◌+ℤ◌, ◌-ℤ◌, ◌*ℤ◌, shr_z, clip_z, signed_to, signed_byte_z}
+use Rattle.std.specs.Prelude.{◌+◌, ◌*◌, ◌<◌, ◌||◌, ◌∷◌, ◌+ℤ◌, ◌-ℤ◌, ◌*ℤ◌}
+use Rattle.numbers.specs.Words.{ℕ, suc, Bool, true, false, not, cond, ltb, leb, List, [], get_or, build, ℤ, pos, neg_ℤ, nat_abs, shr_z, clip_z, signed_to, signed_byte_z}
 pub use Rattle.filter.specs.declared.answers.Rule.{Rule}
 pub use Rattle.filter.specs.declared.answers.Rule.TheVariants.{EdgeFailed, Rough, Simple, HighVariance, MacroblockEdge, InnerEdge}
 use Rattle.filter.specs.declared.answers.Pixel.{Pixel}

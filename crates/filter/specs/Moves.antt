@@ -1,6 +1,7 @@
 -- How far the kernel can move a sample: the bounds that are promised, and an edge at which every one of them is reached. MovesLaws.antt
 -- proves both.
-use Rattle.numbers.specs.Words.{ℕ, Bool, true, false, List, [], ◌∷◌, get_or, build, pos}
+use Rattle.std.specs.Prelude.{◌∷◌}
+use Rattle.numbers.specs.Words.{ℕ, Bool, true, false, List, [], get_or, build, pos}
 use Rattle.filter.specs.Kernel.{apart}
 
 -- Bounds for the eight samples across an edge, the same on either side. The outermost, p3 and q3, never move.

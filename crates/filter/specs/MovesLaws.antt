@@ -1,5 +1,6 @@
 -- How far an edge can move: no sample passes its bound, every bound is reached, and what is level across the edge stays as it is.
-use Rattle.numbers.specs.Words.{ℕ, zero, suc, ◌+◌, ◌≤◌, ◌<◌, arith, ◌≡◌, refl, sym, ap, Bool, true, false, not, ◌&&◌, ◌||◌, cond, ltb, lit<, lit≤, List, [], ◌∷◌, length, get_or, replicate, build, ℤ, pos, negsuc, neg_ℤ, nat_abs, ◌+ℤ◌, ◌-ℤ◌, In, up, dn, to_le, of_eq, lt_parts, add_parts, up_neg, dn_neg, sub_parts_ℤ, nat_abs_parts, In_wider, clamp_z, up_to, clip_z, signed_byte_z, clamp_cases, up_to_is, signed_in}
+use Rattle.std.specs.Prelude.{◌+◌, ◌≤◌, ◌<◌, ◌≡◌, ◌&&◌, ◌||◌, ◌∷◌, ◌+ℤ◌, ◌-ℤ◌}
+use Rattle.numbers.specs.Words.{ℕ, zero, suc, arith, refl, sym, ap, Bool, true, false, not, cond, ltb, lit<, lit≤, List, [], length, get_or, replicate, build, ℤ, pos, negsuc, neg_ℤ, nat_abs, In, up, dn, to_le, of_eq, lt_parts, add_parts, up_neg, dn_neg, sub_parts_ℤ, nat_abs_parts, In_wider, clamp_z, up_to, clip_z, signed_byte_z, clamp_cases, up_to_is, signed_in}
 use Rattle.filter.specs.Kernel.{Rule, EdgeFailed, Rough, Simple, HighVariance, MacroblockEdge, InnerEdge, Samples, samples_across, apart, within_limit_of, first_false, smooth, rough_at, high_variance_of, rule_of, across, tapped, eighth, part, half, sides, no_steps, common_steps_of, macroblock_steps_of, inner_steps_of, steps_of, moved_of, filter_of}
 use Rattle.filter.specs.KernelLaws.{Bytes, eighth_in, half_in, part_in, moved_none, filter_at, steps_by_tests}
 use Rattle.filter.specs.Moves.{bounds, farthest, moves_of, cliff}

@@ -1,6 +1,7 @@
 -- The loop filter of RFC 6386, sections 15.2 and 15.3, in the RFC's own words: pixels are made signed, adjusted, and made unsigned again.
 -- Rfc15Laws.antt says that Kernel.antt gives the same samples.
-use Rattle.numbers.specs.Words.{ℕ, ◌+◌, ◌*◌, ◌/◌, ◌^◌, Bool, true, not, ◌&&◌, ◌||◌, cond, ltb, leb, List, [], ◌∷◌, get_or, ℤ, pos, nat_abs, ◌+ℤ◌, ◌-ℤ◌, ◌*ℤ◌, shr_z, signed_byte_z}
+use Rattle.std.specs.Prelude.{◌+◌, ◌*◌, ◌/◌, ◌^◌, ◌&&◌, ◌||◌, ◌∷◌, ◌+ℤ◌, ◌-ℤ◌, ◌*ℤ◌}
+use Rattle.numbers.specs.Words.{ℕ, Bool, true, not, cond, ltb, leb, List, [], get_or, ℤ, pos, nat_abs, shr_z, signed_byte_z}
 use Rattle.filter.specs.Kernel.{Eight, eight_of}
 
 -- ---- 15.2, simple filter, 4852-5016

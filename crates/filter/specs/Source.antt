@@ -1,5 +1,6 @@
 -- The words of the source's contracts, as vp8_filter_kernel writes them. SourceLaws.antt says that they are ours.
-use Rattle.numbers.specs.Words.{ℕ, Bool, not, ◌&&◌, ◌||◌, cond, eqb, List, get_or, ℤ, pos, negsuc, ◌+ℤ◌, ◌-ℤ◌, ◌*ℤ◌, le_z, lt_z, quot_z, clip_z}
+use Rattle.std.specs.Prelude.{◌&&◌, ◌||◌, ◌+ℤ◌, ◌-ℤ◌, ◌*ℤ◌}
+use Rattle.numbers.specs.Words.{ℕ, Bool, not, cond, eqb, List, get_or, ℤ, pos, negsuc, le_z, lt_z, quot_z, clip_z}
 use Rattle.filter.specs.Kernel.{Samples, samples_across}
 
 -- The magnitude of v.

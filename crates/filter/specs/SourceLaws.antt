@@ -1,5 +1,6 @@
 -- The words of the source's contracts say what Kernel.antt says.
-use Rattle.numbers.specs.Words.{ℕ, suc, ◌+◌, ◌*◌, ◌<◌, zero-add, arith, cases8, ◌≡◌, refl, sym, ◌∙◌, ap, ap₂, Bool, true, false, not, ◌&&◌, ◌||◌, cond, ltb, T, cond_at, ltb-true, List, [], ◌∷◌, get_or, ℤ, pos, negsuc, nat_abs, ◌+ℤ◌, ◌-ℤ◌, ◌*ℤ◌, ◌≤ℤ◌, le_z, lt_z, shr_z, le_z_yes, In, ≤ℤ-trans, plainly, inside, E, val, chk, know, ◌⊕◌, ◌⊖◌, ◌⊙◌, lit, v, known, unsigned_below, divided2_source, divided8_source, divided128_source, clamp_z, clip_z, signed_to, signed_byte_z, clamp_tests, signed_in, w32}
+use Rattle.std.specs.Prelude.{◌+◌, ◌*◌, ◌<◌, ◌≡◌, ◌&&◌, ◌||◌, ◌∷◌, ◌+ℤ◌, ◌-ℤ◌, ◌*ℤ◌, ◌≤ℤ◌}
+use Rattle.numbers.specs.Words.{ℕ, suc, zero-add, arith, cases8, refl, sym, ◌∙◌, ap, ap₂, Bool, true, false, not, cond, ltb, T, cond_at, ltb-true, List, [], get_or, ℤ, pos, negsuc, nat_abs, le_z, lt_z, shr_z, le_z_yes, In, ≤ℤ-trans, plainly, inside, E, val, chk, know, ◌⊕◌, ◌⊖◌, ◌⊙◌, lit, v, known, unsigned_below, divided2_source, divided8_source, divided128_source, clamp_z, clip_z, signed_to, signed_byte_z, clamp_tests, signed_in, w32}
 use Rattle.filter.specs.Kernel as kernel
 use Rattle.filter.specs.Kernel.{Samples, samples_across, across, tapped, eighth, part, half, sides, no_steps, common_steps_of, macroblock_steps_of, inner_steps_of, filter_of}
 use Rattle.filter.specs.KernelLaws.{Bytes, clip_still, filter_at, first_past, steps_by_tests, eighth_in}

@@ -1,6 +1,7 @@
 -- The strengths of a macroblock's edge filter (RFC 6386, section 15.4, 5281-5364; whether inner edges are
 -- filtered, section 15.1, 4785-4790).
-use Rattle.numbers.specs.Words.{ℕ, ◌+◌, ◌-◌, ◌/◌, min, max, Bool, true, false, ◌&&◌, eqb, ltb, leb, bit_of}
+use Rattle.std.specs.Prelude.{◌+◌, ◌-◌, ◌/◌, ◌&&◌}
+use Rattle.numbers.specs.Words.{ℕ, min, max, Bool, true, false, eqb, ltb, leb, bit_of}
 pub use Rattle.filter.specs.declared.strengths.Strength.{Strength}
 use Rattle.filter.specs.declared.strengths.Strengths.{Strengths}
 use Rattle.filter.specs.declared.strengths.Strengths.TheVariants as T

@@ -1,5 +1,6 @@
 -- The laws of strengths: each number's cases, their ranges, the answer with good arguments.
-use Rattle.numbers.specs.Words.{ℕ, ◌+◌, ◌-◌, ◌/◌, min, max, ◌≤◌, ◌<◌, arith, ◌≡◌, sym, Bool, true, ⊎_elim, lt_or, eq_or, both_true, eq-eqb, le-leb, le-ltb, lt-leb, lt-ltb, ne_eqb, bit_of, bit_small}
+use Rattle.std.specs.Prelude.{◌+◌, ◌-◌, ◌/◌, ◌≤◌, ◌<◌, ◌≡◌}
+use Rattle.numbers.specs.Words.{ℕ, min, max, arith, sym, Bool, true, ⊎_elim, lt_or, eq_or, both_true, eq-eqb, le-leb, le-ltb, lt-leb, lt-ltb, ne_eqb, bit_of, bit_small}
 use Rattle.filter.specs.declared.strengths.Strengths.TheVariants as T
 use Rattle.filter.specs.Strengths.{Strength, slowed, inner_of, threshold_of, no_strength, strength_of_of, strength_fine_of, strength_answer}
 

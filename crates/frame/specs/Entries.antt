@@ -1,5 +1,6 @@
 -- The 1096 entries that every layer reads, made from the fields of the coded header, each stored by its name. Those with no name are 0.
-use Rattle.numbers.specs.Words.{ℕ, zero, suc, ◌+◌, ◌-◌, true, false, ltb, List, [], ◌∷◌, get_or, set, replicate, build, ℤ, pos, ◌-ℤ◌}
+use Rattle.std.specs.Prelude.{◌+◌, ◌-◌, ◌∷◌, ◌-ℤ◌}
+use Rattle.numbers.specs.Words.{ℕ, zero, suc, true, false, ltb, List, [], get_or, set, replicate, build, ℤ, pos}
 use Rattle.frame.specs.Header.{CodedNumber, Four, Three, Segments, Filter, QuantIndices, Header, no_value}
 use Rattle.header.specs.Header as Name
 

@@ -1,6 +1,6 @@
 -- What every coded header has, whatever its bytes are: each number is a byte, or has a byte for its magnitude; and there are at most eight
 -- token partitions.
-use Rattle.numbers.specs.Words.{◌<◌}
+use Rattle.std.specs.Prelude.{◌<◌}
 use Rattle.reader.specs.ReadingLaws.{Bytes}
 use Rattle.frame.specs.declared.fields.CodedNumber.{CodedNumber}
 use Rattle.frame.specs.declared.fields.Four.{Four}

@@ -1,6 +1,7 @@
 -- What is taken of a frame hangs on its length and on the bytes before its token partitions alone; of a frame that is taken, all but where the token
 -- partitions lie on the bytes up to the end of the first partition.
-use Rattle.numbers.specs.Words.{ℕ, zero, suc, ◌+◌, ◌-◌, ◌*◌, ◌/◌, ◌%◌, ◌≤◌, ◌<◌, arith, pow_pos, ◌≡◌, refl, sym, ◌∙◌, ap, ap₂, true, false, not, ◌&&◌, ⊎_elim, eqb, ltb, leb, lit<, lt_or, le-leb, le-ltb, lt-ltb, List, [], length, get_or, build_same, all_below}
+use Rattle.std.specs.Prelude.{◌+◌, ◌-◌, ◌*◌, ◌/◌, ◌%◌, ◌≤◌, ◌<◌, ◌≡◌, ◌&&◌}
+use Rattle.numbers.specs.Words.{ℕ, zero, suc, arith, pow_pos, refl, sym, ◌∙◌, ap, ap₂, true, false, not, ⊎_elim, eqb, ltb, leb, lit<, lt_or, le-leb, le-ltb, lt-ltb, List, [], length, get_or, build_same, all_below}
 use Rattle.reader.specs.declared.boolean.Reader.{Reader}
 use Rattle.reader.specs.Reading.{Given, given, missing, first_reader, run}
 use Rattle.tile.specs.declared.Span.{Span}

@@ -1,6 +1,7 @@
 -- The coded header of a key frame as a grammar, in the order of RFC 6386, section 19.2, 6806-6854 (9.2 to 9.11 explain each field): `header`, at the
 -- end, is its table Frame Header. `literal n` is the RFC's L(n), `symbol p` its B(p); its name of a field stands beside ours.
-use Rattle.numbers.specs.Words.{ℕ, zero, suc, ◌+◌, Bool, true, false, List, get_or, set, replicate}
+use Rattle.std.specs.Prelude.{◌+◌}
+use Rattle.numbers.specs.Words.{ℕ, zero, suc, Bool, true, false, List, get_or, set, replicate}
 use Rattle.header.specs.Header.{probability_count}
 use Rattle.reader.specs.Reading.{Reading, done, ◌>>=◌, symbol}
 use Rattle.reader.specs.Extra.{extra}

@@ -1,5 +1,6 @@
 -- The laws of the coded header: what a flag announces; that every header is fine, and how many symbols it asks at most, 9,730.
-use Rattle.numbers.specs.Words.{ℕ, zero, suc, ◌+◌, ◌*◌, ◌^◌, ◌≤◌, ◌<◌, arith, pow_mono, ◌≡◌, refl, Bool, true, false, ltb, lit<, lit≤, ltb-true, List, get_or, set, replicate, length-replicate, set_keeps, all_of_any}
+use Rattle.std.specs.Prelude.{◌+◌, ◌*◌, ◌^◌, ◌≤◌, ◌<◌, ◌≡◌}
+use Rattle.numbers.specs.Words.{ℕ, zero, suc, arith, pow_mono, refl, Bool, true, false, ltb, lit<, lit≤, ltb-true, List, get_or, set, replicate, length-replicate, set_keeps, all_of_any}
 use Rattle.header.specs.Header.{probability_count}
 use Rattle.reader.specs.declared.boolean.Reader.{Reader}
 use Rattle.reader.specs.ReadingLaws.{Bytes, within_bind, within_more, within_weaken, within_symbol}

@@ -1,6 +1,7 @@
 -- What is taken of a frame that was taken before, written again with another first partition and one token partition: all but the partitions is
 -- as it was.
-use Rattle.numbers.specs.Words.{ℕ, zero, suc, ◌+◌, ◌-◌, ◌*◌, ◌/◌, ◌%◌, ◌≤◌, ◌<◌, zero-add, arith, ◌≡◌, refl, sym, ◌∙◌, ap, ap₂, true, not, ◌&&◌, eqb, leb, both_left, le-leb, List, ◌∷◌, length, get_or, replicate, built, get_or_constant}
+use Rattle.std.specs.Prelude.{◌+◌, ◌-◌, ◌*◌, ◌/◌, ◌%◌, ◌≤◌, ◌<◌, ◌≡◌, ◌&&◌, ◌∷◌}
+use Rattle.numbers.specs.Words.{ℕ, zero, suc, zero-add, arith, refl, sym, ◌∙◌, ap, ap₂, true, not, eqb, leb, both_left, le-leb, List, length, get_or, replicate, built, get_or_constant}
 use Rattle.reader.specs.declared.boolean.Reader.{Reader}
 use Rattle.reader.specs.Reading.{given, first_reader, run}
 use Rattle.tile.specs.Tile.{no_span, contents_of}

@@ -1,5 +1,6 @@
 -- What a frame that is taken has, and what a refusal is.
-use Rattle.numbers.specs.Words.{ℕ, ◌+◌, ◌≤◌, ◌<◌, ◌≡◌, ◌⊎◌, List, [], length, ℤ, pos, negsuc, Each}
+use Rattle.std.specs.Prelude.{◌+◌, ◌≤◌, ◌<◌, ◌≡◌, ◌⊎◌}
+use Rattle.numbers.specs.Words.{ℕ, List, [], length, ℤ, pos, negsuc, Each}
 use Rattle.header.specs.Header.{entry_count}
 use Rattle.tile.specs.declared.Tile.{Tile}
 use Rattle.tile.specs.Tile.{span_at_of, Sides, Counted, Cut}

@@ -1,6 +1,7 @@
 -- A frame that is taken passes the picture call's checks, 1 the sizes, 2 the count, 3 the entries, 5 the partitions and the reader; any
 -- other is refused.
-use Rattle.numbers.specs.Words.{ℕ, zero, suc, ◌+◌, ◌-◌, ◌*◌, ◌≤◌, ◌<◌, arith, ◌≡◌, refl, ◌∙◌, ap, Bool, true, false, not, ◌&&◌, ◌⊎◌, inl, inr, ⊎_elim, eqb, leb, lit≤, lt_or, never, both_left, both_right, eq-eqb, eqb-true, le-leb, leb-true, lt-leb, List, length, get_or, length_build, get_or_build, all_below_lem, ℤ}
+use Rattle.std.specs.Prelude.{◌+◌, ◌-◌, ◌*◌, ◌≤◌, ◌<◌, ◌≡◌, ◌&&◌, ◌⊎◌}
+use Rattle.numbers.specs.Words.{ℕ, zero, suc, arith, refl, ◌∙◌, ap, Bool, true, false, not, inl, inr, ⊎_elim, eqb, leb, lit≤, lt_or, never, both_left, both_right, eq-eqb, eqb-true, le-leb, leb-true, lt-leb, List, length, get_or, length_build, get_or_build, all_below_lem, ℤ}
 use Rattle.reader.specs.declared.boolean.Reader.{Reader}
 use Rattle.reader.specs.Reading.{Given, given, missing, first_reader, run}
 use Rattle.reader.specs.ReadingLaws.{Bytes, first_valid, ReadTo, run_valid}

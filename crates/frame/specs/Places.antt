@@ -1,6 +1,7 @@
 -- The token partitions (RFC 6386, section 9.5, 1991-2031): after the first partition, at `table`, the sizes of all but the last, three bytes each;
 -- then the partitions one after the other, the last up to the end of the frame.
-use Rattle.numbers.specs.Words.{ℕ, zero, suc, ◌+◌, ◌-◌, ◌*◌, ◌^◌, Bool, true, false, ◌&&◌, ltb, leb, List, length, build, all_below}
+use Rattle.std.specs.Prelude.{◌+◌, ◌-◌, ◌*◌, ◌^◌, ◌&&◌}
+use Rattle.numbers.specs.Words.{ℕ, zero, suc, Bool, true, false, ltb, leb, List, length, build, all_below}
 use Rattle.tile.specs.declared.Span.{Span}
 use Rattle.tile.specs.Tile.{no_span}
 use Rattle.frame.specs.Tag.{three_at}

@@ -1,5 +1,6 @@
 -- The places of the token partitions: all lie inside exactly where the last one's start does.
-use Rattle.numbers.specs.Words.{ℕ, zero, suc, ◌+◌, ◌-◌, ◌*◌, ◌≤◌, ◌<◌, add-suc, add-zero, zero-add, arith, ◌≡◌, refl, sym, ◌∙◌, ap, true, false, ⊎_elim, leb, lt_or, not_so, both_right, both_true, le-leb, le-ltb, leb-true, lt-ltb, List, length, all_below, all_below_lem}
+use Rattle.std.specs.Prelude.{◌+◌, ◌-◌, ◌*◌, ◌≤◌, ◌<◌, ◌≡◌}
+use Rattle.numbers.specs.Words.{ℕ, zero, suc, add-suc, add-zero, zero-add, arith, refl, sym, ◌∙◌, ap, true, false, ⊎_elim, leb, lt_or, not_so, both_right, both_true, le-leb, le-ltb, leb-true, lt-ltb, List, length, all_below, all_below_lem}
 use Rattle.frame.specs.Tag.{three_at}
 use Rattle.tile.specs.Tile.{no_span}
 use Rattle.frame.specs.Places.{partition_size, partition_start, length_of, partition_span, tokens_inside_of}

@@ -1,5 +1,6 @@
 -- THE call: the key frame's own header made into what the picture call takes, with its refusals in order.
-use Rattle.numbers.specs.Words.{ℕ, ◌+◌, true, false, not, eqb, ltb, leb, List, length, replicate, ℤ, pos}
+use Rattle.std.specs.Prelude.{◌+◌}
+use Rattle.numbers.specs.Words.{ℕ, true, false, not, eqb, ltb, leb, List, length, replicate, ℤ, pos}
 use Rattle.reader.specs.declared.boolean.Reader.{Reader}
 use Rattle.reader.specs.Reading.{Given, given, missing, first_reader, no_reader_of, run}
 use Rattle.header.specs.Header.{entry_count}

@@ -1,5 +1,6 @@
 -- The call, as the code makes it: one test after the other.
-use Rattle.numbers.specs.Words.{ℕ, ◌+◌, ◌≤◌, ◌<◌, arith, ◌≡◌, sym, ◌∙◌, ap, true, false, not, eqb, leb, eq-eqb, le-ltb, lt-ltb, ne_eqb, List, length, ℤ}
+use Rattle.std.specs.Prelude.{◌+◌, ◌≤◌, ◌<◌, ◌≡◌}
+use Rattle.numbers.specs.Words.{ℕ, arith, sym, ◌∙◌, ap, true, false, not, eqb, leb, eq-eqb, le-ltb, lt-ltb, ne_eqb, List, length, ℤ}
 use Rattle.reader.specs.declared.boolean.Reader.{Reader}
 use Rattle.reader.specs.Reading.{given, first_reader, valid_of, run}
 use Rattle.reader.specs.ReadingLaws.{Bytes, first_valid, valid_test, valid_fact, run_valid}

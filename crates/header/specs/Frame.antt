@@ -1,5 +1,6 @@
 -- What all macroblocks of a picture share, from the header (RFC 6386, sections 9.3, 9.4, 9.6, 9.11, 10 and 14.1: the files of each have the lines).
-use Rattle.numbers.specs.Words.{ℕ, ◌+◌, ◌<◌, Bool, true, false, List, [], ◌∷◌, get_or, replicate, ℤ, up_to}
+use Rattle.std.specs.Prelude.{◌+◌, ◌<◌, ◌∷◌}
+use Rattle.numbers.specs.Words.{ℕ, Bool, true, false, List, [], get_or, replicate, ℤ, up_to}
 use Rattle.numbers.specs.declared.Checked.TheVariants as T
 use Rattle.header.specs.Header.{map_on, map_probability, sharpness, skips_on, skip_probability_of, entry, present_at_of, probability_at_of, header_of}
 use Rattle.header.specs.Quantizers.{Factors, factors_of_of, no_factors}

@@ -1,5 +1,6 @@
 -- The laws of a frame: its parts, the answer with a good header, and what a macroblock reads of it.
-use Rattle.numbers.specs.Words.{ℕ, zero, suc, ◌+◌, ◌≤◌, ◌<◌, arith, ◌≡◌, refl, Bool, true, false, List, [], ◌∷◌, get_or, replicate, ℤ, up_to}
+use Rattle.std.specs.Prelude.{◌+◌, ◌≤◌, ◌<◌, ◌≡◌, ◌∷◌}
+use Rattle.numbers.specs.Words.{ℕ, zero, suc, arith, refl, Bool, true, false, List, [], get_or, replicate, ℤ, up_to}
 use Rattle.header.specs.HeaderLaws.{probability_below}
 use Rattle.header.specs.Header.{map_on, map_probability, sharpness, skips_on, skip_probability_of, entry, present_at_of, probability_at_of, header_of}
 use Rattle.header.specs.Quantizers.{Factors, factors_of_of, no_factors}

@@ -1,5 +1,6 @@
 -- The header's 1096 entries.
-use Rattle.numbers.specs.Words.{ℕ, zero, suc, ◌-◌, ◌%◌, Bool, true, false, not, ◌&&◌, ◌||◌, eqb, List, length, get_or, ℤ, pos, negsuc, lt_z}
+use Rattle.std.specs.Prelude.{◌-◌, ◌%◌, ◌&&◌, ◌||◌}
+use Rattle.numbers.specs.Words.{ℕ, zero, suc, Bool, true, false, not, eqb, List, length, get_or, ℤ, pos, negsuc, lt_z}
 
 -- ==== The header's 1096 entries by name: which entry says what. Each layer reads its own, and the rest are ignored. A probability is an
 -- entry modulo 256 (probability_of); what an entry announces is there where the entry is not 0 (present_of).

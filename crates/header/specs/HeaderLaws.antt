@@ -1,5 +1,6 @@
 -- The laws of the header's test: what a fine header is.
-use Rattle.numbers.specs.Words.{ℕ, zero, suc, ◌+◌, ◌-◌, ◌/◌, ◌%◌, ◌<◌, add-one, arith, ◌≡◌, refl, sym, ap, Bool, true, false, not, ◌||◌, ⊎_elim, eqb, lt_or, never, not_so, both_left, both_right, both_true, eq-eqb, eqb-true, not-true, List, length, get_or-eq_default, ℤ, pos, negsuc, ◌+ℤ◌, ◌*ℤ◌, lt_z, shr_z, In, Each, of_le, of_eq, nlt_le, add_parts, up_times, dn_times}
+use Rattle.std.specs.Prelude.{◌+◌, ◌-◌, ◌/◌, ◌%◌, ◌<◌, ◌≡◌, ◌||◌, ◌+ℤ◌, ◌*ℤ◌}
+use Rattle.numbers.specs.Words.{ℕ, zero, suc, add-one, arith, refl, sym, ap, Bool, true, false, not, ⊎_elim, eqb, lt_or, never, not_so, both_left, both_right, both_true, eq-eqb, eqb-true, not-true, List, length, get_or-eq_default, ℤ, pos, negsuc, lt_z, shr_z, In, Each, of_le, of_eq, nlt_le, add_parts, up_times, dn_times}
 use Rattle.header.specs.Header.{entry_count, entry, probability_of, outside, fine_to, entries_of, header_of}
 
 -- ---- a probability

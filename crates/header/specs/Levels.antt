@@ -1,6 +1,7 @@
 -- The filter level of a macroblock (RFC 6386, sections 9.4, 1948-1951, and 10, 2279-2287; which delta counts and where it is clamped stands in the
 -- source alone, 20.6, 9165-9212).
-use Rattle.numbers.specs.Words.{ℕ, ◌+◌, Bool, true, false, ◌&&◌, ltb, List, ℤ, pos, ◌+ℤ◌, up_to}
+use Rattle.std.specs.Prelude.{◌+◌, ◌&&◌, ◌+ℤ◌}
+use Rattle.numbers.specs.Words.{ℕ, Bool, true, false, ltb, List, ℤ, pos, up_to}
 use Rattle.header.specs.Header.{segment_level, frame_level, deltas_on, intra_delta, small_delta, entry, present_at_of, header_of}
 use Rattle.header.specs.declared.levels.Level.{Level}
 use Rattle.header.specs.declared.levels.Level.TheVariants as L

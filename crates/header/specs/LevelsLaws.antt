@@ -1,5 +1,6 @@
 -- The laws of filter levels: the range, and the answer with good arguments.
-use Rattle.numbers.specs.Words.{ℕ, ◌+◌, ◌≤◌, ◌<◌, ◌≡◌, Bool, true, false, ◌&&◌, ltb, both_true, both_false, le-ltb, lt-ltb, List, ℤ, pos, negsuc, ◌+ℤ◌, In, Each, In_wider, num, plainly, know_add, inside, up_to, up_to_le}
+use Rattle.std.specs.Prelude.{◌+◌, ◌≤◌, ◌<◌, ◌≡◌, ◌&&◌, ◌+ℤ◌}
+use Rattle.numbers.specs.Words.{ℕ, Bool, true, false, ltb, both_true, both_false, le-ltb, lt-ltb, List, ℤ, pos, negsuc, In, Each, In_wider, num, plainly, know_add, inside, up_to, up_to_le}
 use Rattle.header.specs.Header.{segment_level, frame_level, deltas_on, intra_delta, small_delta, present_at_of, header_of}
 use Rattle.header.specs.declared.levels.Level.TheVariants as L
 use Rattle.header.specs.Own.{segmented_of}

@@ -1,5 +1,6 @@
 -- The laws of a segment's own value: one for each way.
-use Rattle.numbers.specs.Words.{ℕ, ◌≡◌, true, false, List, ℤ, ◌+ℤ◌}
+use Rattle.std.specs.Prelude.{◌≡◌, ◌+ℤ◌}
+use Rattle.numbers.specs.Words.{ℕ, true, false, List, ℤ}
 use Rattle.header.specs.Header.{segments_on, segments_absolute, entry, present_at_of}
 use Rattle.header.specs.Own.{segmented_of}
 

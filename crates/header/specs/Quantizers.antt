@@ -1,6 +1,7 @@
 -- Quantizers (RFC 6386, sections 9.6, 2037-2050, and 14.1, 4251-4310, which points to the source, 20.4, 7996-8072, for scaling and
 -- clamping): what each kind of coefficient is multiplied by in a segment.
-use Rattle.numbers.specs.Words.{ℕ, ◌+◌, ◌*◌, ◌/◌, min, max, true, false, ◌&&◌, ltb, List, [], ◌∷◌, get_or, ℤ, pos, ◌+ℤ◌, up_to}
+use Rattle.std.specs.Prelude.{◌+◌, ◌*◌, ◌/◌, ◌&&◌, ◌∷◌, ◌+ℤ◌}
+use Rattle.numbers.specs.Words.{ℕ, min, max, true, false, ltb, List, [], get_or, ℤ, pos, up_to}
 use Rattle.header.specs.Header.{segment_index, base_index, ydc_delta, y2dc_delta, y2ac_delta, uvdc_delta, uvac_delta, entry, header_of}
 use Rattle.header.specs.Own.{segmented_of}
 pub use Rattle.header.specs.declared.quantizers.Factors.{Factors}

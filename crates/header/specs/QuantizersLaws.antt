@@ -1,5 +1,6 @@
 -- The laws of the quantizers: the tables' ranges, and the answer with good arguments.
-use Rattle.numbers.specs.Words.{ℕ, ◌*◌, ◌/◌, min, ◌≤◌, ◌<◌, arith, ◌≡◌, refl, true, false, ◌&&◌, ltb, both_true, both_false, le-ltb, lt-ltb, ltb-true, List, all_of_any, ℤ}
+use Rattle.std.specs.Prelude.{◌*◌, ◌/◌, ◌≤◌, ◌<◌, ◌≡◌, ◌&&◌}
+use Rattle.numbers.specs.Words.{ℕ, min, arith, refl, true, false, ltb, both_true, both_false, le-ltb, lt-ltb, ltb-true, List, all_of_any, ℤ}
 use Rattle.header.specs.Header.{ydc_delta, y2dc_delta, y2ac_delta, uvdc_delta, uvac_delta, entry, header_of}
 use Rattle.header.specs.declared.quantizers.Quantizers.TheVariants as Q
 use Rattle.header.specs.Quantizers.{Factors, dc_steps, ac_steps, dc_at, ac_at, index_of, index_with, second_ac_of, factors_of_of, quantizers_of}

@@ -1,5 +1,6 @@
 -- The calls as C sees them, a number and what is lent.
-use Rattle.numbers.specs.Words.{ℕ, true, false, eqb, List, length, ℤ, zero, suc, ◌&&◌, get_or, replicate}
+use Rattle.std.specs.Prelude.{◌&&◌}
+use Rattle.numbers.specs.Words.{ℕ, true, false, eqb, List, length, ℤ, zero, suc, get_or, replicate}
 use Rattle.macroblock.specs.declared.arguments.SymbolCounts.{SymbolCounts}
 use Rattle.lent.specs.Memory.{Memory}
 use Rattle.choices.specs.Choices.{Call, call_of, number_of, values_of}

@@ -1,5 +1,6 @@
 -- What the calls answer to C, as their code finds it.
-use Rattle.numbers.specs.Words.{ℕ, ◌≡◌, sym, ◌∙◌, ap₂, eq-eqb, ne_eqb, List, length, ℤ, ap, zero, suc, refl, get_or, replicate}
+use Rattle.std.specs.Prelude.{◌≡◌}
+use Rattle.numbers.specs.Words.{ℕ, sym, ◌∙◌, ap₂, eq-eqb, ne_eqb, List, length, ℤ, ap, zero, suc, refl, get_or, replicate}
 use Rattle.tile.specs.declared.Tile.{Tile}
 use Rattle.lent.specs.Memory.{Memory}
 use Rattle.choices.specs.Choices.{call_of, number_of, values_of}

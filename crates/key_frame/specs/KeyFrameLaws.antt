@@ -1,5 +1,6 @@
 -- The laws of the call on a key frame that its proofs and its callers cite: which way it goes.
-use Rattle.numbers.specs.Words.{ℕ, zero, suc, arith, ◌≡◌, refl, sym, ◌∙◌, ap, true, false, List, length, ℤ}
+use Rattle.std.specs.Prelude.{◌≡◌}
+use Rattle.numbers.specs.Words.{ℕ, zero, suc, arith, refl, sym, ◌∙◌, ap, true, false, List, length, ℤ}
 use Rattle.header.specs.Header.{frame_level, present_at_of}
 use Rattle.lent.specs.Memory.{Memory, sizes_of}
 use Rattle.macroblock.specs.declared.arguments.SymbolCounts.{SymbolCounts}

@@ -1,6 +1,7 @@
 -- The laws of column records, in both forms: what was written is read back, the other columns stay, and every context in the memory stays in
 -- range.
-use Rattle.numbers.specs.Words.{ℕ, ◌+◌, ◌*◌, ◌<◌, zero-add, arith, ◌≡◌, refl, sym, ◌∙◌, ap, ap₂, true, ⊎_elim, lit<, eq_or, List, length, get_or, replicate, get_or-append, length-append, get_or-append-add}
+use Rattle.std.specs.Prelude.{◌+◌, ◌*◌, ◌<◌, ◌≡◌}
+use Rattle.numbers.specs.Words.{ℕ, zero-add, arith, refl, sym, ◌∙◌, ap, ap₂, true, ⊎_elim, lit<, eq_or, List, length, get_or, replicate, get_or-append, length-append, get_or-append-add}
 use Rattle.modes.specs.declared.contexts.Context.{Context}
 use Rattle.modes.specs.Modes.{empty_context, context_fine_of, Shaped}
 use Rattle.column.specs.Column.{digits_of}

@@ -1,5 +1,6 @@
 -- The laws of the records of macroblocks: what was written is read back, and the other records stay.
-use Rattle.numbers.specs.Words.{ℕ, suc, ◌+◌, ◌<◌, ◌≡◌, refl, sym, ◌∙◌, ap, Bool, true, false, ◌&&◌, ltb, lit<, both_left, both_true, lt-ltb, bit_of, List, [], ◌∷◌, ◌++◌, length, get_or, get_or-append, length-append, get_or-append-add, get_or-append_seam, copied}
+use Rattle.std.specs.Prelude.{◌+◌, ◌<◌, ◌≡◌, ◌&&◌, ◌∷◌, ◌++◌}
+use Rattle.numbers.specs.Words.{ℕ, suc, refl, sym, ◌∙◌, ap, Bool, true, false, ltb, lit<, both_left, both_true, lt-ltb, bit_of, List, [], length, get_or, get_or-append, length-append, get_or-append-add, get_or-append_seam, copied}
 use Rattle.modes.specs.Modes.{zeros, Macroblock, kinds_of}
 use Rattle.modes.specs.ModesLaws.{InRange}
 use Rattle.modes.specs.declared.answers.Kinds.{Kinds}

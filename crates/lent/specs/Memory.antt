@@ -1,5 +1,6 @@
 -- The memory that the caller lends: its parts, its records, its lengths.
-use Rattle.numbers.specs.Words.{ℕ, List, length, replicate, ◌+◌, ◌*◌, ◌/◌, ◌<◌, ◌≡◌, Bool, true, false, not, ◌&&◌, eqb, ltb, bit_of, [], ◌∷◌, ◌++◌, get_or, build, listed, copied}
+use Rattle.std.specs.Prelude.{◌+◌, ◌*◌, ◌/◌, ◌<◌, ◌≡◌, ◌&&◌, ◌∷◌, ◌++◌}
+use Rattle.numbers.specs.Words.{ℕ, List, length, replicate, Bool, true, false, not, eqb, ltb, bit_of, [], get_or, build, listed, copied}
 use Rattle.filter.specs.declared.strengths.Strength.{Strength}
 use Rattle.filter.specs.Strengths.{strength_fine_of}
 use Rattle.modes.specs.declared.answers.Kinds.{Kinds}

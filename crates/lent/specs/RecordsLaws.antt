@@ -1,5 +1,6 @@
 -- The laws of records, for every width: what was written is read back, the other records stay, and what the calls answer.
-use Rattle.numbers.specs.Words.{ℕ, suc, ◌+◌, ◌-◌, ◌*◌, ◌/◌, ◌≤◌, ◌<◌, le-div_iff_mul-le, mul-le-mul_right, suc-mul, zero-add, arith, ◌≡◌, sym, ◌∙◌, ap, Bool, true, false, ◌&&◌, inl, inr, ⊎_elim, ltb, lt_or, both_true, both_false, le-ltb, lt-ltb, List, [], ◌++◌, append-nil, length, get_or, take, drop, replicate, get_or-append, length-append, length-drop, length-replicate, ext_get_or, get_or-append-add, get_or-drop, get_or-take, length-take-le, build_listed, get_or_build, built, build_same, get_or_constant, copied, Off, length_copied, copied_in, copied_off}
+use Rattle.std.specs.Prelude.{◌+◌, ◌-◌, ◌*◌, ◌/◌, ◌≤◌, ◌<◌, ◌≡◌, ◌&&◌, ◌++◌}
+use Rattle.numbers.specs.Words.{ℕ, suc, le-div_iff_mul-le, mul-le-mul_right, suc-mul, zero-add, arith, sym, ◌∙◌, ap, Bool, true, false, inl, inr, ⊎_elim, ltb, lt_or, both_true, both_false, le-ltb, lt-ltb, List, [], append-nil, length, get_or, take, drop, replicate, get_or-append, length-append, length-drop, length-replicate, ext_get_or, get_or-append-add, get_or-drop, get_or-take, length-take-le, build_listed, get_or_build, built, build_same, get_or_constant, copied, Off, length_copied, copied_in, copied_off}
 use Rattle.lent.specs.Memory.{record_at, record_set, records_in, bytes_of, Written, record_written, record_found}
 use Rattle.numbers.specs.declared.Checked.TheVariants as K
 

@@ -1,5 +1,6 @@
 -- What check 4 says: each test and its fact, both ways; filling changes no length; and the sizes in macroblocks.
-use Rattle.numbers.specs.Words.{ℕ, ◌*◌, ◌/◌, mul_comm, arith, ◌≡◌, refl, sym, ◌∙◌, ap, ap₂, Bool, true, false, ◌&&◌, ⊎_elim, eqb, eq_or, both_left, both_right, both_true, eq-eqb, eqb-true, ne_eqb}
+use Rattle.std.specs.Prelude.{◌*◌, ◌/◌, ◌≡◌, ◌&&◌}
+use Rattle.numbers.specs.Words.{ℕ, mul_comm, arith, refl, sym, ◌∙◌, ap, ap₂, Bool, true, false, ⊎_elim, eqb, eq_or, both_left, both_right, both_true, eq-eqb, eqb-true, ne_eqb}
 use Rattle.tile.specs.Tile.{sides_of, Sides}
 use Rattle.tile.specs.ChecksLaws.{sides_fact, sides_test}
 use Rattle.lent.specs.Memory.{Form, packed, old, form_width, Sizes, long_of, luma_fine_of, chroma_fine_of, columns_fine_of, modes_fine_of, strengths_fine_of, sizes_fine_of, Sized}

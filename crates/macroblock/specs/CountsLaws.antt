@@ -1,5 +1,6 @@
 -- The laws of a macroblock's counts: which they are, as the code finds them, and how large they can be.
-use Rattle.numbers.specs.Words.{ℕ, ◌≤◌, arith, ◌≡◌, sym, ◌∙◌, ap, Bool, true, false, ◌&&◌, both_true, both_false, List, length}
+use Rattle.std.specs.Prelude.{◌≤◌, ◌≡◌, ◌&&◌}
+use Rattle.numbers.specs.Words.{ℕ, arith, sym, ◌∙◌, ap, Bool, true, false, both_true, both_false, List, length}
 use Rattle.reader.specs.declared.boolean.Reader.{Reader}
 use Rattle.reader.specs.Reading.{Given, given, missing, run, count}
 use Rattle.reader.specs.ReadingLaws.{Bytes, count_within}

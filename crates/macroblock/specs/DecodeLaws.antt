@@ -1,5 +1,6 @@
 -- The laws of the public call: what its checks say, that good arguments give the macroblock, and that a refusal changes nothing.
-use Rattle.numbers.specs.Words.{ℕ, zero, suc, ◌*◌, ◌/◌, ◌%◌, ◌≤◌, ◌<◌, mul-div_cancel, arith, ◌≡◌, refl, sym, ◌∙◌, ap, subst, Bool, true, false, ◌&&◌, eqb, ltb, leb, both_left, both_right, both_true, both_false, eq-eqb, eqb-true, le-leb, le-ltb, leb-true, lt-leb, lt-ltb, ltb-true, List, length, get_or, get_or-eq_default, w8, Fits}
+use Rattle.std.specs.Prelude.{◌*◌, ◌/◌, ◌%◌, ◌≤◌, ◌<◌, ◌≡◌, ◌&&◌}
+use Rattle.numbers.specs.Words.{ℕ, zero, suc, mul-div_cancel, arith, refl, sym, ◌∙◌, ap, subst, Bool, true, false, eqb, ltb, leb, both_left, both_right, both_true, both_false, eq-eqb, eqb-true, le-leb, le-ltb, leb-true, lt-leb, lt-ltb, ltb-true, List, length, get_or, get_or-eq_default, w8, Fits}
 use Rattle.header.specs.Header.{probability_count}
 use Rattle.reader.specs.declared.boolean.Reader.{Reader}
 use Rattle.reader.specs.Reading.{valid_of}

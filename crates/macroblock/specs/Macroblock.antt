@@ -1,5 +1,6 @@
 -- One macroblock.
-use Rattle.numbers.specs.Words.{ℕ, ◌*◌, ◌/◌, ◌%◌, Bool, true, false, not, ◌&&◌, ◌||◌, eqb, ltb, leb, List, length, get_or, take, drop, replicate, ℤ, ◌≤◌, ◌<◌, ◌≡◌, pos, negsuc, Each}
+use Rattle.std.specs.Prelude.{◌*◌, ◌/◌, ◌%◌, ◌&&◌, ◌||◌, ◌≤◌, ◌<◌, ◌≡◌}
+use Rattle.numbers.specs.Words.{ℕ, Bool, true, false, not, eqb, ltb, leb, List, length, get_or, take, drop, replicate, ℤ, pos, negsuc, Each}
 use Rattle.header.specs.Header.{probability_count}
 use Rattle.reader.specs.declared.boolean.Reader.{Reader}
 use Rattle.reader.specs.Reading.{Given, given, missing, valid_of, run, Valid, count}

@@ -1,5 +1,6 @@
 -- The laws of one macroblock: what its inner functions ask, and what its three squares and its two grammars give.
-use Rattle.numbers.specs.Words.{ℕ, ◌+◌, ◌*◌, ◌/◌, ◌≤◌, arith, ◌≡◌, refl, sym, ◌∙◌, ap, Bool, true, false, not, ◌||◌, inl, inr, ⊎_elim, lt_or, never, List, length, get_or, take, drop, replicate, get_or-eq_default, length-drop, length-take, drop-drop, get_or-drop, get_or-take, length-take-le, take_all, ℤ, pos, negsuc, Each, of_le}
+use Rattle.std.specs.Prelude.{◌+◌, ◌*◌, ◌/◌, ◌≤◌, ◌≡◌, ◌||◌}
+use Rattle.numbers.specs.Words.{ℕ, arith, refl, sym, ◌∙◌, ap, Bool, true, false, not, inl, inr, ⊎_elim, lt_or, never, List, length, get_or, take, drop, replicate, get_or-eq_default, length-drop, length-take, drop-drop, get_or-drop, get_or-take, length-take-le, take_all, ℤ, pos, negsuc, Each, of_le}
 use Rattle.reader.specs.declared.boolean.Reader.{Reader}
 use Rattle.reader.specs.Reading.{Given, given, missing, run}
 use Rattle.header.specs.declared.frame.Frame.{Frame}

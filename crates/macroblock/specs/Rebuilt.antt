@@ -1,6 +1,7 @@
 -- A macroblock from its modes alone (request M-108): for where its tokens are lost. Its modes are read as ever (RFC 6386, section 19.3,
 -- 7239-7272), it is predicted from them (section 12) with no residual, and it counts as empty; no token is read.
-use Rattle.numbers.specs.Words.{ℕ, Bool, true, false, ◌&&◌, List, length, replicate}
+use Rattle.std.specs.Prelude.{◌&&◌}
+use Rattle.numbers.specs.Words.{ℕ, Bool, true, false, List, length, replicate}
 use Rattle.reader.specs.declared.boolean.Reader.{Reader}
 use Rattle.reader.specs.Reading.{valid_of, run}
 use Rattle.header.specs.declared.frame.Frame.{Frame}

@@ -1,5 +1,6 @@
 -- The laws of a macroblock that is rebuilt from its modes: what its call asks, which way it goes, what it leaves and what it does not touch.
-use Rattle.numbers.specs.Words.{ℕ, arith, ◌≡◌, refl, sym, ◌∙◌, ap, subst, Bool, true, false, not, ◌&&◌, ◌||◌, both_true, both_false, List, length, replicate, length-replicate, get_or_constant, ℤ, pos}
+use Rattle.std.specs.Prelude.{◌≡◌, ◌&&◌, ◌||◌}
+use Rattle.numbers.specs.Words.{ℕ, arith, refl, sym, ◌∙◌, ap, subst, Bool, true, false, not, both_true, both_false, List, length, replicate, length-replicate, get_or_constant, ℤ, pos}
 use Rattle.reader.specs.declared.boolean.Reader.{Reader}
 use Rattle.reader.specs.Reading.{Given, given, missing, run}
 use Rattle.reader.specs.ReadingLaws.{Bytes, Valid, ReadTo, run_valid}

@@ -1,5 +1,6 @@
 -- What the source's vp8_macroblock promises of a macroblock that is finished, in its words: with the header, and not with what was made of it.
-use Rattle.numbers.specs.Words.{ℕ, ◌≡◌, not, ◌||◌, List, ℤ, up_to}
+use Rattle.std.specs.Prelude.{◌≡◌, ◌||◌}
+use Rattle.numbers.specs.Words.{ℕ, not, List, ℤ, up_to}
 use Rattle.header.specs.Header.{sharpness, entry}
 use Rattle.header.specs.Quantizers.{factors_of_of}
 use Rattle.header.specs.Levels.{level_of_of}

@@ -1,6 +1,7 @@
 -- The laws of one macroblock for whoever decodes many: which way it goes, what it leaves, and what it does not touch. Nothing of its
 -- definition is needed beside them.
-use Rattle.numbers.specs.Words.{ℕ, ◌+◌, ◌*◌, ◌/◌, ◌≤◌, ◌<◌, arith, ◌≡◌, refl, sym, ◌∙◌, ap, ap₂, subst, Bool, true, false, not, ◌||◌, List, length, get_or, take, drop, ℤ}
+use Rattle.std.specs.Prelude.{◌+◌, ◌*◌, ◌/◌, ◌≤◌, ◌<◌, ◌≡◌, ◌||◌}
+use Rattle.numbers.specs.Words.{ℕ, arith, refl, sym, ◌∙◌, ap, ap₂, subst, Bool, true, false, not, List, length, get_or, take, drop, ℤ}
 use Rattle.reader.specs.declared.boolean.Reader.{Reader}
 use Rattle.reader.specs.Reading.{Given, given, missing, run}
 use Rattle.reader.specs.ReadingLaws.{Bytes, Valid, ReadTo, run_valid}

@@ -1,5 +1,6 @@
 -- What a finished macroblock has to be written: its strengths are in range.
-use Rattle.numbers.specs.Words.{ℕ, ◌≡◌, ◌∙◌, ap, true, not, ◌||◌, List}
+use Rattle.std.specs.Prelude.{◌≡◌, ◌||◌}
+use Rattle.numbers.specs.Words.{ℕ, ◌∙◌, ap, true, not, List}
 use Rattle.header.specs.declared.frame.Frame.{Frame}
 use Rattle.header.specs.Frame.{level_at}
 use Rattle.header.specs.FrameLaws.{Sound}

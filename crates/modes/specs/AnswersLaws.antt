@@ -1,5 +1,6 @@
 -- The laws of the calls' answers: what a refusal is, that good arguments give the grammar's run, and what an answer says of it.
-use Rattle.numbers.specs.Words.{ℕ, ◌≤◌, ◌<◌, ◌≡◌, refl, sym, ◌∙◌, ap, Bool, true, false, ◌&&◌, ◌⊎◌, eqb, ltb, not_first, both_true, both_false, eq-eqb, le-ltb, lt-ltb, ne_eqb, List, length, ℤ}
+use Rattle.std.specs.Prelude.{◌≤◌, ◌<◌, ◌≡◌, ◌&&◌, ◌⊎◌}
+use Rattle.numbers.specs.Words.{ℕ, refl, sym, ◌∙◌, ap, Bool, true, false, eqb, ltb, not_first, both_true, both_false, eq-eqb, le-ltb, lt-ltb, ne_eqb, List, length, ℤ}
 use Rattle.header.specs.Header.{entry_count}
 use Rattle.header.specs.declared.frame.Announced.{Announced}
 use Rattle.header.specs.Frame.{announced_of}

@@ -1,5 +1,6 @@
 -- The laws of contexts.
-use Rattle.numbers.specs.Words.{ℕ, ◌+◌, ◌≤◌, ◌<◌, arith, ◌≡◌, refl, sym, ◌∙◌, Bool, true, false, ◌&&◌, inl, inr, ltb, lt_or, never, not_so, both_left, both_right, both_true, lt-ltb, ltb-true, List, length, get_or}
+use Rattle.std.specs.Prelude.{◌+◌, ◌≤◌, ◌<◌, ◌≡◌, ◌&&◌}
+use Rattle.numbers.specs.Words.{ℕ, arith, refl, sym, ◌∙◌, Bool, true, false, inl, inr, ltb, lt_or, never, not_so, both_left, both_right, both_true, lt-ltb, ltb-true, List, length, get_or}
 use Rattle.modes.specs.Modes.{each_below_of, contexts_of, Context, context_fine_of}
 use Rattle.modes.specs.ModesLaws.{each_at, each_all}
 

@@ -1,5 +1,6 @@
 -- The laws of the modes' counts: modes that were read say how many symbols they took.
-use Rattle.numbers.specs.Words.{ℕ, zero, suc, ◌+◌, ◌≤◌, ◌<◌, add-one, add-zero, arith, ◌≡◌, refl, sym, ◌∙◌, ap, Bool, true, false, ◌&&◌, leb, lit≤, both_true, both_false, leb-true, bit_of, List, [], ◌∷◌, length, get_or, set, length-set, get_or-set_other, get_or-set_same, all_of_any}
+use Rattle.std.specs.Prelude.{◌+◌, ◌≤◌, ◌<◌, ◌≡◌, ◌&&◌, ◌∷◌}
+use Rattle.numbers.specs.Words.{ℕ, zero, suc, add-one, add-zero, arith, refl, sym, ◌∙◌, ap, Bool, true, false, leb, lit≤, both_true, both_false, leb-true, bit_of, List, [], length, get_or, set, length-set, get_or-set_other, get_or-set_same, all_of_any}
 use Rattle.header.specs.declared.frame.Announced.{Announced}
 use Rattle.reader.specs.declared.boolean.Reader.{Reader}
 use Rattle.reader.specs.Reading.{given, valid_of, symbol, run, count}

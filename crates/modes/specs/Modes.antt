@@ -1,5 +1,6 @@
 -- A macroblock's modes: their grammars, what the calls answer, what neighbours see.
-use Rattle.numbers.specs.Words.{ℕ, zero, suc, ◌+◌, ◌-◌, ◌/◌, ◌%◌, ◌<◌, Bool, true, false, not, eqb, ltb, List, [], ◌∷◌, get_or, set, replicate, ℤ, ◌≡◌, ◌&&◌, length, all_of, ◌≤◌, bit_of}
+use Rattle.std.specs.Prelude.{◌+◌, ◌-◌, ◌/◌, ◌%◌, ◌<◌, ◌∷◌, ◌≡◌, ◌&&◌, ◌≤◌}
+use Rattle.numbers.specs.Words.{ℕ, zero, suc, Bool, true, false, not, eqb, ltb, List, [], get_or, set, replicate, ℤ, length, all_of, bit_of}
 use Rattle.reader.specs.Reading.{Reading, done, ◌>>=◌, symbol, Given, given, missing, valid_of, run, count}
 use Rattle.header.specs.declared.frame.Announced.{Announced}
 use Rattle.reader.specs.Trees.{node, leaf, walk}

@@ -1,5 +1,6 @@
 -- The laws of the modes' grammars: what code and callers cite.
-use Rattle.numbers.specs.Words.{ℕ, zero, suc, ◌+◌, ◌-◌, ◌*◌, ◌/◌, ◌%◌, ◌≤◌, ◌<◌, arith, ◌≡◌, refl, ◌∙◌, Bool, true, false, ⊎_elim, ltb, lit<, lit≤, lt_or, eq_or, never, both_left, both_right, both_true, eq-eqb, le-ltb, lt-ltb, ltb-true, ne_eqb, List, [], ◌∷◌, length, get_or, set, replicate, length-set, set_keeps, all_at, all_of_lem, all_of_any, ℤ}
+use Rattle.std.specs.Prelude.{◌+◌, ◌-◌, ◌*◌, ◌/◌, ◌%◌, ◌≤◌, ◌<◌, ◌≡◌, ◌∷◌}
+use Rattle.numbers.specs.Words.{ℕ, zero, suc, arith, refl, ◌∙◌, Bool, true, false, ⊎_elim, ltb, lit<, lit≤, lt_or, eq_or, never, both_left, both_right, both_true, eq-eqb, le-ltb, lt-ltb, ltb-true, ne_eqb, List, [], length, get_or, set, replicate, length-set, set_keeps, all_at, all_of_lem, all_of_any, ℤ}
 use Rattle.reader.specs.ReadingLaws.{Bytes, within_bind, within_more, within_symbol}
 use Rattle.reader.specs.Reading.{Reading, Within, ends}
 use Rattle.header.specs.declared.frame.Announced.{Announced}

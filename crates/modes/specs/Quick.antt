@@ -1,5 +1,6 @@
 -- Parts of a macroblock's modes over a wide reader.
-use Rattle.numbers.specs.Words.{ℕ, true, false, List, [], ◌∷◌, ℤ}
+use Rattle.std.specs.Prelude.{◌∷◌}
+use Rattle.numbers.specs.Words.{ℕ, true, false, List, [], ℤ}
 use Rattle.reader.specs.Trees.{node, leaf}
 use Rattle.wide.specs.declared.wide.Wide.{Wide}
 use Rattle.wide.specs.Wide.{wide_bit_of}

@@ -1,7 +1,8 @@
 -- The probabilities of the small modes (RFC 6386, section 11.5, 2607-2763, kf_bmode_prob), in the RFC's own order: B_DC_PRED, B_TM_PRED,
 -- B_VE_PRED, B_HE_PRED, B_LD_PRED, B_RD_PRED, B_VR_PRED, B_VL_PRED, B_HD_PRED, B_HU_PRED, by the mode above, then by the mode to
 -- the left, one line for each pair.
-use Rattle.numbers.specs.Words.{ℕ, ◌+◌, ◌*◌, ◌/◌, ◌%◌, List, [], ◌∷◌, get_or, take, drop, build}
+use Rattle.std.specs.Prelude.{◌+◌, ◌*◌, ◌/◌, ◌%◌, ◌∷◌}
+use Rattle.numbers.specs.Words.{ℕ, List, [], get_or, take, drop, build}
 
 -- The RFC's numbers of the modes (intra_bmode, section 11.2, 2417-2438). Here modes are 0 DC, 1 TM, 2 VE, 3 HE, 4 RD, 5 VR, 6 LD, 7 VL, 8
 -- HD, 9 HU; the RFC has LD as 4, RD as 5 and VR as 6.

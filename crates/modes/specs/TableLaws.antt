@@ -1,5 +1,6 @@
 -- The table of small modes' probabilities: the code's is the RFC's with both modes renumbered, and each entry is in 1..255.
-use Rattle.numbers.specs.Words.{ℕ, ◌+◌, ◌-◌, ◌*◌, ◌/◌, ◌%◌, ◌≤◌, ◌<◌, arith, ◌≡◌, refl, sym, ◌∙◌, ap, true, ◌&&◌, ⊎_elim, ltb, leb, lit<, lt_or, both_left, both_right, leb-true, ltb-true, List, length, get_or, take, drop, get_or-eq_default, length-drop, ext_get_or, get_or-drop, get_or-take, length-take-le, length_build, get_or_build, built, all_of, permuted, all_of_lem, all_of_any, permuted_at}
+use Rattle.std.specs.Prelude.{◌+◌, ◌-◌, ◌*◌, ◌/◌, ◌%◌, ◌≤◌, ◌<◌, ◌≡◌, ◌&&◌}
+use Rattle.numbers.specs.Words.{ℕ, arith, refl, sym, ◌∙◌, ap, true, ⊎_elim, ltb, leb, lit<, lt_or, both_left, both_right, leb-true, ltb-true, List, length, get_or, take, drop, get_or-eq_default, length-drop, ext_get_or, get_or-drop, get_or-take, length-take-le, length_build, get_or_build, built, all_of, permuted, all_of_lem, all_of_any, permuted_at}
 use Rattle.reader.specs.ReadingLaws.{Bytes}
 use Rattle.modes.specs.Table.{rfc_numbers, rfc_of, rfc_place, rfc_table, probabilities, renumbered_table}
 

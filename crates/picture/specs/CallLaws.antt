@@ -1,5 +1,6 @@
 -- The laws of the picture call: a refused argument, and what good arguments give to the first macroblock.
-use Rattle.numbers.specs.Words.{ℕ, zero, suc, ◌*◌, ◌/◌, arith, ◌≡◌, refl, sym, ◌∙◌, ap, List, length, replicate, length-replicate}
+use Rattle.std.specs.Prelude.{◌*◌, ◌/◌, ◌≡◌}
+use Rattle.numbers.specs.Words.{ℕ, zero, suc, arith, refl, sym, ◌∙◌, ap, List, length, replicate, length-replicate}
 use Rattle.reader.specs.Reading.{no_reader_of}
 use Rattle.reader.specs.ReadingLaws.{Bytes}
 use Rattle.coefficients.specs.declared.block.Table.{Table}

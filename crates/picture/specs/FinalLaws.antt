@@ -1,5 +1,6 @@
 -- What the lent memory holds after 0, 6 or 7: contexts in range, limits of at most 189 (the source's clauses on every end).
-use Rattle.numbers.specs.Words.{ℕ, zero, suc, ◌+◌, ◌*◌, ◌≤◌, ◌<◌, arith, ◌≡◌, refl, sym, ◌∙◌, ap, subst, Bool, true, ◌&&◌, ⊎_elim, leb, lit≤, eq_or, both_left, leb-true, List, length, replicate}
+use Rattle.std.specs.Prelude.{◌+◌, ◌*◌, ◌≤◌, ◌<◌, ◌≡◌, ◌&&◌}
+use Rattle.numbers.specs.Words.{ℕ, zero, suc, arith, refl, sym, ◌∙◌, ap, subst, Bool, true, ⊎_elim, leb, lit≤, eq_or, both_left, leb-true, List, length, replicate}
 use Rattle.reader.specs.ReadingLaws.{Bytes}
 use Rattle.lent.specs.Memory.{Form, Columns, records_in, strength_width, strength_in, strength_at_of, strength_set, Memory, sizes_of, blank_of}
 use Rattle.lent.specs.RecordsLaws.{record_zeros}

@@ -1,6 +1,7 @@
 -- The picture call with the state that it stopped in: what the macroblock found that it did not finish, for a call that goes on from there
 -- (request M-108). Answer and memory are those of the picture call: `halted_picture`, in HaltLaws, proves it.
-use Rattle.numbers.specs.Words.{ℕ, zero, suc, ◌+◌, List}
+use Rattle.std.specs.Prelude.{◌+◌}
+use Rattle.numbers.specs.Words.{ℕ, zero, suc, List}
 use Rattle.reader.specs.declared.boolean.Reader.{Reader}
 use Rattle.modes.specs.declared.contexts.Context.{Context}
 use Rattle.macroblock.specs.Macroblock.{finished, no_modes, no_tokens}

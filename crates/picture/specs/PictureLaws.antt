@@ -1,5 +1,6 @@
 -- The laws of the picture: one turn of its recursion; what every macroblock finds and leaves; what a macroblock's call asks.
-use Rattle.numbers.specs.Words.{ℕ, zero, suc, ◌+◌, ◌*◌, ◌≤◌, ◌<◌, div-lt_iff_lt-mul, mod-lt, mul_comm, arith, ◌≡◌, refl, ◌∙◌, true, ⊎_elim, eq_or, List, get_or, set, length-set, get_or-set_other, get_or-set_same}
+use Rattle.std.specs.Prelude.{◌+◌, ◌*◌, ◌≤◌, ◌<◌, ◌≡◌}
+use Rattle.numbers.specs.Words.{ℕ, zero, suc, div-lt_iff_lt-mul, mod-lt, mul_comm, arith, refl, ◌∙◌, true, ⊎_elim, eq_or, List, get_or, set, length-set, get_or-set_other, get_or-set_same}
 use Rattle.reader.specs.Reading.{no_reader_of}
 use Rattle.reader.specs.ReadingLaws.{Bytes, Valid}
 use Rattle.modes.specs.Modes.{kinds_of, context_fine_of, Shaped}

@@ -1,5 +1,6 @@
 -- What one macroblock leaves, from the answers of the calls that make it.
-use Rattle.numbers.specs.Words.{ℕ, ◌<◌, arith, ◌≡◌, refl, sym, ◌∙◌, ap, true, ◌&&◌, ltb, both_true, List, length}
+use Rattle.std.specs.Prelude.{◌<◌, ◌≡◌, ◌&&◌}
+use Rattle.numbers.specs.Words.{ℕ, arith, refl, sym, ◌∙◌, ap, true, ltb, both_true, List, length}
 use Rattle.reader.specs.ReadingLaws.{Bytes, Valid}
 use Rattle.modes.specs.Modes.{kinds_of, each_below_of, context_fine_of, Shaped}
 use Rattle.modes.specs.declared.contexts.Context.{Context}

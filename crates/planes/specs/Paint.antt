@@ -1,7 +1,8 @@
 -- Painting a macroblock's square into a plane: RFC 6386, section 12 (what a square or a sub-block is predicted from, and in which order)
 -- and section 14.5, 4619-4629 (the residual is added). A plane is a list of samples, w to a row: the sample at column x of row y is its element
 -- y * w + x.
-use Rattle.numbers.specs.Words.{ℕ, zero, suc, ◌+◌, ◌*◌, ◌/◌, ◌%◌, Bool, true, false, ◌&&◌, ◌||◌, cond, eqb, ltb, leb, List, [], ◌∷◌, length, get_or, take, drop, replicate, build, placed, copied, all_below, ℤ, pos, ◌+ℤ◌, clip_z}
+use Rattle.std.specs.Prelude.{◌+◌, ◌*◌, ◌/◌, ◌%◌, ◌&&◌, ◌||◌, ◌∷◌, ◌+ℤ◌}
+use Rattle.numbers.specs.Words.{ℕ, zero, suc, Bool, true, false, cond, eqb, ltb, leb, List, [], length, get_or, take, drop, replicate, build, placed, copied, all_below, ℤ, pos, clip_z}
 use Rattle.transform.specs.Transform.{samples_of, fits16}
 use Rattle.transform.specs.Lanes.{by_blocks, known_length_of}
 use Rattle.numbers.specs.declared.Checked.{Checked}

@@ -1,5 +1,6 @@
 -- What single functions of the code take and give, where the definitions of painting have no name for it.
-use Rattle.numbers.specs.Words.{ℕ, zero, suc, ◌+◌, ◌*◌, ◌/◌, ◌%◌, ◌≤◌, ◌<◌, ◌≡◌, Bool, true, false, ◌&&◌, leb, List, length, get_or, replicate, build, placed, ℤ, pos, negsuc, ◌+ℤ◌, shr_z, In, Each, clip_z}
+use Rattle.std.specs.Prelude.{◌+◌, ◌*◌, ◌/◌, ◌%◌, ◌≤◌, ◌<◌, ◌≡◌, ◌&&◌, ◌+ℤ◌}
+use Rattle.numbers.specs.Words.{ℕ, zero, suc, Bool, true, false, leb, List, length, get_or, replicate, build, placed, ℤ, pos, negsuc, shr_z, In, Each, clip_z}
 use Rattle.transform.specs.Transform.{grid_row}
 use Rattle.transform.specs.Lanes.{known_length_of, short_residual, row_place}
 use Rattle.planes.specs.Paint.{sample_at, block_residual, cell_column, cell_row}

@@ -1,5 +1,6 @@
 -- Where squares and sub_blocks_lem lie in a plane of `len` samples, w to a row.
-use Rattle.numbers.specs.Words.{ℕ, ◌+◌, ◌-◌, ◌*◌, ◌/◌, ◌%◌, ◌^◌, ◌≤◌, ◌<◌, add-mul, mul-le-mul_right, one-mul, dec_lt, ℕ_discrete, arith, bit_and, and_mask, ◌≡◌, refl, sym, ◌∙◌, ap, subst, false, cond, ◌⊎◌, inl, inr, eqb, lt_or, eqb-false, Off}
+use Rattle.std.specs.Prelude.{◌+◌, ◌-◌, ◌*◌, ◌/◌, ◌%◌, ◌^◌, ◌≤◌, ◌<◌, ◌≡◌, ◌⊎◌}
+use Rattle.numbers.specs.Words.{ℕ, add-mul, mul-le-mul_right, one-mul, dec_lt, ℕ_discrete, arith, bit_and, and_mask, refl, sym, ◌∙◌, ap, subst, false, cond, inl, inr, eqb, lt_or, eqb-false, Off}
 use Rattle.planes.specs.declared.edges.Spot.{Spot}
 use Rattle.predict.specs.Predict.{Size}
 use Rattle.planes.specs.Paint.{cell_column, cell_row}

@@ -1,5 +1,6 @@
 -- What single functions of the code take and give, where the definitions of prediction have no name for it.
-use Rattle.numbers.specs.Words.{ℕ, ◌+◌, ◌/◌, ◌%◌, ◌≡◌, true, cond, ◌⊎◌, ltb, List, [], ◌∷◌, get_or, build, all_of, ℤ, pos, lt_z}
+use Rattle.std.specs.Prelude.{◌+◌, ◌/◌, ◌%◌, ◌≡◌, ◌⊎◌, ◌∷◌}
+use Rattle.numbers.specs.Words.{ℕ, true, cond, ltb, List, [], get_or, build, all_of, ℤ, pos, lt_z}
 use Rattle.predict.specs.Predict.{Size, at, mean3, two, tm_one}
 
 -- ---- a number taken into 0..255, from below and then from above

@@ -1,5 +1,6 @@
 -- Prediction of a block from the samples around it (RFC 6386, sections 12.2, 2821-3008, and 12.3, 3010-3317).
-use Rattle.numbers.specs.Words.{ℕ, zero, suc, ◌+◌, ◌-◌, ◌/◌, ◌%◌, ◌≡◌, Bool, true, false, ◌⊎◌, List, [], ◌∷◌, get_or, replicate, build, pos, ◌+ℤ◌, ◌-ℤ◌, clip_z}
+use Rattle.std.specs.Prelude.{◌+◌, ◌-◌, ◌/◌, ◌%◌, ◌≡◌, ◌⊎◌, ◌∷◌, ◌+ℤ◌, ◌-ℤ◌}
+use Rattle.numbers.specs.Words.{ℕ, zero, suc, Bool, true, false, List, [], get_or, replicate, build, pos, clip_z}
 use Rattle.predict.specs.declared.Border.{Border}
 
 -- a macroblock's square: 16 in luma, 8 in chroma

@@ -1,6 +1,7 @@
 -- What callers and proofs cite of the prediction: a number clipped, facts of the width, the mean of DC, TM row by row, a sub-block in a direction from the
 -- means that the code picks, and that each answer is sixteen samples.
-use Rattle.numbers.specs.Words.{ℕ, ◌+◌, ◌-◌, ◌/◌, ◌%◌, ◌≤◌, ◌<◌, arith, ◌≡◌, refl, sym, ◌∙◌, ap, ap₂, Bool, true, false, cond, inl, inr, ⊎_elim, eqb, ltb, lt_or, cond_at, eqb-true, ltb-true, List, [], ◌∷◌, length, get_or, get_or-eq_default, length_build, build_listed, all_of_any, ℤ, pos, ◌≤ℤ◌, lt_z, ≤ℤ_refl, In, nlt_le, clamp_z, clamp_tests}
+use Rattle.std.specs.Prelude.{◌+◌, ◌-◌, ◌/◌, ◌%◌, ◌≤◌, ◌<◌, ◌≡◌, ◌∷◌, ◌≤ℤ◌}
+use Rattle.numbers.specs.Words.{ℕ, arith, refl, sym, ◌∙◌, ap, ap₂, Bool, true, false, cond, inl, inr, ⊎_elim, eqb, ltb, lt_or, cond_at, eqb-true, ltb-true, List, [], length, get_or, get_or-eq_default, length_build, build_listed, all_of_any, ℤ, pos, lt_z, ≤ℤ_refl, In, nlt_le, clamp_z, clamp_tests}
 use Rattle.predict.specs.declared.Border.{Border}
 use Rattle.predict.specs.Predict.{Size, at, mean2, mean3, two, three, tm_one, dc_block_of, tm_block_of, ve_block, he_block, rd_block, vr_block, ld_block, vl_block, hd_block, hu_block, small_blocks_of, small_block_of, sum_of_first, dc_of}
 use Rattle.predict.specs.Pieces.{no_less_of, no_more_of, Count, mean_over, tm_at, tm_of, tm_row_of, joined_of, Eleven, stretched_of, twos_of, threes_of, both_of, row_picked, rows_picked, picked_of}

@@ -1,7 +1,8 @@
 -- The cockpit tile profile (request M-111). A tile fits when, in this order: it is 256 by 256; it has 1, 2 or 4 token partitions; segments are
 -- off; sharpness is 0; the picture call answers 0; no macroblock is both skipped and small. The first rule that fails is named, the last one
 -- with the first such macroblock.
-use Rattle.numbers.specs.Words.{ℕ, zero, suc, Bool, true, false, not, ◌&&◌, ◌||◌, eqb, ltb, List, [], ◌∷◌, ℤ}
+use Rattle.std.specs.Prelude.{◌&&◌, ◌||◌, ◌∷◌}
+use Rattle.numbers.specs.Words.{ℕ, zero, suc, Bool, true, false, not, eqb, ltb, List, [], ℤ}
 use Rattle.header.specs.Header.{segments_on, map_on, sharpness, present_at_of}
 use Rattle.tile.specs.declared.Tile.{Tile}
 use Rattle.lent.specs.Memory.{Memory, sizes_of, mode_found}

@@ -1,5 +1,6 @@
 -- The laws of the profile, as the code tries its rules, and what each answer says.
-use Rattle.numbers.specs.Words.{ℕ, zero, suc, ◌+◌, ◌≤◌, ◌<◌, add-one, arith, ◌≡◌, refl, sym, ◌∙◌, ap, true, false, ltb, le-ltb, lt-ltb, List, ℤ}
+use Rattle.std.specs.Prelude.{◌+◌, ◌≤◌, ◌<◌, ◌≡◌}
+use Rattle.numbers.specs.Words.{ℕ, zero, suc, add-one, arith, refl, sym, ◌∙◌, ap, true, false, ltb, le-ltb, lt-ltb, List, ℤ}
 use Rattle.tile.specs.declared.Tile.{Tile}
 use Rattle.lent.specs.Memory.{Memory, sizes_of}
 use Rattle.choices.specs.Choices.{Call, failed, refusal_of, number_of, values_of}

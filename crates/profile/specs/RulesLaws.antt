@@ -1,5 +1,6 @@
 -- What the rules' tests say, as facts and both ways; and which macroblock is the first that is both.
-use Rattle.numbers.specs.Words.{ℕ, zero, suc, ◌+◌, ◌≤◌, ◌<◌, arith, ◌≡◌, refl, Bool, true, false, not, ◌⊎◌, inl, inr, ⊎_elim, eqb, lt_or, eq_or, never, both_left, both_right, both_true, eq-eqb, eqb-true, ne_eqb, List, ℤ, pos, negsuc}
+use Rattle.std.specs.Prelude.{◌+◌, ◌≤◌, ◌<◌, ◌≡◌, ◌⊎◌}
+use Rattle.numbers.specs.Words.{ℕ, zero, suc, arith, refl, Bool, true, false, not, inl, inr, ⊎_elim, eqb, lt_or, eq_or, never, both_left, both_right, both_true, eq-eqb, eqb-true, ne_eqb, List, ℤ, pos, negsuc}
 use Rattle.header.specs.Header.{segments_on, map_on, sharpness, entry, present_of, present_at_of}
 use Rattle.profile.specs.Profile.{size_fits_of, count_fits_of, segments_fit_of, sharpness_fits_of, both_at, first_both_of}
 

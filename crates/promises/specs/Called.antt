@@ -1,6 +1,7 @@
 -- The demands over the call that C and Rust link, `hookbarley_decode`, whose contract equals `called_of` (crates/hookbarley/specs/Calls.antt): what
 -- it returns, what it writes through `finished`, and the lent memory. CalledLaws proves both: `called_ends` and `called_isolated`.
-use Rattle.numbers.specs.Words.{ℕ, ◌+◌, ◌*◌, ◌/◌, ◌≤◌, ◌<◌, ◌≡◌, ◌⊎◌, List, length, get_or, ℤ}
+use Rattle.std.specs.Prelude.{◌+◌, ◌*◌, ◌/◌, ◌≤◌, ◌<◌, ◌≡◌, ◌⊎◌}
+use Rattle.numbers.specs.Words.{ℕ, List, length, get_or, ℤ}
 use Rattle.reader.specs.declared.boolean.Reader.{Reader}
 use Rattle.reader.specs.Reading.{Bytes, given, missing}
 use Rattle.modes.specs.Modes.{Macroblock}

@@ -1,5 +1,6 @@
 -- The call from C is the picture call: what is promised of the one holds of the other.
-use Rattle.numbers.specs.Words.{ℕ, ◌≤◌, arith, ◌≡◌, refl, sym, ◌∙◌, ap, ap₂, ◌⊎◌, inl, inr, ⊎_elim, eq_or, List, length, ℤ}
+use Rattle.std.specs.Prelude.{◌≤◌, ◌≡◌, ◌⊎◌}
+use Rattle.numbers.specs.Words.{ℕ, arith, refl, sym, ◌∙◌, ap, ap₂, inl, inr, ⊎_elim, eq_or, List, length, ℤ}
 use Rattle.reader.specs.Reading.{Bytes}
 use Rattle.lent.specs.Memory.{Memory, sizes_of}
 use Rattle.choices.specs.Choices.{Call, refusal_of, number_of, values_of}

@@ -1,6 +1,7 @@
 -- Request M-103, how much a picture can cost: the symbols that the call reads from the first partition and from the token partitions.
 -- `cost_of` (crates/picture/specs/Picture.antt) is what the call's two counts equal. CostLaws proves all of it.
-use Rattle.numbers.specs.Words.{ℕ, zero, suc, ◌+◌, ◌*◌, ◌/◌, ◌≤◌, ◌≡◌, List, [], ◌++◌, length, get_or}
+use Rattle.std.specs.Prelude.{◌+◌, ◌*◌, ◌/◌, ◌≤◌, ◌≡◌, ◌++◌}
+use Rattle.numbers.specs.Words.{ℕ, zero, suc, List, [], length, get_or}
 use Rattle.reader.specs.Reading.{Given, given, missing, no_reader_of, CodedSymbol, trace}
 use Rattle.header.specs.Frame.{factors_at}
 use Rattle.modes.specs.Modes.{Macroblock, modes_of}

@@ -1,5 +1,6 @@
 -- The proofs of M-103's promises: `cost_at_most`, `cost_is`, `same_costs` and `old_memory_costs_the_same`.
-use Rattle.numbers.specs.Words.{ℕ, zero, suc, ◌+◌, ◌*◌, ◌/◌, ◌≤◌, ◌<◌, mul_comm, mul-le-mul_right, arith, ◌≡◌, refl, sym, ◌∙◌, ap, ap₂, subst, ◌⊎◌, ⊎_elim, lt_or, eq_or, List, ◌++◌, length, length-append}
+use Rattle.std.specs.Prelude.{◌+◌, ◌*◌, ◌/◌, ◌≤◌, ◌<◌, ◌≡◌, ◌⊎◌, ◌++◌}
+use Rattle.numbers.specs.Words.{ℕ, zero, suc, mul_comm, mul-le-mul_right, arith, refl, sym, ◌∙◌, ap, ap₂, subst, ⊎_elim, lt_or, eq_or, List, length, length-append}
 use Rattle.reader.specs.Reading.{Given, given, missing, CodedSymbol, count}
 use Rattle.reader.specs.ReadingLaws.{Bytes}
 use Rattle.modes.specs.Modes.{Macroblock}

@@ -2,7 +2,8 @@
 -- macroblock moves, and demand 3: what stands in token partition p decides nothing in the macroblock rows above row p, but for the lowest
 -- three sample rows of each plane in row p-1. DeblockedLaws proves each: `edge_reaches`, `deblock_refused`, `grey_stays`, `isolated_deblocked`.
 -- The last two are said of the memory that a call has left, so that they serve the rescue call too: RescueDeblockedLaws.
-use Rattle.numbers.specs.Words.{ℕ, ◌+◌, ◌*◌, ◌/◌, ◌≤◌, ◌<◌, ◌≡◌, Bool, List, length, get_or}
+use Rattle.std.specs.Prelude.{◌+◌, ◌*◌, ◌/◌, ◌≤◌, ◌<◌, ◌≡◌}
+use Rattle.numbers.specs.Words.{ℕ, Bool, List, length, get_or}
 use Rattle.planes.specs.Paint.{sample_at}
 use Rattle.lent.specs.Memory.{records_in, strength_width, strength_at_of, Memory}
 use Rattle.macroblock.specs.Macroblock.{Planes}

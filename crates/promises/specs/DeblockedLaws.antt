@@ -1,6 +1,7 @@
 -- The proofs of what is promised of deblocking: `edge_reaches`, `deblock_refused`; then of any memory that a call has left, `left_stays` and
 -- `left_isolated`; and so of what the picture call leaves, `grey_stays`, and demand 3, `isolated_deblocked`, at the end.
-use Rattle.numbers.specs.Words.{ℕ, ◌+◌, ◌-◌, ◌*◌, ◌/◌, ◌%◌, ◌≤◌, ◌<◌, div-add-mod', div-lt_iff_lt-mul, mod-lt, mul_comm, mul-le-mul_right, arith, ◌≡◌, refl, sym, ◌∙◌, ap, ap₂, Bool, not, ⊎_elim, lit<, lt_or, List, length, get_or}
+use Rattle.std.specs.Prelude.{◌+◌, ◌-◌, ◌*◌, ◌/◌, ◌%◌, ◌≤◌, ◌<◌, ◌≡◌}
+use Rattle.numbers.specs.Words.{ℕ, div-add-mod', div-lt_iff_lt-mul, mod-lt, mul_comm, mul-le-mul_right, arith, refl, sym, ◌∙◌, ap, ap₂, Bool, not, ⊎_elim, lit<, lt_or, List, length, get_or}
 use Rattle.reader.specs.ReadingLaws.{Bytes}
 use Rattle.planes.specs.Paint.{sample_at}
 use Rattle.planes.specs.Places.{next_row}

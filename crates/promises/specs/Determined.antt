@@ -1,7 +1,8 @@
 -- Each public function promises one answer: for every input, whatever meets its contract, lent memory included, is the same, and something
 -- meets it. Every contract is an equation with a definition: a line for each function, under its path, with the right side of its `ensures`
 -- and its arguments' own names. tools/determined.py, in the gate, compares the two word by word.
-use Rattle.numbers.specs.Words.{ℕ, ◌≡◌, refl, sym, ◌∙◌, Bool, cond, List, byte_at, copied_over, ℤ, pos, up_to, clip_z, signed_byte_z, wrap16_of}
+use Rattle.std.specs.Prelude.{◌≡◌}
+use Rattle.numbers.specs.Words.{ℕ, refl, sym, ◌∙◌, Bool, cond, List, byte_at, copied_over, ℤ, pos, up_to, clip_z, signed_byte_z, wrap16_of}
 use Rattle.reader.specs.Reading.{valid_of, first_reader, symbol_answer, run}
 use Rattle.reader.specs.Counts.{tree_count, token_count, extra_count}
 use Rattle.reader.specs.Extra.{extra_answer}

@@ -1,5 +1,6 @@
 -- M-112: what the boolean encoder wrote is read back, symbol by symbol; and a room that is long enough for every recoded tile.
-use Rattle.numbers.specs.Words.{ℕ, zero, suc, ◌+◌, ◌≤◌, ◌<◌, arith, ◌≡◌, refl, sym, ◌∙◌, ap, List, [], ◌∷◌, ◌++◌, length, length-append}
+use Rattle.std.specs.Prelude.{◌+◌, ◌≤◌, ◌<◌, ◌≡◌, ◌∷◌, ◌++◌}
+use Rattle.numbers.specs.Words.{ℕ, zero, suc, arith, refl, sym, ◌∙◌, ap, List, [], length, length-append}
 use Rattle.reader.specs.declared.boolean.Reader.{Reader}
 use Rattle.reader.specs.Reading.{Given, given, missing, Bytes, first_reader, CodedSymbol, Answers}
 use Rattle.reader.specs.ReadingLaws.{Each, nil, cons, Byte}

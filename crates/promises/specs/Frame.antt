@@ -1,6 +1,7 @@
 -- The key frame's own header (RFC 6386, sections 9 and 19.2, 6806-6854): what is taken of a frame, the picture call never refuses. `taken_of` is the
 -- definition that the contract of `take` equals (crates/frame/specs/Take.antt).
-use Rattle.numbers.specs.Words.{ℕ, ◌≡◌, refl, sym, ◌⊎◌, inl, inr, List}
+use Rattle.std.specs.Prelude.{◌≡◌, ◌⊎◌}
+use Rattle.numbers.specs.Words.{ℕ, refl, sym, inl, inr, List}
 use Rattle.reader.specs.Reading.{Bytes}
 use Rattle.lent.specs.Memory.{Memory, sizes_of, packed, Sized}
 use Rattle.choices.specs.ChoicesLaws.{refusal_none}

@@ -1,6 +1,7 @@
 -- Demand 1, what a picture that stops leaves: macroblocks before the stop are finished, and from it on everything is blank.
 -- `finished_or_grey`, in GreyLaws, proves it.
-use Rattle.numbers.specs.Words.{ℕ, ◌+◌, ◌*◌, ◌/◌, ◌≤◌, ◌<◌, ◌≡◌, get_or}
+use Rattle.std.specs.Prelude.{◌+◌, ◌*◌, ◌/◌, ◌≤◌, ◌<◌, ◌≡◌}
+use Rattle.numbers.specs.Words.{ℕ, get_or}
 use Rattle.modes.specs.Modes.{kinds_of}
 use Rattle.macroblock.specs.Macroblock.{Finished, finished}
 use Rattle.lent.specs.Memory.{mode_width, strength_width, mode_record, strength_record, Memory}

@@ -1,5 +1,6 @@
 -- The proof of what a picture leaves: `finished_or_grey`, at the end.
-use Rattle.numbers.specs.Words.{ℕ, suc, ◌+◌, ◌-◌, ◌*◌, ◌/◌, ◌%◌, ◌≤◌, ◌<◌, add-mul, div-add-mod, div-eq_of_lt-le, mul_comm, one-mul, arith, ◌≡◌, refl, sym, ◌∙◌, ap, subst, ◌⊎◌, inl, inr, lit<, lt_or, List, length, get_or, replicate, get_or-replicate, length-replicate, get_or_constant}
+use Rattle.std.specs.Prelude.{◌+◌, ◌-◌, ◌*◌, ◌/◌, ◌%◌, ◌≤◌, ◌<◌, ◌≡◌, ◌⊎◌}
+use Rattle.numbers.specs.Words.{ℕ, suc, add-mul, div-add-mod, div-eq_of_lt-le, mul_comm, one-mul, arith, refl, sym, ◌∙◌, ap, subst, inl, inr, lit<, lt_or, List, length, get_or, replicate, get_or-replicate, length-replicate, get_or_constant}
 use Rattle.reader.specs.ReadingLaws.{Bytes}
 use Rattle.modes.specs.Modes.{kinds_of}
 use Rattle.planes.specs.Places.{Outside, next_row}

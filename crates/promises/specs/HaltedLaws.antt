@@ -1,6 +1,7 @@
 -- The laws of the state that a picture stops in: it is the one reached last; and two pictures that share all but some token partitions stop
 -- together, or both come as far as they agree.
-use Rattle.numbers.specs.Words.{ℕ, suc, ◌+◌, ◌-◌, ◌≤◌, ◌<◌, arith, ◌≡◌, refl, sym, ◌∙◌, ap, ◌⊎◌, inl, inr, lt_or}
+use Rattle.std.specs.Prelude.{◌+◌, ◌-◌, ◌≤◌, ◌<◌, ◌≡◌, ◌⊎◌}
+use Rattle.numbers.specs.Words.{ℕ, suc, arith, refl, sym, ◌∙◌, ap, inl, inr, lt_or}
 use Rattle.macroblock.specs.Macroblock.{Step, no_modes, no_tokens}
 use Rattle.choices.specs.declared.answer.Decoded.{Decoded}
 use Rattle.choices.specs.declared.answer.Decoded.TheVariants as D

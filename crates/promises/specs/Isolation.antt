@@ -1,7 +1,8 @@
 -- Demand 3, isolation: token partition p, where it lies, how long it is and what stands in it, decides nothing in the macroblock rows above row p,
 -- and no modes.
 -- `isolated`, in IsolationLaws, proves it.
-use Rattle.numbers.specs.Words.{ℕ, ◌+◌, ◌*◌, ◌/◌, ◌≤◌, ◌<◌, ◌≡◌}
+use Rattle.std.specs.Prelude.{◌+◌, ◌*◌, ◌/◌, ◌≤◌, ◌<◌, ◌≡◌}
+use Rattle.numbers.specs.Words.{ℕ}
 use Rattle.lent.specs.Memory.{mode_width, strength_width, Memory}
 use Rattle.tile.specs.Tile.{contents_of, token_contents}
 use Rattle.choices.specs.Choices.{Call, number_of, values_of}

@@ -1,5 +1,6 @@
 -- The proof of demand 3: `isolated`, at the end.
-use Rattle.numbers.specs.Words.{ℕ, zero, suc, ◌+◌, ◌-◌, ◌*◌, ◌/◌, ◌≤◌, ◌<◌, div-lt_iff_lt-mul, le-div_iff_mul-le, mod-eq_of_lt, mul_comm, mul-le-mul_right, arith, ◌≡◌, refl, sym, ◌∙◌, ap, subst, ◌⊎◌, inl, inr, ⊎_elim, lt_or, eq_or, List, get_or}
+use Rattle.std.specs.Prelude.{◌+◌, ◌-◌, ◌*◌, ◌/◌, ◌≤◌, ◌<◌, ◌≡◌, ◌⊎◌}
+use Rattle.numbers.specs.Words.{ℕ, zero, suc, div-lt_iff_lt-mul, le-div_iff_mul-le, mod-eq_of_lt, mul_comm, mul-le-mul_right, arith, refl, sym, ◌∙◌, ap, subst, inl, inr, ⊎_elim, lt_or, eq_or, List, get_or}
 use Rattle.reader.specs.Reading.{no_reader_of}
 use Rattle.reader.specs.ReadingLaws.{Bytes}
 use Rattle.lent.specs.Memory.{mode_width, strength_width, column_at, Memory, sizes_of}

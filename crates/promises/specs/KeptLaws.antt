@@ -1,5 +1,6 @@
 -- What macroblocks leave alone: one macroblock, and every one of a run.
-use Rattle.numbers.specs.Words.{ℕ, zero, suc, ◌+◌, ◌-◌, ◌*◌, ◌/◌, ◌≤◌, ◌<◌, arith, ◌≡◌, refl, sym, ◌∙◌, subst, List, Off}
+use Rattle.std.specs.Prelude.{◌+◌, ◌-◌, ◌*◌, ◌/◌, ◌≤◌, ◌<◌, ◌≡◌}
+use Rattle.numbers.specs.Words.{ℕ, zero, suc, arith, refl, sym, ◌∙◌, subst, List, Off}
 use Rattle.reader.specs.ReadingLaws.{Bytes}
 use Rattle.modes.specs.Modes.{kinds_of}
 use Rattle.planes.specs.Places.{Outside}

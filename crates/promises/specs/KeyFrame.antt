@@ -2,7 +2,8 @@
 -- Every frame's bytes with any lent memory end in an answer; the picture is the three definitions one after the other; damage in token partition p
 -- cannot change it above row p, but for the lowest three sample rows of row p-1; an unfinished macroblock is 128; old memory does not matter.
 -- KeyFrameLaws proves it: `key_frame_ends`, `key_frame_shows`, `key_frame_isolated`, `key_frame_damaged`, `cut_frames`, `old_memory_shown_the_same`.
-use Rattle.numbers.specs.Words.{ℕ, ◌+◌, ◌*◌, ◌/◌, ◌≤◌, ◌<◌, ◌≡◌, ◌⊎◌, List, length, get_or, ℤ, pos}
+use Rattle.std.specs.Prelude.{◌+◌, ◌*◌, ◌/◌, ◌≤◌, ◌<◌, ◌≡◌, ◌⊎◌}
+use Rattle.numbers.specs.Words.{ℕ, List, length, get_or, ℤ, pos}
 use Rattle.header.specs.Header.{frame_level, entry}
 use Rattle.tile.specs.declared.Tile.{Tile}
 use Rattle.tile.specs.Tile.{span_at_of}

@@ -1,6 +1,7 @@
 -- The proofs of what is promised of the picture on the screen: `key_frame_ends`, `key_frame_shows`, `key_frame_isolated`, `key_frame_damaged`,
 -- `cut_frames`, `old_memory_shown_the_same`.
-use Rattle.numbers.specs.Words.{ℕ, zero, suc, ◌+◌, ◌*◌, ◌/◌, ◌≤◌, ◌<◌, arith, ◌≡◌, refl, sym, ◌∙◌, ap, Bool, true, false, ◌⊎◌, inl, inr, ⊎_elim, lt_or, eq_or, List, get_or, ℤ, pos, negsuc}
+use Rattle.std.specs.Prelude.{◌+◌, ◌*◌, ◌/◌, ◌≤◌, ◌<◌, ◌≡◌, ◌⊎◌}
+use Rattle.numbers.specs.Words.{ℕ, zero, suc, arith, refl, sym, ◌∙◌, ap, Bool, true, false, inl, inr, ⊎_elim, lt_or, eq_or, List, get_or, ℤ, pos, negsuc}
 use Rattle.reader.specs.ReadingLaws.{Bytes}
 use Rattle.header.specs.Header.{frame_level, entry, present_of, present_at_of}
 use Rattle.tile.specs.Tile.{contents_of, span_at_of}

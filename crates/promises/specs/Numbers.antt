@@ -1,7 +1,8 @@
 -- The scope's numbers, of every public call that answers with one: which number where, and what stands beside it. After a refusal and where
 -- a byte is missing that is nothing or zeros, and what is lent is as it was. `numbers_bind`, in NumbersLaws, proves all of it. The picture call
 -- and the deblocking call have more of their own, in Refusals, Stops and Deblocked.
-use Rattle.numbers.specs.Words.{ℕ, ◌+◌, ◌*◌, ◌≤◌, ◌<◌, ◌≡◌, Bool, true, false, ◌&&◌, eqb, ltb, leb, List, length, get_or, replicate, ℤ, pos, negsuc, le_z, wrap_z, wrap16_of, wrap16_number_of, checked_number_of}
+use Rattle.std.specs.Prelude.{◌+◌, ◌*◌, ◌≤◌, ◌<◌, ◌≡◌, ◌&&◌}
+use Rattle.numbers.specs.Words.{ℕ, Bool, true, false, eqb, ltb, leb, List, length, get_or, replicate, ℤ, pos, negsuc, le_z, wrap_z, wrap16_of, wrap16_number_of, checked_number_of}
 use Rattle.numbers.specs.declared.Wrapped.TheVariants as Wrapped
 use Rattle.reader.specs.declared.boolean.Reader.{Reader}
 use Rattle.reader.specs.Reading.{Given, given, missing, valid_of, symbol_of, to_symbol, symbol_answer, symbol_number_of, run}

@@ -1,5 +1,6 @@
 -- Every number that a call answers is the scope's: each by the definition of its answer, opened once.
-use Rattle.numbers.specs.Words.{ℕ, arith, ◌≡◌, refl, sym, ◌∙◌, ap, Bool, true, false, ◌&&◌, cond, ⊎_elim, eqb, ltb, leb, eq_or, never, List, length, ℤ, wrap16_of, wrap16_number_of, checked_number_of}
+use Rattle.std.specs.Prelude.{◌≡◌, ◌&&◌}
+use Rattle.numbers.specs.Words.{ℕ, arith, refl, sym, ◌∙◌, ap, Bool, true, false, cond, ⊎_elim, eqb, ltb, leb, eq_or, never, List, length, ℤ, wrap16_of, wrap16_number_of, checked_number_of}
 use Rattle.reader.specs.declared.boolean.Reader.{Reader}
 use Rattle.reader.specs.Reading.{Given, given, missing, valid_of, symbol_of, to_symbol, symbol_answer, symbol_number_of, run}
 use Rattle.reader.specs.Trees.{walk, walk_of, to_walked, walk_answer, walked_number_of}

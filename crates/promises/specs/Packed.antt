@@ -1,7 +1,8 @@
 -- Request M-107: column memory packed into four bytes a column. The packed form and the one before it, of thirteen bytes, are the same state after
 -- every macroblock, and all other answers and memory are equal. `same_after` and `same_call`, in PackedLaws, prove it. Both runs are `run_of`
 -- and both calls `picture_of`, of one call but for its form.
-use Rattle.numbers.specs.Words.{ℕ, ◌*◌, ◌/◌, ◌<◌, ◌≡◌, length}
+use Rattle.std.specs.Prelude.{◌*◌, ◌/◌, ◌<◌, ◌≡◌}
+use Rattle.numbers.specs.Words.{ℕ, length}
 use Rattle.lent.specs.Memory.{packed, old, form_width, column_at, Memory}
 use Rattle.macroblock.specs.declared.arguments.SymbolCounts.{SymbolCounts}
 use Rattle.choices.specs.Choices.{Call, call_in}

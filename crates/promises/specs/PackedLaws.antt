@@ -1,5 +1,6 @@
 -- The proof that the packed form of column memory and the old one are the same state (request M-107): `same_after` and `same_call`, at the end.
-use Rattle.numbers.specs.Words.{ℕ, zero, suc, ◌+◌, ◌*◌, ◌/◌, ◌≤◌, ◌<◌, arith, ◌≡◌, refl, sym, ◌∙◌, ap, ap₂, subst, ⊎_elim, eq_or, List, length, get_or, set, replicate, length-replicate}
+use Rattle.std.specs.Prelude.{◌+◌, ◌*◌, ◌/◌, ◌≤◌, ◌<◌, ◌≡◌}
+use Rattle.numbers.specs.Words.{ℕ, zero, suc, arith, refl, sym, ◌∙◌, ap, ap₂, subst, ⊎_elim, eq_or, List, length, get_or, set, replicate, length-replicate}
 use Rattle.reader.specs.Reading.{no_reader_of}
 use Rattle.reader.specs.ReadingLaws.{Bytes}
 use Rattle.tile.specs.Tile.{span_at_of}

@@ -1,5 +1,6 @@
 -- Where a macroblock's samples and records stand in the lent memory.
-use Rattle.numbers.specs.Words.{ℕ, ◌+◌, ◌*◌, ◌/◌, List, get_or}
+use Rattle.std.specs.Prelude.{◌+◌, ◌*◌, ◌/◌}
+use Rattle.numbers.specs.Words.{ℕ, List, get_or}
 use Rattle.planes.specs.Paint.{sample_at}
 use Rattle.lent.specs.Memory.{Memory}
 

@@ -1,6 +1,7 @@
 -- What is promised of the cockpit profile (request M-111): it says yes exactly when all six rules hold, and else names the first that fails.
 -- ProfileLaws proves it.
-use Rattle.numbers.specs.Words.{ℕ, ◌<◌, ◌≡◌, true, ◌⊎◌, pos}
+use Rattle.std.specs.Prelude.{◌<◌, ◌≡◌, ◌⊎◌}
+use Rattle.numbers.specs.Words.{ℕ, true, pos}
 use Rattle.header.specs.Header.{segments_on, map_on, sharpness, entry}
 use Rattle.lent.specs.Memory.{Memory}
 use Rattle.choices.specs.declared.answer.Decoded.TheVariants as D

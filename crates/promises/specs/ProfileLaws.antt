@@ -1,5 +1,6 @@
 -- The proofs of what is promised of the cockpit profile (Profile.antt).
-use Rattle.numbers.specs.Words.{ℕ, zero, suc, ◌+◌, ◌*◌, ◌/◌, ◌≤◌, ◌<◌, arith, ◌≡◌, refl, sym, ◌∙◌, ap, ap₂, subst, Bool, true, false, ◌&&◌, ◌⊎◌, inl, inr, ⊎_elim, lit<, lt_or, eq_or, never, not_so, both_left, both_right, both_true, bit_of, List, length, get_or}
+use Rattle.std.specs.Prelude.{◌+◌, ◌*◌, ◌/◌, ◌≤◌, ◌<◌, ◌≡◌, ◌&&◌, ◌⊎◌}
+use Rattle.numbers.specs.Words.{ℕ, zero, suc, arith, refl, sym, ◌∙◌, ap, ap₂, subst, Bool, true, false, inl, inr, ⊎_elim, lit<, lt_or, eq_or, never, not_so, both_left, both_right, both_true, bit_of, List, length, get_or}
 use Rattle.reader.specs.ReadingLaws.{Bytes}
 use Rattle.lent.specs.Memory.{record_at, records_in, mode_width, is_on, Memory, sizes_of}
 use Rattle.lent.specs.RecordsLaws.{record_byte}

@@ -1,5 +1,6 @@
 -- How far a picture comes: the state that its k-th macroblock finds, what that macroblock asks, and how the picture ends.
-use Rattle.numbers.specs.Words.{ℕ, suc, ◌<◌, ◌≡◌, get_or}
+use Rattle.std.specs.Prelude.{◌<◌, ◌≡◌}
+use Rattle.numbers.specs.Words.{ℕ, suc, get_or}
 use Rattle.reader.specs.declared.boolean.Reader.{Reader}
 use Rattle.reader.specs.Reading.{Given, given, missing, no_reader_of, run}
 use Rattle.modes.specs.Modes.{Macroblock, modes_of}

@@ -1,5 +1,6 @@
 -- M-112 over the calls that C and Rust link: what `hookbarley_recode` leaves is what `hookbarley_decode` takes next, and it leaves the same.
-use Rattle.numbers.specs.Words.{ℕ, zero, suc, arith, ◌≡◌, refl, sym, ◌∙◌, ap, subst, ⊎_elim, eq_or, List, length, ℤ}
+use Rattle.std.specs.Prelude.{◌≡◌}
+use Rattle.numbers.specs.Words.{ℕ, zero, suc, arith, refl, sym, ◌∙◌, ap, subst, ⊎_elim, eq_or, List, length, ℤ}
 use Rattle.reader.specs.Reading.{Bytes}
 use Rattle.tile.specs.declared.Tile.{Tile}
 use Rattle.lent.specs.Memory.{Memory}

@@ -1,6 +1,7 @@
 -- M-112: decoding the recoded tile gives the same answer and the same memory. For every tile that is answered 0, whatever lies behind the
 -- written bytes in the room.
-use Rattle.numbers.specs.Words.{ℕ, suc, ◌+◌, ◌≤◌, ◌<◌, arith, ◌≡◌, refl, sym, ◌∙◌, ap, subst, ⊎_elim, lt_or, le-leb, lt-leb, List, [], ◌++◌, append_assoc, length, drop, length-append, drop-append_seam}
+use Rattle.std.specs.Prelude.{◌+◌, ◌≤◌, ◌<◌, ◌≡◌, ◌++◌}
+use Rattle.numbers.specs.Words.{ℕ, suc, arith, refl, sym, ◌∙◌, ap, subst, ⊎_elim, lt_or, le-leb, lt-leb, List, [], append_assoc, length, drop, length-append, drop-append_seam}
 use Rattle.reader.specs.ReadingLaws.{Bytes, trace_follows}
 use Rattle.lent.specs.Memory.{Memory, sizes_of}
 use Rattle.tile.specs.Tile.{contents_of}

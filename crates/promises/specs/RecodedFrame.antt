@@ -1,7 +1,8 @@
 -- A key frame's bytes recoded into a key frame's bytes with one token partition: what is taken of the result is the same header but for the count,
 -- the places and the reader; it shows the same picture, all memory; and recoding it again gives the same bytes. `recode_frame_of` is the definition
 -- that the contract of `recode_frame` equals (crates/recode_frame/specs/RecodeFrame.antt).
-use Rattle.numbers.specs.Words.{ℕ, ◌+◌, ◌-◌, ◌≤◌, ◌<◌, arith, ◌≡◌, refl, sym, ◌∙◌, ap, subst, true, false, not, ◌⊎◌, inl, inr, ⊎_elim, eqb, lt_or, eq_or, List, ◌∷◌, ◌++◌, length, take, drop, replicate, take-append_seam, ℤ}
+use Rattle.std.specs.Prelude.{◌+◌, ◌-◌, ◌≤◌, ◌<◌, ◌≡◌, ◌⊎◌, ◌∷◌, ◌++◌}
+use Rattle.numbers.specs.Words.{ℕ, arith, refl, sym, ◌∙◌, ap, subst, true, false, not, inl, inr, ⊎_elim, eqb, lt_or, eq_or, List, length, take, drop, replicate, take-append_seam, ℤ}
 use Rattle.reader.specs.ReadingLaws.{Bytes, retraced}
 use Rattle.reader.specs.Reading.{trace}
 use Rattle.header.specs.Header.{frame_level, present_at_of}

@@ -1,6 +1,7 @@
 -- A call that is answered 0, and the same with its two partitions written again elsewhere: it is answered 0, leaves the same memory, and reads the
 -- same token symbols.
-use Rattle.numbers.specs.Words.{ℕ, zero, suc, ◌+◌, ◌/◌, ◌≤◌, ◌<◌, arith, ◌≡◌, refl, sym, ◌∙◌, ap, subst, List, [], ◌∷◌, ◌++◌, length, replicate}
+use Rattle.std.specs.Prelude.{◌+◌, ◌/◌, ◌≤◌, ◌<◌, ◌≡◌, ◌∷◌, ◌++◌}
+use Rattle.numbers.specs.Words.{ℕ, zero, suc, arith, refl, sym, ◌∙◌, ap, subst, List, [], length, replicate}
 use Rattle.reader.specs.declared.boolean.Reader.{Reader}
 use Rattle.reader.specs.Reading.{given, missing, no_reader_of, first_reader, Reading, run, trace, Answers}
 use Rattle.reader.specs.ReadingLaws.{Bytes, Valid, Each, Byte}

@@ -1,5 +1,6 @@
 -- Demand 1, arguments: a bad one is refused by number and nothing lent changes; with good ones it does not matter what memory held.
-use Rattle.numbers.specs.Words.{ℕ, zero, suc, ◌≤◌, arith, ◌≡◌, refl, sym, ◌∙◌, ap, length, replicate}
+use Rattle.std.specs.Prelude.{◌≤◌, ◌≡◌}
+use Rattle.numbers.specs.Words.{ℕ, zero, suc, arith, refl, sym, ◌∙◌, ap, length, replicate}
 use Rattle.choices.specs.declared.answer.Decoded.TheVariants as D
 use Rattle.lent.specs.declared.sizes.Sizes.{Sizes}
 use Rattle.lent.specs.Memory.{Memory, sizes_of, blank_of}

@@ -1,5 +1,6 @@
 -- What is promised of the macroblocks that the rescue call rebuilds from their modes (request M-108), marked 1. RemadeLaws proves it.
-use Rattle.numbers.specs.Words.{ℕ, suc, ◌+◌, ◌*◌, ◌/◌, ◌<◌, ◌≡◌, true, List, get_or, replicate}
+use Rattle.std.specs.Prelude.{◌+◌, ◌*◌, ◌/◌, ◌<◌, ◌≡◌}
+use Rattle.numbers.specs.Words.{ℕ, suc, true, List, get_or, replicate}
 use Rattle.modes.specs.Modes.{kinds_of}
 use Rattle.macroblock.specs.Macroblock.{Finished, finished, strength_made}
 use Rattle.lent.specs.Memory.{mode_width, strength_width, mode_record, strength_record, Memory}

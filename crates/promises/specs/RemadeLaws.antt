@@ -1,5 +1,6 @@
 -- The proofs of what is promised of rebuilt macroblocks (Remade.antt).
-use Rattle.numbers.specs.Words.{ℕ, zero, suc, ◌+◌, ◌-◌, ◌*◌, ◌/◌, ◌≤◌, ◌<◌, arith, ◌≡◌, refl, sym, ◌∙◌, ap, subst, true, ◌⊎◌, inl, inr, lit<, lt_or, List, replicate}
+use Rattle.std.specs.Prelude.{◌+◌, ◌-◌, ◌*◌, ◌/◌, ◌≤◌, ◌<◌, ◌≡◌, ◌⊎◌}
+use Rattle.numbers.specs.Words.{ℕ, zero, suc, arith, refl, sym, ◌∙◌, ap, subst, true, inl, inr, lit<, lt_or, List, replicate}
 use Rattle.reader.specs.ReadingLaws.{Bytes}
 use Rattle.modes.specs.Modes.{kinds_of}
 use Rattle.macroblock.specs.Macroblock.{Finished, Step, finished, no_modes, no_tokens, strength_made, end_of}

@@ -1,5 +1,6 @@
 -- What is promised of the rescue call (request M-108). RescueLaws proves it, and RescueDeblockedLaws what is promised after deblocking.
-use Rattle.numbers.specs.Words.{ℕ, ◌*◌, ◌/◌, ◌≤◌, ◌<◌, ◌≡◌, Bool, ◌⊎◌, List, length, get_or}
+use Rattle.std.specs.Prelude.{◌*◌, ◌/◌, ◌≤◌, ◌<◌, ◌≡◌, ◌⊎◌}
+use Rattle.numbers.specs.Words.{ℕ, Bool, List, length, get_or}
 use Rattle.lent.specs.Memory.{mode_width, strength_width, Memory, sizes_of}
 use Rattle.choices.specs.Choices.{Call, refusal_of, number_of}
 use Rattle.picture.specs.Picture.{picture_of}

@@ -1,6 +1,7 @@
 -- What the rescue call leaves, as the picture call's promises say it: contexts and limits in range, strength records that know their segment;
 -- and after deblocking `rescue_grey_stays` and, demand 3, `rescue_isolated_deblocked`, at the end.
-use Rattle.numbers.specs.Words.{ℕ, ◌+◌, ◌-◌, ◌*◌, ◌≤◌, ◌<◌, arith, ◌≡◌, refl, sym, ◌∙◌, ap, subst, Bool, true, not, ◌||◌, ⊎_elim, lit<, lt_or, List, get_or}
+use Rattle.std.specs.Prelude.{◌+◌, ◌-◌, ◌*◌, ◌≤◌, ◌<◌, ◌≡◌, ◌||◌}
+use Rattle.numbers.specs.Words.{ℕ, arith, refl, sym, ◌∙◌, ap, subst, Bool, true, not, ⊎_elim, lit<, lt_or, List, get_or}
 use Rattle.reader.specs.ReadingLaws.{Bytes}
 use Rattle.header.specs.Frame.{level_at}
 use Rattle.filter.specs.declared.strengths.Strength.{Strength}

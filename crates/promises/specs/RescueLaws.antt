@@ -1,5 +1,6 @@
 -- The proofs of what is promised of the rescue call (Rescue.antt).
-use Rattle.numbers.specs.Words.{ℕ, ◌+◌, ◌-◌, ◌*◌, ◌/◌, ◌≤◌, ◌<◌, add-mul, div-lt_iff_lt-mul, mul_comm, mul-le-mul_right, one-mul, arith, ◌≡◌, refl, sym, ◌∙◌, ap, subst, ◌⊎◌, inl, inr, ⊎_elim, lt_or, eq_or, List, length, get_or, Off}
+use Rattle.std.specs.Prelude.{◌+◌, ◌-◌, ◌*◌, ◌/◌, ◌≤◌, ◌<◌, ◌≡◌, ◌⊎◌}
+use Rattle.numbers.specs.Words.{ℕ, add-mul, div-lt_iff_lt-mul, mul_comm, mul-le-mul_right, one-mul, arith, refl, sym, ◌∙◌, ap, subst, inl, inr, ⊎_elim, lt_or, eq_or, List, length, get_or, Off}
 use Rattle.reader.specs.ReadingLaws.{Bytes}
 use Rattle.modes.specs.Modes.{kinds_of}
 use Rattle.planes.specs.Places.{Outside}

@@ -1,6 +1,7 @@
 -- Request M-106: strength records know their segment. `same_kinds` and `kinds_ignored`, in SegmentsLaws, prove it; `rescue_same_kinds`, in
 -- RescueDeblockedLaws, what concerns the rescue call.
-use Rattle.numbers.specs.Words.{ℕ, ◌+◌, ◌*◌, ◌<◌, ◌≡◌, List, length, get_or}
+use Rattle.std.specs.Prelude.{◌+◌, ◌*◌, ◌<◌, ◌≡◌}
+use Rattle.numbers.specs.Words.{ℕ, List, length, get_or}
 use Rattle.lent.specs.Memory.{mode_width, strength_width, Memory}
 use Rattle.promises.specs.Places.{mode_byte, strength_byte}
 

@@ -1,5 +1,6 @@
 -- The proofs of what is promised of strength records (request M-106): `same_kinds` and `kinds_ignored`.
-use Rattle.numbers.specs.Words.{ℕ, ◌+◌, ◌*◌, ◌<◌, arith, ◌≡◌, sym, ◌∙◌, Bool, ⊎_elim, lit<, lt_or, List, get_or}
+use Rattle.std.specs.Prelude.{◌+◌, ◌*◌, ◌<◌, ◌≡◌}
+use Rattle.numbers.specs.Words.{ℕ, arith, sym, ◌∙◌, Bool, ⊎_elim, lit<, lt_or, List, get_or}
 use Rattle.reader.specs.ReadingLaws.{Bytes}
 use Rattle.lent.specs.Memory.{record_at, mode_width, strength_width, strength_at_of, Memory}
 use Rattle.lent.specs.RecordsLaws.{record_byte}

@@ -1,5 +1,6 @@
 -- Demand 2, the source's clauses: what the transforms give, in the words of vp8_transform.
-use Rattle.numbers.specs.Words.{ℕ, ◌<◌, ◌≡◌, Bool, true, List, ℤ}
+use Rattle.std.specs.Prelude.{◌<◌, ◌≡◌}
+use Rattle.numbers.specs.Words.{ℕ, Bool, true, List, ℤ}
 use Rattle.transform.specs.Transform.{at, block_fits, samples_of}
 use Rattle.transform.specs.TransformLaws.{good_fit}
 use Rattle.transform.specs.TransformSource.{sample, sample_source}

@@ -1,5 +1,6 @@
 -- Demand 1, partitions that end too soon: the picture stops at the first macroblock that asks for a byte that is not there, and only so.
-use Rattle.numbers.specs.Words.{ℕ, ◌<◌, ◌≡◌, sym, ◌∙◌, subst}
+use Rattle.std.specs.Prelude.{◌<◌, ◌≡◌}
+use Rattle.numbers.specs.Words.{ℕ, sym, ◌∙◌, subst}
 use Rattle.reader.specs.declared.boolean.Reader.{Reader}
 use Rattle.reader.specs.Reading.{given, missing}
 use Rattle.modes.specs.Modes.{Macroblock}

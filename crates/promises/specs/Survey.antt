@@ -1,6 +1,7 @@
 -- Request M-110, a survey over a delivery: what the record of any list of picture calls holds, said from `picture_of` and `cost_of` of the calls.
 -- SurveyLaws proves all of it.
-use Rattle.numbers.specs.Words.{ℕ, ◌+◌, ◌*◌, ◌≤◌, ◌<◌, ◌≡◌, bit_of, List, [], ◌∷◌, ◌++◌, length, get_or, replicate}
+use Rattle.std.specs.Prelude.{◌+◌, ◌*◌, ◌≤◌, ◌<◌, ◌≡◌, ◌∷◌, ◌++◌}
+use Rattle.numbers.specs.Words.{ℕ, bit_of, List, [], length, get_or, replicate}
 use Rattle.reader.specs.Reading.{Bytes}
 use Rattle.lent.specs.Memory.{Memory}
 use Rattle.macroblock.specs.Macroblock.{no_reads}

@@ -1,5 +1,6 @@
 -- For a survey (request M-110): the records of a finished macroblock hold what its step made, and every value of them has its place in its table.
-use Rattle.numbers.specs.Words.{ℕ, ◌≤◌, ◌<◌, arith, ◌≡◌, refl, sym, ◌∙◌, ap, subst, ◌&&◌, ⊎_elim, leb, lit<, eq_or, both_right, leb-true, List, get_or}
+use Rattle.std.specs.Prelude.{◌≤◌, ◌<◌, ◌≡◌, ◌&&◌}
+use Rattle.numbers.specs.Words.{ℕ, arith, refl, sym, ◌∙◌, ap, subst, ⊎_elim, leb, lit<, eq_or, both_right, leb-true, List, get_or}
 use Rattle.numbers.specs.declared.Checked.TheVariants as K
 use Rattle.reader.specs.ReadingLaws.{Bytes}
 use Rattle.modes.specs.declared.answers.Kinds.{Kinds}

@@ -1,5 +1,6 @@
 -- The proofs of what is promised of a survey (request M-110): `survey_answers`, `call_counts`, `add_answers`, `totals`, `full_exactly`, `joins`, `same_record`.
-use Rattle.numbers.specs.Words.{ℕ, ◌+◌, ◌*◌, ◌≤◌, ◌<◌, arith, ◌≡◌, refl, sym, ◌∙◌, ap, subst, inl, inr, eq_or, List, [], ◌∷◌, ◌++◌, length, get_or, ext_get_or, get_or_constant}
+use Rattle.std.specs.Prelude.{◌+◌, ◌*◌, ◌≤◌, ◌<◌, ◌≡◌, ◌∷◌, ◌++◌}
+use Rattle.numbers.specs.Words.{ℕ, arith, refl, sym, ◌∙◌, ap, subst, inl, inr, eq_or, List, [], length, get_or, ext_get_or, get_or_constant}
 use Rattle.lent.specs.Memory.{Memory}
 use Rattle.choices.specs.Choices.{Call, number_of}
 use Rattle.picture.specs.Picture.{picture_of, cost_of}

@@ -1,5 +1,6 @@
 -- Two pictures with the same first partition: whatever their token partitions hold, as far as both come they read the same modes.
-use Rattle.numbers.specs.Words.{ℕ, ◌*◌, ◌%◌, ◌≤◌, ◌<◌, arith, ◌≡◌, sym, ◌∙◌, ap, subst, ◌⊎◌, inl, inr, ⊎_elim, eq_or}
+use Rattle.std.specs.Prelude.{◌*◌, ◌%◌, ◌≤◌, ◌<◌, ◌≡◌, ◌⊎◌}
+use Rattle.numbers.specs.Words.{ℕ, arith, sym, ◌∙◌, ap, subst, inl, inr, ⊎_elim, eq_or}
 use Rattle.modes.specs.declared.contexts.Context.{Context}
 use Rattle.modes.specs.Modes.{kinds_of}
 use Rattle.lent.specs.Memory.{Form, column_at, column_set, mode_set}

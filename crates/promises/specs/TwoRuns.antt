@@ -1,5 +1,6 @@
 -- Two pictures that share all but some token partitions: as long as only partitions are read in which they agree, they go the same way.
-use Rattle.numbers.specs.Words.{ℕ, ◌-◌, ◌*◌, ◌/◌, ◌%◌, ◌≤◌, ◌<◌, arith, ◌≡◌, refl, sym, ◌∙◌, ap, ◌⊎◌, inl, inr, lt_or, eq_or, List, length, get_or, set, length-set, get_or-set_other, get_or-set_same}
+use Rattle.std.specs.Prelude.{◌-◌, ◌*◌, ◌/◌, ◌%◌, ◌≤◌, ◌<◌, ◌≡◌, ◌⊎◌}
+use Rattle.numbers.specs.Words.{ℕ, arith, refl, sym, ◌∙◌, ap, inl, inr, lt_or, eq_or, List, length, get_or, set, length-set, get_or-set_other, get_or-set_same}
 use Rattle.reader.specs.Reading.{no_reader_of}
 use Rattle.tile.specs.Tile.{pick_of}
 use Rattle.lent.specs.Memory.{column_at, Memory}

@@ -1,5 +1,6 @@
 -- Demand 2, what replaces the source's clauses on contexts and limits. After 1 to 5 nothing changed, so there is nothing to say.
-use Rattle.numbers.specs.Words.{ℕ, ◌≤◌}
+use Rattle.std.specs.Prelude.{◌≤◌}
+use Rattle.numbers.specs.Words.{ℕ}
 use Rattle.reader.specs.Reading.{Bytes}
 use Rattle.lent.specs.Memory.{Columns, strength_at_of, Memory}
 use Rattle.choices.specs.Choices.{Call}

@@ -1,6 +1,7 @@
 -- The simple lossy WebP file (RFC 9649): what was written is read, and what was read is written again, byte for byte. `wrap_of` and `find_of`
 -- are the definitions that the calls' contracts equal (crates/webp/specs/Webp.antt).
-use Rattle.numbers.specs.Words.{ℕ, ◌+◌, ◌≤◌, ◌<◌, arith, ◌≡◌, sym, ◌⊎◌, List, ◌++◌, length, take, drop, length-append, length-drop, drop_at, take_at}
+use Rattle.std.specs.Prelude.{◌+◌, ◌≤◌, ◌<◌, ◌≡◌, ◌⊎◌, ◌++◌}
+use Rattle.numbers.specs.Words.{ℕ, arith, sym, List, length, take, drop, length-append, length-drop, drop_at, take_at}
 use Rattle.reader.specs.Reading.{Bytes}
 use Rattle.webp.specs.declared.read.Found.TheVariants as F
 use Rattle.webp.specs.declared.write.WrapAnswer.TheVariants as W

@@ -1,5 +1,6 @@
 -- The worked numbers, as one table: what the definitions give, row by row, beside what the scope says. Proved by computation.
-use Rattle.numbers.specs.Words.{ℕ, ◌*◌, ◌≡◌, refl, Bool, true, false, List, [], ◌∷◌, replicate, build, ℤ, pos, negsuc, clamp_z, up_to, wrap_z}
+use Rattle.std.specs.Prelude.{◌*◌, ◌≡◌, ◌∷◌}
+use Rattle.numbers.specs.Words.{ℕ, refl, Bool, true, false, List, [], replicate, build, ℤ, pos, negsuc, clamp_z, up_to, wrap_z}
 use Rattle.coefficients.specs.Block.{sign_of}
 use Rattle.transform.specs.Transform.{grid_of, transpose_of, grid_column, scaled_of, pass_of, rows_of, vertical_pass, horizontal_pass, results_of, samples_of}
 use Rattle.filter.specs.Kernel.{filter_of, moved_of, steps_of, no_steps, common_steps_of, macroblock_steps_of, inner_steps_of, sides, part, half, eighth, tapped, across, rule_of, high_variance_of, rough_at, smooth, first_false, within_limit_of}

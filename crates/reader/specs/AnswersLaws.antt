@@ -1,6 +1,7 @@
 -- For `let .. else`: every answer but the one taken apart says that a byte is missing. `tag` numbers an enum's cases from 0, as the code
 -- tells them apart.
-use Rattle.numbers.specs.Words.{ℕ, ◌≡◌, refl, Bool, ◌⊎◌, not_first}
+use Rattle.std.specs.Prelude.{◌≡◌, ◌⊎◌}
+use Rattle.numbers.specs.Words.{ℕ, refl, Bool, not_first}
 use Rattle.reader.specs.declared.boolean.Symbol.TheVariants as S
 use Rattle.reader.specs.declared.trees.Walked.{Walked}
 use Rattle.reader.specs.declared.trees.Walked.TheVariants as W

@@ -1,5 +1,6 @@
 -- Several doublings at once: the closed form of `grow`, with at most one load.
-use Rattle.numbers.specs.Words.{ℕ, zero, suc, ◌+◌, ◌-◌, ◌*◌, ◌%◌, ◌^◌, ◌≤◌, ◌<◌, add-suc, add-zero, mod-eq_of_lt, mul-one, arith, twice, doubled, doubled_less, halved, mod_scale, cases8, ◌≡◌, sym, ◌∙◌, ap, List, get_or}
+use Rattle.std.specs.Prelude.{◌+◌, ◌-◌, ◌*◌, ◌%◌, ◌^◌, ◌≤◌, ◌<◌, ◌≡◌}
+use Rattle.numbers.specs.Words.{ℕ, zero, suc, add-suc, add-zero, mod-eq_of_lt, mul-one, arith, twice, doubled, doubled_less, halved, mod_scale, cases8, sym, ◌∙◌, ap, List, get_or}
 use Rattle.reader.specs.Reading.{Reader, shifted, grow}
 use Rattle.reader.specs.ReadingLaws.{From, grow_stop, grow_shift, grow_load}
 

@@ -1,6 +1,7 @@
 -- How many symbols the calls say that a walk, a token or a number reads (M-103); 0 where the arguments are refused. And
 -- grammars whose value alone says how many symbols were read.
-use Rattle.numbers.specs.Words.{ℕ, suc, ◌+◌, ◌≡◌, Bool, true, false, ◌&&◌, leb, List, [], ◌∷◌, length, ℤ}
+use Rattle.std.specs.Prelude.{◌+◌, ◌≡◌, ◌&&◌, ◌∷◌}
+use Rattle.numbers.specs.Words.{ℕ, suc, Bool, true, false, leb, List, [], length, ℤ}
 use Rattle.reader.specs.Reading.{Reader, Given, valid_of, Reading, done, ask, run, count}
 use Rattle.reader.specs.Trees.{walk, tree_of}
 use Rattle.reader.specs.Token.{token, eleven_at}

@@ -1,6 +1,7 @@
 -- The laws of counts: what a proof of counting code cites, and its callers. A walk that comes to a leaf has read as many symbols as the
 -- leaf is deep, whatever they were; a number has read as many as it has bits.
-use Rattle.numbers.specs.Words.{ℕ, zero, suc, ◌+◌, ◌-◌, ◌≤◌, ◌<◌, add-suc, add-zero, suc-add, zero-add, arith, ◌≡◌, refl, sym, ◌∙◌, ap, Bool, true, false, ◌&&◌, eqb, leb, never, both_left, both_right, both_true, eqb-true, le-leb, bit_of, List, [], ◌∷◌, length, get_or, take, drop, drop_of_length-le, ℤ}
+use Rattle.std.specs.Prelude.{◌+◌, ◌-◌, ◌≤◌, ◌<◌, ◌≡◌, ◌&&◌, ◌∷◌}
+use Rattle.numbers.specs.Words.{ℕ, zero, suc, add-suc, add-zero, suc-add, zero-add, arith, refl, sym, ◌∙◌, ap, Bool, true, false, eqb, leb, never, both_left, both_right, both_true, eqb-true, le-leb, bit_of, List, [], length, get_or, take, drop, drop_of_length-le, ℤ}
 use Rattle.reader.specs.declared.trees.Branch.TheVariants as B
 use Rattle.reader.specs.Reading.{Reader, Given, given, missing, symbol_of, valid_of, Reading, done, ask, ◌>>=◌, symbol, run, count}
 use Rattle.reader.specs.ReadingLaws.{Valid, valid_test, never_both, run_done, run_missing, run_got, run_then, run_stops, count_done, count_missing, count_got, count_then, count_stops}

@@ -1,5 +1,6 @@
 -- A number of several bits, most significant first (RFC 6386, section 7.3 read_literal, 1319-1326; section 13.2 DCTextra, 3481-3486), as a grammar.
-use Rattle.numbers.specs.Words.{ℕ, ◌+◌, true, false, ◌&&◌, leb, bit_of, List, [], ◌∷◌, length}
+use Rattle.std.specs.Prelude.{◌+◌, ◌&&◌, ◌∷◌}
+use Rattle.numbers.specs.Words.{ℕ, true, false, leb, bit_of, List, [], length}
 pub use Rattle.reader.specs.declared.extra.Number.{Number}
 use Rattle.reader.specs.declared.extra.Number.TheVariants as N
 use Rattle.reader.specs.Reading.{Reader, Given, given, missing, valid_of, Reading, done, symbol, run, ◌>>=◌}

@@ -1,5 +1,6 @@
 -- The laws of extra bits: what code and callers cite.
-use Rattle.numbers.specs.Words.{ℕ, suc, ◌+◌, ◌*◌, ◌^◌, ◌≤◌, ◌<◌, add-one, mul-one, one-mul, arith, pow_mono, twice, ◌≡◌, refl, sym, ◌∙◌, ap, Bool, false, both_true, le-leb, bit_of, bit_small, List, [], ◌∷◌, length, get_or, drop, drop_of_length-le, drop-cons}
+use Rattle.std.specs.Prelude.{◌+◌, ◌*◌, ◌^◌, ◌≤◌, ◌<◌, ◌≡◌, ◌∷◌}
+use Rattle.numbers.specs.Words.{ℕ, suc, add-one, mul-one, one-mul, arith, pow_mono, twice, refl, sym, ◌∙◌, ap, Bool, false, both_true, le-leb, bit_of, bit_small, List, [], length, get_or, drop, drop_of_length-le, drop-cons}
 use Rattle.reader.specs.declared.extra.Number.TheVariants as N
 use Rattle.reader.specs.Reading.{Reader, Given, given, missing, valid_of, done, ◌>>=◌, symbol, run, Within, ends, asks}
 use Rattle.reader.specs.ReadingLaws.{Bytes, Valid, valid_test, run_done, run_then, run_stops, within_weaken}

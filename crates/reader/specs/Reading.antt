@@ -1,5 +1,6 @@
 -- The boolean decoder, the grammars that are run over it, and the symbols that a run reads.
-use Rattle.numbers.specs.Words.{ℕ, zero, suc, ◌+◌, ◌-◌, ◌*◌, ◌/◌, ◌%◌, ◌^◌, ◌≤◌, ◌<◌, ◌≡◌, Bool, true, false, ◌&&◌, eqb, ltb, leb, List, length, get_or, [], ◌∷◌}
+use Rattle.std.specs.Prelude.{◌+◌, ◌-◌, ◌*◌, ◌/◌, ◌%◌, ◌^◌, ◌≤◌, ◌<◌, ◌≡◌, ◌&&◌, ◌∷◌}
+use Rattle.numbers.specs.Words.{ℕ, zero, suc, Bool, true, false, eqb, ltb, leb, List, length, get_or, []}
 pub use Rattle.numbers.specs.Lists.{Bytes}
 pub use Rattle.reader.specs.declared.boolean.Reader.{Reader}
 pub use Rattle.reader.specs.declared.boolean.Symbol.{Symbol}

@@ -1,5 +1,6 @@
 -- The laws of the boolean decoder, of grammars and of traces.
-use Rattle.numbers.specs.Words.{ℕ, zero, suc, ◌+◌, ◌-◌, ◌*◌, ◌/◌, ◌%◌, ◌^◌, ◌≤◌, ◌<◌, div-lt_iff_lt-mul, mul-lt-mul_of_pos_left, mul-one, arith, twice, cases8, ◌≡◌, refl, sym, ◌∙◌, Bool, true, false, ◌⊎◌, ⊎_elim, eqb, ltb, leb, lit<, lt_or, eq_or, not_so, both_left, both_right, eq-eqb, eqb-true, le-leb, le-ltb, leb-true, lt-leb, lt-ltb, ltb-true, ne_eqb, List, length, get_or, suc-add, ap, [], ◌∷◌, ◌++◌, length-append}
+use Rattle.std.specs.Prelude.{◌+◌, ◌-◌, ◌*◌, ◌/◌, ◌%◌, ◌^◌, ◌≤◌, ◌<◌, ◌≡◌, ◌⊎◌, ◌∷◌, ◌++◌}
+use Rattle.numbers.specs.Words.{ℕ, zero, suc, div-lt_iff_lt-mul, mul-lt-mul_of_pos_left, mul-one, arith, twice, cases8, refl, sym, ◌∙◌, Bool, true, false, ⊎_elim, eqb, ltb, leb, lit<, lt_or, eq_or, not_so, both_left, both_right, eq-eqb, eqb-true, le-leb, le-ltb, leb-true, lt-leb, lt-ltb, ltb-true, ne_eqb, List, length, get_or, suc-add, ap, [], length-append}
 use Rattle.reader.specs.declared.boolean.Symbol.TheVariants as S
 pub use Rattle.numbers.specs.Lists.{Bytes}
 pub use Rattle.reader.specs.Reading.{From, Valid}

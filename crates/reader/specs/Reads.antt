@@ -1,6 +1,7 @@
 -- Reading without a stop: a reader that is out of range stands for a byte that was missing, and whatever reads on from it leaves it so.
 -- Code of this shape has no branch for a missing byte, and its proof is the same chain as its grammar.
-use Rattle.numbers.specs.Words.{ℕ, ◌≡◌, true, false, List}
+use Rattle.std.specs.Prelude.{◌≡◌}
+use Rattle.numbers.specs.Words.{ℕ, true, false, List}
 use Rattle.reader.specs.Reading.{Reader, given, missing, valid_of, Reading, run}
 
 -- over the partition s, the part m leads from the reader r to the reader q and gives a; or a byte is missing, and q is out of range

@@ -1,5 +1,6 @@
 -- The laws of reading without a stop: a straight-line function's proof is the chain of its calls, in the order of its grammar.
-use Rattle.numbers.specs.Words.{ℕ, ◌≡◌, refl, ◌∙◌, Bool, true, false, never, List}
+use Rattle.std.specs.Prelude.{◌≡◌}
+use Rattle.numbers.specs.Words.{ℕ, refl, ◌∙◌, Bool, true, false, never, List}
 use Rattle.reader.specs.Reading.{Reader, given, missing, valid_of, no_reader_of, Reading, done, ◌>>=◌, run, Within}
 use Rattle.reader.specs.ReadingLaws.{Bytes, valid_test, valid_fact, run_done, run_then, run_stops, run_valid}
 use Rattle.reader.specs.Reads.{Reads}

@@ -1,5 +1,6 @@
 -- One token of a block (RFC 6386, section 13.2, 3393-3446): coeff_tree and its walk.
-use Rattle.numbers.specs.Words.{ℕ, ◌+◌, Bool, true, false, ◌&&◌, leb, List, [], ◌∷◌, length, take, drop, ℤ}
+use Rattle.std.specs.Prelude.{◌+◌, ◌&&◌, ◌∷◌}
+use Rattle.numbers.specs.Words.{ℕ, Bool, true, false, leb, List, [], length, take, drop, ℤ}
 use Rattle.reader.specs.Reading.{Reader, Given, given, missing, valid_of, Reading, run}
 use Rattle.reader.specs.Trees.{node, leaf, walk}
 pub use Rattle.reader.specs.declared.token.Token.{Token}

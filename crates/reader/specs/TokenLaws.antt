@@ -1,5 +1,6 @@
 -- The laws of the walk of coeff_tree: what the code and the callers of `walk_token` cite.
-use Rattle.numbers.specs.Words.{ℕ, ◌+◌, ◌-◌, ◌≤◌, ◌<◌, arith, ◌≡◌, refl, sym, ◌∙◌, ap, Bool, true, false, ⊎_elim, ltb, lit<, lit≤, lt_or, both_true, le-leb, List, length, get_or, take, drop, get_or-eq_default, length-drop, length-take, get_or-drop, get_or-take, length-take-le}
+use Rattle.std.specs.Prelude.{◌+◌, ◌-◌, ◌≤◌, ◌<◌, ◌≡◌}
+use Rattle.numbers.specs.Words.{ℕ, arith, refl, sym, ◌∙◌, ap, Bool, true, false, ⊎_elim, ltb, lit<, lit≤, lt_or, both_true, le-leb, List, length, get_or, take, drop, get_or-eq_default, length-drop, length-take, get_or-drop, get_or-take, length-take-le}
 use Rattle.reader.specs.Reading.{Reader, Given, given, missing, run, Within}
 use Rattle.reader.specs.ReadingLaws.{Bytes, Valid, valid_test}
 use Rattle.reader.specs.Token.{Token, token_tree, token_start, token, eleven_at, to_token, token_of, token_answer}

@@ -1,5 +1,6 @@
 -- Trees of symbols (RFC 6386, section 8.1, 1482-1494), as grammars.
-use Rattle.numbers.specs.Words.{ℕ, zero, suc, ◌+◌, ◌/◌, ◌≤◌, ◌<◌, ◌≡◌, Bool, true, false, ◌&&◌, eqb, ltb, leb, List, length, get_or, ℤ, pos, negsuc}
+use Rattle.std.specs.Prelude.{◌+◌, ◌/◌, ◌≤◌, ◌<◌, ◌≡◌, ◌&&◌}
+use Rattle.numbers.specs.Words.{ℕ, zero, suc, Bool, true, false, eqb, ltb, leb, List, length, get_or, ℤ, pos, negsuc}
 pub use Rattle.reader.specs.declared.trees.Walked.{Walked}
 use Rattle.reader.specs.declared.trees.Walked.TheVariants as W
 pub use Rattle.reader.specs.declared.trees.Branch.{Branch}

@@ -1,5 +1,6 @@
 -- The laws of tree walks: what code and callers cite.
-use Rattle.numbers.specs.Words.{ℕ, zero, suc, ◌+◌, ◌/◌, ◌≤◌, ◌<◌, add-one, add-suc, arith, ◌≡◌, refl, sym, ◌∙◌, ap, Bool, true, false, ◌&&◌, ⊎_elim, eqb, ltb, leb, lt_or, never, not_so, both_left, both_right, both_true, eq-eqb, eqb-true, le-leb, leb-true, lt-ltb, ltb-true, List, length, get_or, all_at, all_at_lem, ℤ, pos}
+use Rattle.std.specs.Prelude.{◌+◌, ◌/◌, ◌≤◌, ◌<◌, ◌≡◌, ◌&&◌}
+use Rattle.numbers.specs.Words.{ℕ, zero, suc, add-one, add-suc, arith, refl, sym, ◌∙◌, ap, Bool, true, false, ⊎_elim, eqb, ltb, leb, lt_or, never, not_so, both_left, both_right, both_true, eq-eqb, eqb-true, le-leb, leb-true, lt-ltb, ltb-true, List, length, get_or, all_at, all_at_lem, ℤ, pos}
 use Rattle.reader.specs.declared.trees.Walked.TheVariants as W
 use Rattle.reader.specs.declared.trees.Branch.TheVariants as B
 use Rattle.reader.specs.declared.trees.Step.{Step}

@@ -1,5 +1,6 @@
 -- The blocks of a macroblock, read and written again: the steps of the proofs.
-use Rattle.numbers.specs.Words.{ℕ, zero, suc, ◌+◌, ◌-◌, ◌≤◌, ◌<◌, add-one, arith, ◌≡◌, refl, sym, ◌∙◌, ap, subst, Bool, true, false, ⊎_elim, eqb, ltb, lt_or, eq_or, eq-eqb, ne_eqb, bit_of, List, length, get_or, set, ℤ}
+use Rattle.std.specs.Prelude.{◌+◌, ◌-◌, ◌≤◌, ◌<◌, ◌≡◌}
+use Rattle.numbers.specs.Words.{ℕ, zero, suc, add-one, arith, refl, sym, ◌∙◌, ap, subst, Bool, true, false, ⊎_elim, eqb, ltb, lt_or, eq_or, eq-eqb, ne_eqb, bit_of, List, length, get_or, set, ℤ}
 use Rattle.header.specs.declared.quantizers.Factors.{Factors}
 use Rattle.reader.specs.declared.boolean.Reader.{Reader}
 use Rattle.reader.specs.Reading.{Reading, done, ◌>>=◌}

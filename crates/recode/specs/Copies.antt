@@ -1,6 +1,7 @@
 -- Code that reads by a grammar and writes what it reads: what its contract says (`Copies`), and the steps of its proof (`Going`). Only a run
 -- that gives a value is spoken of.
-use Rattle.numbers.specs.Words.{ℕ, ◌<◌, arith, ◌≡◌, refl, sym, ◌∙◌, ap, subst, Bool, true, false, List, [], ◌∷◌, length}
+use Rattle.std.specs.Prelude.{◌<◌, ◌≡◌, ◌∷◌}
+use Rattle.numbers.specs.Words.{ℕ, arith, refl, sym, ◌∙◌, ap, subst, Bool, true, false, List, [], length}
 use Rattle.reader.specs.declared.boolean.Reader.{Reader}
 use Rattle.reader.specs.Reading.{Given, given, missing, decided_of, symbol_of, Reading, done, ◌>>=◌, symbol, run, CodedSymbol, trace}
 use Rattle.reader.specs.ReadingLaws.{Bytes, Valid, symbol_missing, never_both, run_done, run_got, run_missing, run_then, run_stops, run_valid, within_symbol, trace_done, trace_got, trace_then}

@@ -1,5 +1,6 @@
 -- What a pass over a tile's tokens promises: one that writes, one that only counts, and the call's.
-use Rattle.numbers.specs.Words.{ℕ, ◌≤◌, ◌≡◌, List, ◌++◌, length, drop, ℤ}
+use Rattle.std.specs.Prelude.{◌≤◌, ◌≡◌, ◌++◌}
+use Rattle.numbers.specs.Words.{ℕ, List, length, drop, ℤ}
 use Rattle.lent.specs.Memory.{Memory}
 use Rattle.tile.specs.declared.Tile.{Tile}
 use Rattle.choices.specs.declared.answer.Decoded.TheVariants as D

@@ -1,5 +1,6 @@
 -- The call: its two passes over the tokens, its room, its refusals.
-use Rattle.numbers.specs.Words.{ℕ, zero, suc, ◌+◌, ◌-◌, ◌≤◌, ◌<◌, arith, ◌≡◌, refl, sym, ◌∙◌, ap, subst, ⊎_elim, lit<, lt_or, eq_or, le-leb, lt-leb, List, ◌++◌, append_assoc, append-nil, length, take, drop, replicate, drop_of_length-le, length-append, length-drop, take-append-drop, drop-append_seam, drop-drop, length-take-le, take_all, ℤ}
+use Rattle.std.specs.Prelude.{◌+◌, ◌-◌, ◌≤◌, ◌<◌, ◌≡◌, ◌++◌}
+use Rattle.numbers.specs.Words.{ℕ, zero, suc, arith, refl, sym, ◌∙◌, ap, subst, ⊎_elim, lit<, lt_or, eq_or, le-leb, lt-leb, List, append_assoc, append-nil, length, take, drop, replicate, drop_of_length-le, length-append, length-drop, take-append-drop, drop-append_seam, drop-drop, length-take-le, take_all, ℤ}
 use Rattle.reader.specs.ReadingLaws.{Bytes}
 use Rattle.coefficients.specs.declared.block.Table.{Table}
 use Rattle.coefficients.specs.Block.{table_of}

@@ -1,6 +1,7 @@
 -- M-112. A tile's tokens in one partition: what its macroblocks read of their token partitions, in raster order, the same symbols with the
 -- same probabilities, written by the boolean encoder (RFC 6386, section 7.3) behind a copy of the first partition.
-use Rattle.numbers.specs.Words.{ℕ, zero, suc, ◌+◌, true, false, leb, List, [], ◌∷◌, ◌++◌, length, get_or, drop, replicate}
+use Rattle.std.specs.Prelude.{◌+◌, ◌∷◌, ◌++◌}
+use Rattle.numbers.specs.Words.{ℕ, zero, suc, true, false, leb, List, [], length, get_or, drop, replicate}
 use Rattle.reader.specs.Reading.{Given, given, missing, no_reader_of, Reading, run, CodedSymbol, trace}
 use Rattle.modes.specs.Modes.{Macroblock, modes_of}
 use Rattle.residual.specs.Residual.{Model, residual_of}

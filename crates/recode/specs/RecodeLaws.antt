@@ -1,5 +1,6 @@
 -- The laws of a tile's token symbols: those of one macroblock, and of a run.
-use Rattle.numbers.specs.Words.{ℕ, zero, suc, ◌+◌, ◌*◌, ◌≤◌, ◌<◌, arith, ◌≡◌, refl, sym, ◌∙◌, ap, subst, List, [], ◌++◌, length, get_or, length-append}
+use Rattle.std.specs.Prelude.{◌+◌, ◌*◌, ◌≤◌, ◌<◌, ◌≡◌, ◌++◌}
+use Rattle.numbers.specs.Words.{ℕ, zero, suc, arith, refl, sym, ◌∙◌, ap, subst, List, [], length, get_or, length-append}
 use Rattle.reader.specs.declared.boolean.Reader.{Reader}
 use Rattle.reader.specs.Reading.{Given, given, missing, no_reader_of, CodedSymbol, trace, count}
 use Rattle.reader.specs.ReadingLaws.{Bytes, Each, nil, Byte, each_append, trace_within, trace_bytes}

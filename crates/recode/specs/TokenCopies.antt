@@ -1,5 +1,6 @@
 -- A token, its extra bits and its sign, read and written again: the steps of the proofs.
-use Rattle.numbers.specs.Words.{ℕ, zero, suc, ◌+◌, ◌-◌, ◌≤◌, ◌<◌, arith, ◌≡◌, refl, sym, ◌∙◌, ap, subst, Bool, true, false, ltb, le-ltb, lt-ltb, bit_of, List, [], ◌∷◌, length, get_or, drop}
+use Rattle.std.specs.Prelude.{◌+◌, ◌-◌, ◌≤◌, ◌<◌, ◌≡◌, ◌∷◌}
+use Rattle.numbers.specs.Words.{ℕ, zero, suc, arith, refl, sym, ◌∙◌, ap, subst, Bool, true, false, ltb, le-ltb, lt-ltb, bit_of, List, [], length, get_or, drop}
 use Rattle.reader.specs.declared.boolean.Reader.{Reader}
 use Rattle.reader.specs.declared.trees.Branch.{Branch}
 use Rattle.reader.specs.declared.trees.Branch.TheVariants as B

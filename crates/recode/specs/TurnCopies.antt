@@ -1,5 +1,6 @@
 -- One macroblock read and written again: what its contract says, and its proof.
-use Rattle.numbers.specs.Words.{ℕ, ◌<◌, arith, ◌≡◌, refl, sym, ◌∙◌, ap, subst, Bool, true, List, length}
+use Rattle.std.specs.Prelude.{◌<◌, ◌≡◌}
+use Rattle.numbers.specs.Words.{ℕ, arith, refl, sym, ◌∙◌, ap, subst, Bool, true, List, length}
 use Rattle.header.specs.Frame.{factors_at}
 use Rattle.lent.specs.Memory as lent
 use Rattle.lent.specs.Memory.{records_in, Form, packed, form_width, column_width, column_at, column_bytes, column_set, column_written}

@@ -1,5 +1,6 @@
 -- All macroblocks read and written again: what the contract of the walk says, and the turns of its loop.
-use Rattle.numbers.specs.Words.{ℕ, zero, suc, ◌+◌, ◌*◌, ◌/◌, ◌%◌, ◌≤◌, ◌<◌, mul-le-mul, arith, ◌≡◌, refl, sym, ◌∙◌, ap, subst, true, ⊎_elim, eq_or, List, length, get_or, set}
+use Rattle.std.specs.Prelude.{◌+◌, ◌*◌, ◌/◌, ◌%◌, ◌≤◌, ◌<◌, ◌≡◌}
+use Rattle.numbers.specs.Words.{ℕ, zero, suc, mul-le-mul, arith, refl, sym, ◌∙◌, ap, subst, true, ⊎_elim, eq_or, List, length, get_or, set}
 use Rattle.header.specs.declared.frame.Frame.{Frame}
 use Rattle.lent.specs.Memory.{Memory, packed, column_set}
 use Rattle.macroblock.specs.Macroblock.{Finished, Step, finished, no_modes, no_tokens}

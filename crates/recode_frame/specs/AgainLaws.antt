@@ -1,5 +1,6 @@
 -- The new first partition read: the same header but for the count, and behind it a reader that answers the symbols of the modes.
-use Rattle.numbers.specs.Words.{ℕ, ◌≤◌, arith, ◌≡◌, refl, sym, ◌∙◌, ap, List, length, ℤ}
+use Rattle.std.specs.Prelude.{◌≤◌, ◌≡◌}
+use Rattle.numbers.specs.Words.{ℕ, arith, refl, sym, ◌∙◌, ap, List, length, ℤ}
 use Rattle.reader.specs.declared.boolean.Reader.{Reader}
 use Rattle.reader.specs.Reading.{given, first_reader, run, trace, Answers}
 use Rattle.reader.specs.ReadingLaws.{Bytes, Valid, first_valid, run_valid, answers_part}

@@ -1,5 +1,6 @@
 -- What the functions promise that write the first partition again: its header with another count, its modes, and where the parts of a frame go.
-use Rattle.numbers.specs.Words.{ℕ, ◌+◌, ◌/◌, ◌≤◌, ◌<◌, ◌≡◌, List, ◌++◌, length, drop, replicate, Bytes, ℤ}
+use Rattle.std.specs.Prelude.{◌+◌, ◌/◌, ◌≤◌, ◌<◌, ◌≡◌, ◌++◌}
+use Rattle.numbers.specs.Words.{ℕ, List, length, drop, replicate, Bytes, ℤ}
 use Rattle.reader.specs.declared.boolean.Reader.{Reader}
 use Rattle.reader.specs.Reading.{given, first_reader, Valid, run, Reading, CodedSymbol, trace}
 use Rattle.frame.specs.declared.fields.Header.{Header}

@@ -1,5 +1,6 @@
 -- The first partition whole, read and written again: its symbols are bytes and few, and what the code writes of them.
-use Rattle.numbers.specs.Words.{ℕ, zero, suc, ◌+◌, ◌*◌, ◌/◌, ◌≤◌, ◌<◌, mul-le-mul, arith, ◌≡◌, refl, sym, ◌∙◌, ap, subst, List, ◌++◌, length, set, drop, replicate, length-append, ℤ}
+use Rattle.std.specs.Prelude.{◌+◌, ◌*◌, ◌/◌, ◌≤◌, ◌<◌, ◌≡◌, ◌++◌}
+use Rattle.numbers.specs.Words.{ℕ, zero, suc, mul-le-mul, arith, refl, sym, ◌∙◌, ap, subst, List, length, set, drop, replicate, length-append, ℤ}
 use Rattle.header.specs.declared.frame.Announced.{Announced}
 use Rattle.header.specs.Frame.{announced_of}
 use Rattle.header.specs.FrameLaws.{Probabilities, announced_bytes}

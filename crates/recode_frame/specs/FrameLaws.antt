@@ -1,5 +1,6 @@
 -- The bytes of the frame that is written: its head, and where its two partitions lie.
-use Rattle.numbers.specs.Words.{ℕ, suc, ◌+◌, ◌-◌, ◌*◌, ◌/◌, ◌%◌, ◌≤◌, ◌<◌, arith, ◌≡◌, sym, ◌∙◌, ap, List, [], ◌++◌, append_assoc, append-nil, length, get_or, take, drop, get_or-append, length-append, length-drop, drop-append_seam, get_or-drop, get_or-take, length-take-le, take-append_seam}
+use Rattle.std.specs.Prelude.{◌+◌, ◌-◌, ◌*◌, ◌/◌, ◌%◌, ◌≤◌, ◌<◌, ◌≡◌, ◌++◌}
+use Rattle.numbers.specs.Words.{ℕ, suc, arith, sym, ◌∙◌, ap, List, [], append_assoc, append-nil, length, get_or, take, drop, get_or-append, length-append, length-drop, drop-append_seam, get_or-drop, get_or-take, length-take-le, take-append_seam}
 use Rattle.tile.specs.Tile.{contents_of}
 use Rattle.frame.specs.Tag.{three_at, tag_of}
 use Rattle.frame.specs.OneLaws.{Retagged}

@@ -1,5 +1,6 @@
 -- The coded header, read and written again: the steps of the proofs.
-use Rattle.numbers.specs.Words.{ℕ, zero, suc, ◌+◌, ◌-◌, ◌≤◌, ◌<◌, arith, ◌≡◌, refl, sym, ◌∙◌, ap, subst, Bool, true, false, lit<, bit_of, List, [], ◌∷◌, ◌++◌, length, get_or, set, replicate, length-replicate}
+use Rattle.std.specs.Prelude.{◌+◌, ◌-◌, ◌≤◌, ◌<◌, ◌≡◌, ◌∷◌, ◌++◌}
+use Rattle.numbers.specs.Words.{ℕ, zero, suc, arith, refl, sym, ◌∙◌, ap, subst, Bool, true, false, lit<, bit_of, List, [], length, get_or, set, replicate, length-replicate}
 use Rattle.header.specs.Header.{probability_count}
 use Rattle.reader.specs.declared.boolean.Reader.{Reader}
 use Rattle.reader.specs.Reading.{given, Reading, done, ask, ◌>>=◌, symbol, run, CodedSymbol}

@@ -1,5 +1,6 @@
 -- The modes of a macroblock, read and written again: the steps of the proofs.
-use Rattle.numbers.specs.Words.{ℕ, zero, suc, ◌+◌, ◌-◌, ◌%◌, ◌≤◌, ◌<◌, arith, ◌≡◌, refl, sym, ◌∙◌, ap, subst, Bool, true, false, not, lit<, lt-ltb, bit_of, List, [], length, get_or, set, replicate, length-replicate, length-set, set_keeps, ℤ}
+use Rattle.std.specs.Prelude.{◌+◌, ◌-◌, ◌%◌, ◌≤◌, ◌<◌, ◌≡◌}
+use Rattle.numbers.specs.Words.{ℕ, zero, suc, arith, refl, sym, ◌∙◌, ap, subst, Bool, true, false, not, lit<, lt-ltb, bit_of, List, [], length, get_or, set, replicate, length-replicate, length-set, set_keeps, ℤ}
 use Rattle.header.specs.declared.frame.Announced.{Announced}
 use Rattle.modes.specs.ModesLaws.{each_fact, zeros_modes, set_modes, bottom_modes, right_modes}
 use Rattle.modes.specs.Table.{probabilities}

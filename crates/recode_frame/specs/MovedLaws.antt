@@ -1,6 +1,7 @@
 -- A picture and the same picture with both partitions written again: it reads its modes as the grammar of all modes does, and any two
 -- partitions that answer its symbols make the same picture.
-use Rattle.numbers.specs.Words.{ℕ, zero, suc, ◌+◌, ◌*◌, ◌/◌, ◌%◌, ◌≤◌, ◌<◌, arith, ◌≡◌, refl, sym, ◌∙◌, ap, subst, ⊎_elim, eq_or, List, [], ◌++◌, length, get_or, set, replicate, get_or-replicate, length-replicate, length-set, get_or-set_other, get_or-set_same}
+use Rattle.std.specs.Prelude.{◌+◌, ◌*◌, ◌/◌, ◌%◌, ◌≤◌, ◌<◌, ◌≡◌, ◌++◌}
+use Rattle.numbers.specs.Words.{ℕ, zero, suc, arith, refl, sym, ◌∙◌, ap, subst, ⊎_elim, eq_or, List, [], length, get_or, set, replicate, get_or-replicate, length-replicate, length-set, get_or-set_other, get_or-set_same}
 use Rattle.header.specs.declared.frame.Announced.{Announced}
 use Rattle.header.specs.FrameLaws.{frame_announced}
 use Rattle.lent.specs.Memory.{Memory, sizes_of, column_at, column_set}

@@ -1,7 +1,8 @@
 -- A key frame written again with one token partition (RFC 6386): the first partition's symbols, header (section 19.2) and modes (19.3), encoded
 -- anew (7.3) with the partition count 0; then the tokens in raster order in one partition (9.5); before them the tag (9.1) with the new
 -- size, start code and sizes as they were.
-use Rattle.numbers.specs.Words.{ℕ, zero, suc, ◌+◌, ◌*◌, ◌/◌, ◌%◌, true, false, leb, List, [], ◌∷◌, ◌++◌, length, get_or, set, take, drop, replicate}
+use Rattle.std.specs.Prelude.{◌+◌, ◌*◌, ◌/◌, ◌%◌, ◌∷◌, ◌++◌}
+use Rattle.numbers.specs.Words.{ℕ, zero, suc, true, false, leb, List, [], length, get_or, set, take, drop, replicate}
 use Rattle.header.specs.declared.frame.Announced.{Announced}
 use Rattle.header.specs.Frame.{announced_of}
 use Rattle.lent.specs.Memory.{Memory}

@@ -1,5 +1,6 @@
 -- The call on a whole frame: its first partition measured, placed and laid before the tokens, and its refusals.
-use Rattle.numbers.specs.Words.{ℕ, zero, suc, ◌+◌, ◌-◌, ◌*◌, ◌/◌, ◌%◌, ◌≤◌, ◌<◌, mod-lt, arith, ◌≡◌, refl, sym, ◌∙◌, ap, subst, ⊎_elim, lit<, lt_or, le-leb, lt-leb, List, [], ◌∷◌, ◌++◌, append_assoc, append-nil, length, get_or, set, take, drop, drop_of_length-le, length-append, length-drop, length-take, drop-append-le, drop-append_seam, drop-drop, length-take-le, take_all, take-append_seam, ℤ}
+use Rattle.std.specs.Prelude.{◌+◌, ◌-◌, ◌*◌, ◌/◌, ◌%◌, ◌≤◌, ◌<◌, ◌≡◌, ◌∷◌, ◌++◌}
+use Rattle.numbers.specs.Words.{ℕ, zero, suc, mod-lt, arith, refl, sym, ◌∙◌, ap, subst, ⊎_elim, lit<, lt_or, le-leb, lt-leb, List, [], append_assoc, append-nil, length, get_or, set, take, drop, drop_of_length-le, length-append, length-drop, length-take, drop-append-le, drop-append_seam, drop-drop, length-take-le, take_all, take-append_seam, ℤ}
 use Rattle.reader.specs.ReadingLaws.{Bytes}
 use Rattle.lent.specs.Memory.{Memory}
 use Rattle.tile.specs.declared.Tile.{Tile}

@@ -1,6 +1,7 @@
 -- The laws of the coded header cut at its partition count, and of a header written again with the count 0: it is read as the same header, but
 -- for the count.
-use Rattle.numbers.specs.Words.{ℕ, ◌≡◌, refl, sym, ◌∙◌, ap, subst, false, List, [], ◌++◌, append-nil}
+use Rattle.std.specs.Prelude.{◌≡◌, ◌++◌}
+use Rattle.numbers.specs.Words.{ℕ, refl, sym, ◌∙◌, ap, subst, false, List, [], append-nil}
 use Rattle.reader.specs.declared.boolean.Reader.{Reader}
 use Rattle.reader.specs.Reading.{Given, given, missing, first_reader, Reading, done, ask, ◌>>=◌, run, CodedSymbol, trace, Follows, stop, take, Answers}
 use Rattle.reader.specs.ReadingLaws.{never_both, run_done, run_then, run_stops, trace_follows, run_of, recoded, retraced, answers_part}

@@ -1,5 +1,6 @@
 -- The trees of a macroblock's modes as tables: one test that computes says of each that it leads where its tree does.
-use Rattle.numbers.specs.Words.{ℕ, ◌+◌, ◌<◌, arith, ◌≡◌, refl, sym, subst, Bool, true, false, ◌&&◌, eqb, ltb, both_left, both_right, eqb-true, ltb-true, List, [], ◌∷◌, length, get_or, all_of, all_below, all_of_any, all_below_lem, ℤ}
+use Rattle.std.specs.Prelude.{◌+◌, ◌<◌, ◌≡◌, ◌&&◌, ◌∷◌}
+use Rattle.numbers.specs.Words.{ℕ, arith, refl, sym, subst, Bool, true, false, eqb, ltb, both_left, both_right, eqb-true, ltb-true, List, [], length, get_or, all_of, all_below, all_of_any, all_below_lem, ℤ}
 use Rattle.modes.specs.Modes.{seg_tree, y_tree, uv_tree, b_tree}
 use Rattle.reader.specs.declared.trees.Branch.{Branch}
 use Rattle.reader.specs.declared.trees.Branch.TheVariants as B

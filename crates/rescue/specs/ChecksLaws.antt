@@ -1,5 +1,6 @@
 -- The laws of the rescue call's checks: they are the picture call's, the fourth of which covers the marks too.
-use Rattle.numbers.specs.Words.{ℕ, ◌*◌, ◌/◌, ◌≤◌, ◌<◌, arith, ◌≡◌, refl, sym, ◌∙◌, ap, Bool, true, false, ◌&&◌, ◌⊎◌, inl, inr, ⊎_elim, eqb, eq-eqb, eqb-true, ne_eqb, [], ◌∷◌}
+use Rattle.std.specs.Prelude.{◌*◌, ◌/◌, ◌≤◌, ◌<◌, ◌≡◌, ◌&&◌, ◌⊎◌, ◌∷◌}
+use Rattle.numbers.specs.Words.{ℕ, arith, refl, sym, ◌∙◌, ap, Bool, true, false, inl, inr, ⊎_elim, eqb, eq-eqb, eqb-true, ne_eqb, []}
 use Rattle.header.specs.Header.{entries_of}
 use Rattle.tile.specs.Tile.{sides_of, count_of, partitions_of, blocks_of}
 use Rattle.lent.specs.declared.sizes.Sizes.{Sizes}

@@ -1,7 +1,8 @@
 -- The rescue call (request M-108): the picture call; then, where a token partition ran out in macroblock k, k and every later macroblock from
 -- its modes, without a residual and counted empty, and no other partition's tokens are read; where the first partition runs out the rest stays
 -- grey. A mark for each macroblock says which it is.
-use Rattle.numbers.specs.Words.{ℕ, zero, suc, ◌+◌, ◌-◌, true, false, ◌&&◌, eqb, ltb, List, [], ◌∷◌, length, build}
+use Rattle.std.specs.Prelude.{◌+◌, ◌-◌, ◌&&◌, ◌∷◌}
+use Rattle.numbers.specs.Words.{ℕ, zero, suc, true, false, eqb, ltb, List, [], length, build}
 use Rattle.reader.specs.declared.boolean.Reader.{Reader}
 use Rattle.reader.specs.ReadingLaws.{Valid}
 use Rattle.header.specs.Header.{entries_of}

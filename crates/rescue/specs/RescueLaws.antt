@@ -1,5 +1,6 @@
 -- The laws of the rescue call: one macroblock after the stop, one turn of the recursion, the marks, the call.
-use Rattle.numbers.specs.Words.{ℕ, zero, suc, ◌+◌, ◌-◌, ◌*◌, ◌/◌, ◌%◌, ◌≤◌, ◌<◌, arith, ◌≡◌, refl, sym, ◌∙◌, ap, ap₂, subst, le-ltb, lt-ltb, List, length, get_or, build, length_build, get_or_build}
+use Rattle.std.specs.Prelude.{◌+◌, ◌-◌, ◌*◌, ◌/◌, ◌%◌, ◌≤◌, ◌<◌, ◌≡◌}
+use Rattle.numbers.specs.Words.{ℕ, zero, suc, arith, refl, sym, ◌∙◌, ap, ap₂, subst, le-ltb, lt-ltb, List, length, get_or, build, length_build, get_or_build}
 use Rattle.reader.specs.declared.boolean.Reader.{Reader}
 use Rattle.reader.specs.Reading.{no_reader_of}
 use Rattle.reader.specs.ReadingLaws.{Bytes, Valid}

@@ -1,5 +1,6 @@
 -- A block over a wide reader: what its calls promise. Its sixteen numbers stand in a longer list, from a place on, each a step after the last.
-use Rattle.numbers.specs.Words.{ℕ, suc, ◌+◌, ◌-◌, ◌*◌, ◌≤◌, ◌<◌, ◌≡◌, Bool, true, false, List, [], ◌∷◌, length, get_or, build, stored_at, ℤ, pos}
+use Rattle.std.specs.Prelude.{◌+◌, ◌-◌, ◌*◌, ◌≤◌, ◌<◌, ◌≡◌, ◌∷◌}
+use Rattle.numbers.specs.Words.{ℕ, suc, Bool, true, false, List, [], length, get_or, build, stored_at, ℤ, pos}
 use Rattle.reader.specs.Reading.{Reading, ◌>>=◌, done}
 use Rattle.wide.specs.Counted.{counted}
 use Rattle.wide.specs.WideRuns.{WideReads, Going}

@@ -1,5 +1,6 @@
 -- The laws of a block over a wide reader: its numbers in a longer list, how many symbols it reads, and the turns of its loop.
-use Rattle.numbers.specs.Words.{ℕ, zero, suc, ◌+◌, ◌-◌, ◌*◌, ◌/◌, ◌%◌, ◌^◌, ◌≤◌, ◌<◌, add-zero, mul-le-mul_left, mul-suc, ℕ_discrete, arith, ◌≡◌, refl, sym, ◌∙◌, ap, Bool, true, false, ◌⊎◌, inl, inr, ⊎_elim, eqb, leb, lit<, lit≤, lt_or, eqb-true, leb-true, List, [], ◌∷◌, length, get_or, set, replicate, length-set, get_or-set_other, get_or-set_same, length_build, get_or_build, built, build_same, get_or_constant, build_constant, length_stored, stored_off, stored_in, all_below, all_below_lem, ℤ, pos, ◌+ℤ◌, ◌-ℤ◌, ◌*ℤ◌, up, dn, of_le, of_eq, add_parts, sub_parts_ℤ, up_times, dn_times, round, there, wrap_z, wrap_is, w16}
+use Rattle.std.specs.Prelude.{◌+◌, ◌-◌, ◌*◌, ◌/◌, ◌%◌, ◌^◌, ◌≤◌, ◌<◌, ◌≡◌, ◌⊎◌, ◌∷◌, ◌+ℤ◌, ◌-ℤ◌, ◌*ℤ◌}
+use Rattle.numbers.specs.Words.{ℕ, zero, suc, add-zero, mul-le-mul_left, mul-suc, ℕ_discrete, arith, refl, sym, ◌∙◌, ap, Bool, true, false, inl, inr, ⊎_elim, eqb, leb, lit<, lit≤, lt_or, eqb-true, leb-true, List, [], length, get_or, set, replicate, length-set, get_or-set_other, get_or-set_same, length_build, get_or_build, built, build_same, get_or_constant, build_constant, length_stored, stored_off, stored_in, all_below, all_below_lem, ℤ, pos, up, dn, of_le, of_eq, add_parts, sub_parts_ℤ, up_times, dn_times, round, there, wrap_z, wrap_is, w16}
 use Rattle.header.specs.Header.{probability_count}
 use Rattle.reader.specs.ReadingLaws.{Bytes}
 use Rattle.reader.specs.Counts.{token_depths}

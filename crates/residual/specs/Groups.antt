@@ -1,6 +1,7 @@
 -- The parts of a macroblock as the code reads them over a wide reader, by groups: 0 is the second-order block, 1 luma, 2 U, 3 V. The blocks
 -- of a group are a square, read row after row.
-use Rattle.numbers.specs.Words.{ℕ, zero, suc, ◌+◌, ◌*◌, ◌^◌, ◌≤◌, ◌<◌, ◌≡◌, Bool, true, ◌&&◌, List, length, get_or, replicate, all_below, ℤ, pos}
+use Rattle.std.specs.Prelude.{◌+◌, ◌*◌, ◌^◌, ◌≤◌, ◌<◌, ◌≡◌, ◌&&◌}
+use Rattle.numbers.specs.Words.{ℕ, zero, suc, Bool, true, List, length, get_or, replicate, all_below, ℤ, pos}
 use Rattle.header.specs.Header.{probability_count}
 use Rattle.header.specs.declared.quantizers.Factors.{Factors}
 use Rattle.reader.specs.Reading.{Reading}

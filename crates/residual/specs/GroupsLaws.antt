@@ -1,5 +1,6 @@
 -- The laws of the groups: which parts they are, one block that was read, and the turns of the loops over blocks, rows and groups.
-use Rattle.numbers.specs.Words.{ℕ, zero, suc, ◌+◌, ◌-◌, ◌*◌, ◌/◌, ◌%◌, ◌^◌, ◌≤◌, ◌<◌, add-one, add-suc, add-zero, mul-le-mul_left, mul-suc, arith, ◌≡◌, ◌≢◌, refl, sym, ◌∙◌, ap, ap₂, Bool, true, false, ◌&&◌, inl, ltb, leb, le-ltb, lt-ltb, bit_of, List, length, get_or, set, replicate, get_or-set_same, set-get_or, set-set, length_placed, placed_in, placed_off, all_below, ℤ, pos}
+use Rattle.std.specs.Prelude.{◌+◌, ◌-◌, ◌*◌, ◌/◌, ◌%◌, ◌^◌, ◌≤◌, ◌<◌, ◌≡◌, ◌≢◌, ◌&&◌}
+use Rattle.numbers.specs.Words.{ℕ, zero, suc, add-one, add-suc, add-zero, mul-le-mul_left, mul-suc, arith, refl, sym, ◌∙◌, ap, ap₂, Bool, true, false, inl, ltb, leb, le-ltb, lt-ltb, bit_of, List, length, get_or, set, replicate, get_or-set_same, set-get_or, set-set, length_placed, placed_in, placed_off, all_below, ℤ, pos}
 use Rattle.header.specs.declared.quantizers.Factors.{Factors}
 use Rattle.reader.specs.ReadingLaws.{Bytes}
 use Rattle.reader.specs.Reading.{Reading, done}

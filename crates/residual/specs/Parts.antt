@@ -1,5 +1,6 @@
 -- A macroblock read one part at a time: what the code's state stands for, what a part gives, and what every part asks and leaves.
-use Rattle.numbers.specs.Words.{ℕ, ◌≡◌, Bool, true, false, List, length, ℤ}
+use Rattle.std.specs.Prelude.{◌≡◌}
+use Rattle.numbers.specs.Words.{ℕ, Bool, true, false, List, length, ℤ}
 use Rattle.header.specs.Header.{probability_count}
 use Rattle.reader.specs.declared.boolean.Reader.{Reader}
 use Rattle.reader.specs.Reading.{Given, given, missing, Reading}

@@ -1,6 +1,7 @@
 -- A macroblock over a wide reader, part after part: part 0 is the second-order block, part i + 1 is block i. Their numbers stand in one list:
 -- the 384 of the macroblock by lanes, as they are handed over, then the sixteen of the second-order block.
-use Rattle.numbers.specs.Words.{ℕ, zero, suc, ◌+◌, ◌*◌, ◌/◌, ◌%◌, ◌≡◌, Bool, true, false, ltb, List, get_or, build, ℤ, pos}
+use Rattle.std.specs.Prelude.{◌+◌, ◌*◌, ◌/◌, ◌%◌, ◌≡◌}
+use Rattle.numbers.specs.Words.{ℕ, zero, suc, Bool, true, false, ltb, List, get_or, build, ℤ, pos}
 use Rattle.reader.specs.Reading.{Reading, done, ◌>>=◌, count}
 use Rattle.reader.specs.declared.boolean.Reader.{Reader}
 use Rattle.header.specs.declared.quantizers.Factors.{Factors}

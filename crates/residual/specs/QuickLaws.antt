@@ -1,5 +1,6 @@
 -- The laws of a macroblock over a wide reader: its parts, the list of their numbers, and the whole.
-use Rattle.numbers.specs.Words.{ℕ, zero, suc, ◌+◌, ◌-◌, ◌*◌, ◌/◌, ◌%◌, ◌^◌, ◌≤◌, ◌<◌, add-one, arith, ◌≡◌, ◌≢◌, refl, sym, ◌∙◌, ap, ap₂, Bool, true, false, ◌&&◌, inl, inr, ⊎_elim, lt_or, eq_or, le-ltb, lt-ltb, bit_of, List, length, get_or, set, take, replicate, length-set, get_or-set_other, get_or-set_same, get_or-take, length-take-le, length_build, get_or_build, built, build_same, get_or_constant, build_constant, placed, placed_none, placed_next, length_placed, stored_at, length_stored, ℤ, pos, negsuc, Each}
+use Rattle.std.specs.Prelude.{◌+◌, ◌-◌, ◌*◌, ◌/◌, ◌%◌, ◌^◌, ◌≤◌, ◌<◌, ◌≡◌, ◌≢◌, ◌&&◌}
+use Rattle.numbers.specs.Words.{ℕ, zero, suc, add-one, arith, refl, sym, ◌∙◌, ap, ap₂, Bool, true, false, inl, inr, ⊎_elim, lt_or, eq_or, le-ltb, lt-ltb, bit_of, List, length, get_or, set, take, replicate, length-set, get_or-set_other, get_or-set_same, get_or-take, length-take-le, length_build, get_or_build, built, build_same, get_or_constant, build_constant, placed, placed_none, placed_next, length_placed, stored_at, length_stored, ℤ, pos, negsuc, Each}
 use Rattle.reader.specs.ReadingLaws.{Bytes, Valid}
 use Rattle.reader.specs.Reading.{done, ◌>>=◌, count}
 use Rattle.reader.specs.declared.boolean.Reader.{Reader}

@@ -1,6 +1,7 @@
 -- The residual of a macroblock (RFC 6386, sections 13, 3338-3348, and 19.3, 7316-7324), as a grammar: the coefficients of its blocks, and
 -- the flags that they leave behind for the macroblocks below and to the right.
-use Rattle.numbers.specs.Words.{ℕ, zero, suc, ◌+◌, ◌-◌, ◌*◌, ◌/◌, ◌%◌, ◌≤◌, ◌≡◌, Bool, true, false, ◌&&◌, eqb, ltb, leb, bit_of, List, length, get_or, set, replicate, build, placed, all_below, ℤ, pos, negsuc, Each}
+use Rattle.std.specs.Prelude.{◌+◌, ◌-◌, ◌*◌, ◌/◌, ◌%◌, ◌≤◌, ◌≡◌, ◌&&◌}
+use Rattle.numbers.specs.Words.{ℕ, zero, suc, Bool, true, false, eqb, ltb, leb, bit_of, List, length, get_or, set, replicate, build, placed, all_below, ℤ, pos, negsuc, Each}
 use Rattle.header.specs.Header.{probability_count, header_of}
 use Rattle.reader.specs.declared.boolean.Reader.{Reader}
 use Rattle.reader.specs.Reading.{Given, given, missing, valid_of, Reading, done, run, ◌>>=◌, count}

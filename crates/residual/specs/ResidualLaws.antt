@@ -1,5 +1,6 @@
 -- The laws of the residual that another crate cites.
-use Rattle.numbers.specs.Words.{ℕ, zero, suc, ◌+◌, ◌-◌, ◌*◌, ◌≤◌, ◌<◌, arith, ◌≡◌, refl, sym, ◌∙◌, ap, Bool, true, false, ◌&&◌, ◌⊎◌, inl, inr, ⊎_elim, ltb, lt_or, not_first, both_true, le-ltb, lt-ltb, bit_of, List, length, get_or, set, replicate, length-replicate, length-set, set_keeps, length_build, get_or_build, get_or_build_past, get_or_constant, placed, length_placed, placed_keeps, ℤ, pos, negsuc, Each, In_wider, num, inside, each_set}
+use Rattle.std.specs.Prelude.{◌+◌, ◌-◌, ◌*◌, ◌≤◌, ◌<◌, ◌≡◌, ◌&&◌, ◌⊎◌}
+use Rattle.numbers.specs.Words.{ℕ, zero, suc, arith, refl, sym, ◌∙◌, ap, Bool, true, false, inl, inr, ⊎_elim, ltb, lt_or, not_first, both_true, le-ltb, lt-ltb, bit_of, List, length, get_or, set, replicate, length-replicate, length-set, set_keeps, length_build, get_or_build, get_or_build_past, get_or_constant, placed, length_placed, placed_keeps, ℤ, pos, negsuc, Each, In_wider, num, inside, each_set}
 use Rattle.header.specs.Header.{probability_count, header_of}
 use Rattle.reader.specs.declared.boolean.Reader.{Reader}
 use Rattle.reader.specs.Reading.{Given, given, missing, valid_of, run, Within, ends, count}

@@ -1,6 +1,7 @@
 -- The definitions of vp8_residual, as its source has them: the results of the second-order block stand apart until a luma block takes its
 -- first coefficient from them, and each block stands by itself. They are ours, once the blocks are laid one after the other.
-use Rattle.numbers.specs.Words.{ℕ, zero, suc, ◌+◌, ◌*◌, ◌/◌, ◌%◌, ◌≤◌, ◌<◌, arith, ◌≡◌, ◌≢◌, refl, sym, ◌∙◌, ap, ap₂, Bool, true, false, ◌&&◌, inl, inr, ⊎_elim, eqb, ltb, lt_or, eq_or, le-ltb, lt-ltb, ne_eqb, bit_of, List, [], length, get_or, set, replicate, length-replicate, length-set, get_or-set_other, get_or-set_same, build, length_build, build_listed, get_or_build, built, build_same, get_or_constant, Off, length_placed, placed_in, placed_off, ℤ, pos}
+use Rattle.std.specs.Prelude.{◌+◌, ◌*◌, ◌/◌, ◌%◌, ◌≤◌, ◌<◌, ◌≡◌, ◌≢◌, ◌&&◌}
+use Rattle.numbers.specs.Words.{ℕ, zero, suc, arith, refl, sym, ◌∙◌, ap, ap₂, Bool, true, false, inl, inr, ⊎_elim, eqb, ltb, lt_or, eq_or, le-ltb, lt-ltb, ne_eqb, bit_of, List, [], length, get_or, set, replicate, length-replicate, length-set, get_or-set_other, get_or-set_same, build, length_build, build_listed, get_or_build, built, build_same, get_or_constant, Off, length_placed, placed_in, placed_off, ℤ, pos}
 use Rattle.reader.specs.declared.boolean.Reader.{Reader}
 use Rattle.reader.specs.Reading.{Given, given, missing, Reading, done, run, ◌>>=◌, count}
 use Rattle.reader.specs.ReadingLaws.{run_done, run_then, run_stops}

@@ -1,5 +1,6 @@
 -- The residual one part at a time: what a part that the code read makes of the state, and what is then left to read.
-use Rattle.numbers.specs.Words.{ℕ, zero, suc, ◌+◌, ◌*◌, ◌≤◌, ◌<◌, add-one, arith, ◌≡◌, refl, sym, ◌∙◌, ap, ap₂, Bool, true, false, ◌&&◌, inl, inr, eqb, ltb, leb, lt_or, both_left, both_right, both_true, eq-eqb, eqb-true, le-leb, leb-true, List, length, get_or, set, replicate, get_or-eq_default, placed, placed_next, all_below, all_below_lem, ℤ, pos}
+use Rattle.std.specs.Prelude.{◌+◌, ◌*◌, ◌≤◌, ◌<◌, ◌≡◌, ◌&&◌}
+use Rattle.numbers.specs.Words.{ℕ, zero, suc, add-one, arith, refl, sym, ◌∙◌, ap, ap₂, Bool, true, false, inl, inr, eqb, ltb, leb, lt_or, both_left, both_right, both_true, eq-eqb, eqb-true, le-leb, leb-true, List, length, get_or, set, replicate, get_or-eq_default, placed, placed_next, all_below, all_below_lem, ℤ, pos}
 use Rattle.header.specs.Header.{probability_count, header_of}
 use Rattle.reader.specs.declared.boolean.Reader.{Reader}
 use Rattle.reader.specs.Reading.{Given, given, missing, valid_of, run, count}

@@ -1,5 +1,6 @@
 -- The laws of blocks that stand one after the other and are laid out by lanes.
-use Rattle.numbers.specs.Words.{ℕ, ◌+◌, ◌*◌, ◌/◌, ◌%◌, ◌<◌, div-lt_iff_lt-mul, mod-lt, arith, ◌≡◌, sym, ◌∙◌, ap, inl, List, length, get_or, length_placed, placed_in, placed_off, ℤ, pos}
+use Rattle.std.specs.Prelude.{◌+◌, ◌*◌, ◌/◌, ◌%◌, ◌<◌, ◌≡◌}
+use Rattle.numbers.specs.Words.{ℕ, div-lt_iff_lt-mul, mod-lt, arith, sym, ◌∙◌, ap, inl, List, length, get_or, length_placed, placed_in, placed_off, ℤ, pos}
 use Rattle.transform.specs.Lanes.{macroblock_lanes}
 use Rattle.transform.specs.LanesLaws.{squares_are}
 use Rattle.residual.specs.Residual.{laid_from}

@@ -1,5 +1,6 @@
 -- The doublings of a range (RFC 6386, section 7.3, 1239-1313) as a table, and the readers that it serves.
-use Rattle.numbers.specs.Words.{ℕ, ◌+◌, ◌-◌, ◌*◌, ◌^◌, ◌≤◌, ◌<◌, true, false, ltb, List, build}
+use Rattle.std.specs.Prelude.{◌+◌, ◌-◌, ◌*◌, ◌^◌, ◌≤◌, ◌<◌}
+use Rattle.numbers.specs.Words.{ℕ, true, false, ltb, List, build}
 use Rattle.wide.specs.declared.wide.Wide.{Wide}
 use Rattle.wide.specs.Wide.{doublings_of}
 

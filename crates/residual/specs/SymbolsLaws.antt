@@ -1,5 +1,6 @@
 -- The laws of a symbol by table: the table's entries, and the range of the readers after it.
-use Rattle.numbers.specs.Words.{ℕ, ◌+◌, ◌-◌, ◌*◌, ◌/◌, ◌%◌, ◌^◌, ◌≤◌, ◌<◌, mul-le-mul, arith, ◌≡◌, refl, ◌∙◌, ap, Bool, true, false, le-ltb, lt-ltb, List, get_or, get_or_build}
+use Rattle.std.specs.Prelude.{◌+◌, ◌-◌, ◌*◌, ◌/◌, ◌%◌, ◌^◌, ◌≤◌, ◌<◌, ◌≡◌}
+use Rattle.numbers.specs.Words.{ℕ, mul-le-mul, arith, refl, ◌∙◌, ap, Bool, true, false, le-ltb, lt-ltb, List, get_or, get_or_build}
 use Rattle.reader.specs.ReadingLaws.{Valid}
 use Rattle.reader.specs.declared.boolean.Reader.{Reader}
 use Rattle.wide.specs.declared.wide.Wide.{Wide}

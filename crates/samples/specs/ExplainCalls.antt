@@ -1,5 +1,6 @@
 -- The explanation of an edge as C sees it (request M-105): a number, the rule and the pair by number, and the two lent memories.
-use Rattle.numbers.specs.Words.{ℕ, ◌+◌, true, false, ◌&&◌, eqb, List, length, ℤ}
+use Rattle.std.specs.Prelude.{◌+◌, ◌&&◌}
+use Rattle.numbers.specs.Words.{ℕ, true, false, eqb, List, length, ℤ}
 use Rattle.filter.specs.declared.answers.Rule.{Rule}
 use Rattle.filter.specs.declared.answers.Rule.TheVariants.{EdgeFailed, Rough, Simple, HighVariance, MacroblockEdge, InnerEdge}
 use Rattle.filter.specs.declared.explain.Explanation.{Explanation}

@@ -1,5 +1,6 @@
 -- What the explanation's call answers, as its code finds it.
-use Rattle.numbers.specs.Words.{ℕ, ◌≡◌, sym, ◌∙◌, ap, eq-eqb, ne_eqb, List, length, ℤ}
+use Rattle.std.specs.Prelude.{◌≡◌}
+use Rattle.numbers.specs.Words.{ℕ, sym, ◌∙◌, ap, eq-eqb, ne_eqb, List, length, ℤ}
 use Rattle.filter.specs.declared.explain.Explanation.{Explanation}
 use Rattle.filter.specs.Explain.{explain_of}
 use Rattle.samples.specs.FilterCalls.{flag_of}

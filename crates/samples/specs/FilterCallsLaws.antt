@@ -1,5 +1,6 @@
 -- What the filter's calls answer, as their code finds it.
-use Rattle.numbers.specs.Words.{ℕ, ◌≡◌, sym, ◌∙◌, ap, eq-eqb, ne_eqb, List, length}
+use Rattle.std.specs.Prelude.{◌≡◌}
+use Rattle.numbers.specs.Words.{ℕ, sym, ◌∙◌, ap, eq-eqb, ne_eqb, List, length}
 use Rattle.filter.specs.Kernel.{filter_of}
 use Rattle.macroblock.specs.Macroblock.{Planes}
 use Rattle.deblock.specs.declared.Deblocked.{Deblocked}

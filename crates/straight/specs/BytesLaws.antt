@@ -1,5 +1,6 @@
 -- Laws of the tests and the rules in bytes: sums taken into a byte's range stand for the numbers of the kernel.
-use Rattle.numbers.specs.Words.{ℕ, ◌+◌, ◌*◌, ◌/◌, min, max, ◌≤◌, ◌<◌, arith, ◌≡◌, refl, sym, ◌∙◌, ap, ap₂, Bool, true, false, not, ◌&&◌, ◌||◌, cond, inl, inr, ltb, leb, T, lit<, lt_or, le-leb, le-ltb, lt-leb, lt-ltb, List, [], ◌∷◌, get_or, build, ◌∷≡◌, ℤ, pos, negsuc, neg_ℤ, nat_abs, ◌+ℤ◌, ◌-ℤ◌, ◌*ℤ◌, +ℤ_idl, +ℤ_idr, ◌≤ℤ◌, lt_z, shr_z, In, to_le, of_le, of_eq, lt_parts, nlt_le, add_parts, sub_parts_ℤ, up_times, dn_times, shr_parts, within, Know, plainly, round, inside, known, answered, clamp_z, clip_z, signed_to, signed_byte_z, clamp_cases, clamp_same, clamp_low, clamp_high, up_to_abs, signed_in, w8, w16}
+use Rattle.std.specs.Prelude.{◌+◌, ◌*◌, ◌/◌, ◌≤◌, ◌<◌, ◌≡◌, ◌&&◌, ◌||◌, ◌∷◌, ◌+ℤ◌, ◌-ℤ◌, ◌*ℤ◌, ◌≤ℤ◌}
+use Rattle.numbers.specs.Words.{ℕ, min, max, arith, refl, sym, ◌∙◌, ap, ap₂, Bool, true, false, not, cond, inl, inr, ltb, leb, T, lit<, lt_or, le-leb, le-ltb, lt-leb, lt-ltb, List, [], get_or, build, ◌∷≡◌, ℤ, pos, negsuc, neg_ℤ, nat_abs, +ℤ_idl, +ℤ_idr, lt_z, shr_z, In, to_le, of_le, of_eq, lt_parts, nlt_le, add_parts, sub_parts_ℤ, up_times, dn_times, shr_parts, within, Know, plainly, round, inside, known, answered, clamp_z, clip_z, signed_to, signed_byte_z, clamp_cases, clamp_same, clamp_low, clamp_high, up_to_abs, signed_in, w8, w16}
 use Rattle.numbers.specs.Eval as eval
 use Rattle.filter.specs.Kernel.{Samples, apart, within_limit_of, smooth, rough_at, high_variance_of, eighth, part, half, sides, no_steps, common_steps_of, macroblock_steps_of, inner_steps_of, moved_of}
 use Rattle.filter.specs.KernelLaws.{first_past, part_in}

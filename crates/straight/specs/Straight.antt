@@ -1,6 +1,7 @@
 -- The kernel's tests and its rules apart, for many positions side by side: first whether a rule acts, then what it does, told whether it
 -- does. Together they are `filter_of` (StraightLaws.antt).
-use Rattle.numbers.specs.Words.{ℕ, ◌+◌, ◌*◌, ◌/◌, max, Bool, not, ◌&&◌, ◌||◌, cond, ltb, List}
+use Rattle.std.specs.Prelude.{◌+◌, ◌*◌, ◌/◌, ◌&&◌, ◌||◌}
+use Rattle.numbers.specs.Words.{ℕ, max, Bool, not, cond, ltb, List}
 use Rattle.filter.specs.declared.answers.Rule.{Rule}
 use Rattle.filter.specs.declared.answers.Rule.TheVariants.{Simple, HighVariance, MacroblockEdge, InnerEdge}
 use Rattle.filter.specs.Kernel.{Samples, samples_across, apart, within_limit_of, rough_at, high_variance_of, no_steps, steps_of, moved_of}

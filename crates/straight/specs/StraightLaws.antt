@@ -1,5 +1,6 @@
 -- Laws of the kernel's tests and rules apart: together they are the filter.
-use Rattle.numbers.specs.Words.{ℕ, ◌≡◌, refl, sym, ◌∙◌, Bool, true, false, not, ◌&&◌, ◌||◌, cond, ltb, List, length, signed_byte_z}
+use Rattle.std.specs.Prelude.{◌≡◌, ◌&&◌, ◌||◌}
+use Rattle.numbers.specs.Words.{ℕ, refl, sym, ◌∙◌, Bool, true, false, not, cond, ltb, List, length, signed_byte_z}
 use Rattle.filter.specs.declared.answers.Rule.TheVariants.{EdgeFailed, Rough, Simple, HighVariance, MacroblockEdge, InnerEdge}
 use Rattle.filter.specs.Kernel.{Samples, samples_across, within_limit_of, rough_at, high_variance_of, rule_of, across, tapped, no_steps, common_steps_of, macroblock_steps_of, inner_steps_of, steps_of, moved_of, filter_of}
 use Rattle.filter.specs.KernelLaws.{Bytes, moved_none}

@@ -2,7 +2,8 @@
 -- record, by their first place: pictures by answer 0..7 (0); the finished macroblocks by segment (8), by large mode DC, TM, V, H with small as
 -- a fifth (12), by chroma mode (17), by skip (21), by inside byte (23); the small ones' sub_blocks_lem by mode (25); the symbols of the first
 -- partition (35) and of token partitions (36).
-use Rattle.numbers.specs.Words.{ℕ, zero, suc, ◌+◌, ◌<◌, Bool, true, false, ◌&&◌, eqb, leb, bit_of, List, [], ◌∷◌, ◌++◌, length, get_or, build}
+use Rattle.std.specs.Prelude.{◌+◌, ◌<◌, ◌&&◌, ◌∷◌, ◌++◌}
+use Rattle.numbers.specs.Words.{ℕ, zero, suc, Bool, true, false, eqb, leb, bit_of, List, [], length, get_or, build}
 use Rattle.lent.specs.Memory.{Memory, mode_found, strength_found}
 use Rattle.macroblock.specs.declared.arguments.SymbolCounts.{SymbolCounts}
 use Rattle.macroblock.specs.Macroblock.{no_reads}

@@ -1,5 +1,6 @@
 -- The laws of the survey: records added, and the call.
-use Rattle.numbers.specs.Words.{ℕ, zero, suc, ◌+◌, ◌*◌, ◌/◌, ◌≤◌, ◌<◌, add-one, mul-le-mul, ℕ_discrete, arith, ◌≡◌, refl, sym, ◌∙◌, ap, subst, Bool, true, false, ◌⊎◌, inl, inr, eqb, lt_or, eq_or, never, both_true, both_false, eq-eqb, le-leb, lt-leb, ne_eqb, List, length, get_or, set, length-set, get_or-set_other, get_or-set_same, length_build, get_or_build, built}
+use Rattle.std.specs.Prelude.{◌+◌, ◌*◌, ◌/◌, ◌≤◌, ◌<◌, ◌≡◌, ◌⊎◌}
+use Rattle.numbers.specs.Words.{ℕ, zero, suc, add-one, mul-le-mul, ℕ_discrete, arith, refl, sym, ◌∙◌, ap, subst, Bool, true, false, inl, inr, eqb, lt_or, eq_or, never, both_true, both_false, eq-eqb, le-leb, lt-leb, ne_eqb, List, length, get_or, set, length-set, get_or-set_other, get_or-set_same, length_build, get_or_build, built}
 use Rattle.lent.specs.Memory.{Memory, sizes_of}
 use Rattle.macroblock.specs.declared.arguments.SymbolCounts.{SymbolCounts}
 use Rattle.macroblock.specs.Macroblock.{no_reads, Step, finished, no_modes, no_tokens}

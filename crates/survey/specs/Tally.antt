@@ -1,6 +1,7 @@
 -- A picture counted as the code counts it, one thing after the other into one list. By its places the list is `tallied_of`: `tally_found`, in
 -- TallyLaws, proves it.
-use Rattle.numbers.specs.Words.{ℕ, zero, suc, ◌+◌, ◌≤◌, ◌≡◌, Bool, true, false, ltb, bit_of, List, length, get_or, set}
+use Rattle.std.specs.Prelude.{◌+◌, ◌≤◌, ◌≡◌}
+use Rattle.numbers.specs.Words.{ℕ, zero, suc, Bool, true, false, ltb, bit_of, List, length, get_or, set}
 use Rattle.lent.specs.declared.macroblocks.ModeRecord.{ModeRecord}
 use Rattle.lent.specs.Memory.{mode_found, strength_found}
 use Rattle.survey.specs.Survey.{luma_of}

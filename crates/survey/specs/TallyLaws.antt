@@ -1,5 +1,6 @@
 -- The laws of counting.
-use Rattle.numbers.specs.Words.{ℕ, zero, suc, ◌+◌, ◌-◌, ◌*◌, ◌≤◌, ◌<◌, add-one, zero-add, ℕ_discrete, arith, ◌≡◌, refl, sym, ◌∙◌, ap, subst, Bool, true, false, ◌⊎◌, inl, inr, lt_or, eq_or, eq-eqb, le-ltb, lt-ltb, ne_eqb, bit_of, List, [], ◌∷◌, ◌++◌, length, get_or, set, replicate, get_or-append, length-append, length-set, ext_get_or, get_or-append-add, get_or-set_other, get_or-set_same, set_out, build, length_build, get_or_build, get_or_constant}
+use Rattle.std.specs.Prelude.{◌+◌, ◌-◌, ◌*◌, ◌≤◌, ◌<◌, ◌≡◌, ◌⊎◌, ◌∷◌, ◌++◌}
+use Rattle.numbers.specs.Words.{ℕ, zero, suc, add-one, zero-add, ℕ_discrete, arith, refl, sym, ◌∙◌, ap, subst, Bool, true, false, inl, inr, lt_or, eq_or, eq-eqb, le-ltb, lt-ltb, ne_eqb, bit_of, List, [], length, get_or, set, replicate, get_or-append, length-append, length-set, ext_get_or, get_or-append-add, get_or-set_other, get_or-set_same, set_out, build, length_build, get_or_build, get_or_constant}
 use Rattle.lent.specs.declared.macroblocks.ModeRecord.{ModeRecord}
 use Rattle.lent.specs.declared.macroblocks.StrengthRecord.{StrengthRecord}
 use Rattle.lent.specs.Memory.{mode_found, strength_found}

@@ -1,5 +1,6 @@
 -- The laws of totals: what the tables of one picture add up to, where every value has a place in its table.
-use Rattle.numbers.specs.Words.{ℕ, zero, suc, ◌+◌, ◌*◌, ◌≤◌, ◌<◌, arith, ◌≡◌, refl, sym, ◌∙◌, ap, Bool, true, false, inl, inr, lt_or, bit_of, bit_small, List, get_or}
+use Rattle.std.specs.Prelude.{◌+◌, ◌*◌, ◌≤◌, ◌<◌, ◌≡◌}
+use Rattle.numbers.specs.Words.{ℕ, zero, suc, arith, refl, sym, ◌∙◌, ap, Bool, true, false, inl, inr, lt_or, bit_of, bit_small, List, get_or}
 use Rattle.lent.specs.Memory.{mode_found}
 use Rattle.macroblock.specs.declared.arguments.SymbolCounts.{SymbolCounts}
 use Rattle.survey.specs.Survey.{sum_to, same, how_many, segment_at, small_at, sub_mode_at, luma_of, luma_at, chroma_at, skip_at, inside_at, sub_blocks, sub_blocks_to, tallied_of, total_of}

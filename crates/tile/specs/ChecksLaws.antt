@@ -1,5 +1,6 @@
 -- What an answer of the checks of a tile says: each test and its facts, both ways; and each test as the code makes it.
-use Rattle.numbers.specs.Words.{ℕ, zero, suc, ◌+◌, ◌-◌, ◌%◌, ◌≤◌, ◌<◌, arith, ◌≡◌, refl, sym, Bool, true, false, ◌&&◌, ◌⊎◌, ⊎_elim, leb, lt_or, never, not_so, both_left, both_right, both_true, both_false, eq-eqb, eqb-true, le-leb, leb-true, lt-leb, List, length, all_below, all_below_lem}
+use Rattle.std.specs.Prelude.{◌+◌, ◌-◌, ◌%◌, ◌≤◌, ◌<◌, ◌≡◌, ◌&&◌, ◌⊎◌}
+use Rattle.numbers.specs.Words.{ℕ, zero, suc, arith, refl, sym, Bool, true, false, ⊎_elim, leb, lt_or, never, not_so, both_left, both_right, both_true, both_false, eq-eqb, eqb-true, le-leb, leb-true, lt-leb, List, length, all_below, all_below_lem}
 use Rattle.reader.specs.Reading.{valid_of}
 use Rattle.reader.specs.ReadingLaws.{valid_test, valid_fact}
 use Rattle.tile.specs.Tile.{Span, Tile, contents_of, no_span, span_at_of, side_of, sides_of, Side, Sides, count_of, Counted, inside_of, tokens_fine, partitions_of, Inside, Cut}

@@ -1,5 +1,6 @@
 -- The laws of partitions that callers cite: what a partition holds, and that the reader it starts with is in range over it.
-use Rattle.numbers.specs.Words.{ℕ, ◌+◌, ◌-◌, ◌%◌, ◌≤◌, ◌<◌, mod-lt, arith, ◌≡◌, sym, ◌∙◌, ap, ◌⊎◌, ⊎_elim, lit<, lt_or, eq-eqb, le-ltb, lt-ltb, ne_eqb, List, length, get_or, take, drop, get_or-eq_default, drop_of_length-le, length-drop, length-take, ext_get_or, get_or-drop, get_or-take, length-take-le, take_all, length_build, get_or_build}
+use Rattle.std.specs.Prelude.{◌+◌, ◌-◌, ◌%◌, ◌≤◌, ◌<◌, ◌≡◌, ◌⊎◌}
+use Rattle.numbers.specs.Words.{ℕ, mod-lt, arith, sym, ◌∙◌, ap, ⊎_elim, lit<, lt_or, eq-eqb, le-ltb, lt-ltb, ne_eqb, List, length, get_or, take, drop, get_or-eq_default, drop_of_length-le, length-drop, length-take, ext_get_or, get_or-drop, get_or-take, length-take-le, take_all, length_build, get_or_build}
 use Rattle.reader.specs.declared.boolean.Reader.{Reader}
 use Rattle.reader.specs.Reading.{first_reader, no_reader_of}
 use Rattle.reader.specs.ReadingLaws.{Bytes, Valid, first_valid}

@@ -1,5 +1,6 @@
 -- What a call is given.
-use Rattle.numbers.specs.Words.{ℕ, ◌%◌, true, false, eqb, ltb, List, get_or, take, drop, build, ◌+◌, ◌*◌, ◌/◌, ◌≤◌, ◌<◌, ◌≡◌, Bool, ◌&&◌, leb, length, all_below}
+use Rattle.std.specs.Prelude.{◌%◌, ◌+◌, ◌*◌, ◌/◌, ◌≤◌, ◌<◌, ◌≡◌, ◌&&◌}
+use Rattle.numbers.specs.Words.{ℕ, true, false, eqb, ltb, List, get_or, take, drop, build, Bool, leb, length, all_below}
 use Rattle.reader.specs.declared.boolean.Reader.{Reader}
 use Rattle.reader.specs.Reading.{first_reader, no_reader_of, valid_of, Valid}
 pub use Rattle.tile.specs.declared.Span.{Span}

@@ -1,5 +1,6 @@
 -- The laws of what C is told, of the answers as the code finds them.
-use Rattle.numbers.specs.Words.{ℕ, ◌≡◌}
+use Rattle.std.specs.Prelude.{◌≡◌}
+use Rattle.numbers.specs.Words.{ℕ}
 use Rattle.rescue.specs.declared.Rescued.{Rescued}
 use Rattle.rescue.specs.Rescue.{rescue_number_of, saved_count_of}
 use Rattle.profile.specs.declared.Profiled.{Profiled}

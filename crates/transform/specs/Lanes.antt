@@ -1,5 +1,6 @@
 -- Several blocks of sixteen numbers at once: how they stand side by side, and the residuals of 8 or 16 of them (RFC 6386, section 14.4, 4543-4610).
-use Rattle.numbers.specs.Words.{ℕ, ◌+◌, ◌*◌, ◌/◌, ◌%◌, Bool, true, false, ◌||◌, cond, eqb, List, ◌++◌, length, get_or, take, drop, build, stored_at, ℤ, pos, signed_to}
+use Rattle.std.specs.Prelude.{◌+◌, ◌*◌, ◌/◌, ◌%◌, ◌||◌, ◌++◌}
+use Rattle.numbers.specs.Words.{ℕ, Bool, true, false, cond, eqb, List, length, get_or, take, drop, build, stored_at, ℤ, pos, signed_to}
 use Rattle.transform.specs.Transform.{at, samples_of}
 
 -- ---- blocks one after the other, and by lanes

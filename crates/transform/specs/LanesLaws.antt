@@ -1,5 +1,6 @@
 -- What the proofs and callers cite of blocks by lanes and of their residuals.
-use Rattle.numbers.specs.Words.{ℕ, ◌+◌, ◌-◌, ◌*◌, ◌/◌, ◌%◌, ◌≤◌, ◌<◌, add-one, mul_comm, arith, digits_div, digits_lt, digits_mod, ◌≡◌, refl, sym, ◌∙◌, ap, ap₂, Bool, true, false, ◌&&◌, inl, inr, ⊎_elim, lt_or, eq_or, eqb-true, ne_eqb, List, [], ◌∷◌, ◌++◌, length, get_or, take, drop, replicate, get_or-append, get_or-eq_default, length-append, length-drop, take-append-drop, drop_at, get_or-append-add, get_or-drop, get_or-take, length-take-le, take_at, ◌∷≡◌, length_build, build_listed, get_or_build, built, build_same, get_or_constant, stored_at, stored_none, stored_in, stored_keeps, stored_more, stored_same, all_below, all_below_lem, ℤ, pos, negsuc, le_z, In, Each, clamp_same, signed_in}
+use Rattle.std.specs.Prelude.{◌+◌, ◌-◌, ◌*◌, ◌/◌, ◌%◌, ◌≤◌, ◌<◌, ◌≡◌, ◌&&◌, ◌∷◌, ◌++◌}
+use Rattle.numbers.specs.Words.{ℕ, add-one, mul_comm, arith, digits_div, digits_lt, digits_mod, refl, sym, ◌∙◌, ap, ap₂, Bool, true, false, inl, inr, ⊎_elim, lt_or, eq_or, eqb-true, ne_eqb, List, [], length, get_or, take, drop, replicate, get_or-append, get_or-eq_default, length-append, length-drop, take-append-drop, drop_at, get_or-append-add, get_or-drop, get_or-take, length-take-le, take_at, ◌∷≡◌, length_build, build_listed, get_or_build, built, build_same, get_or_constant, stored_at, stored_none, stored_in, stored_keeps, stored_more, stored_same, all_below, all_below_lem, ℤ, pos, negsuc, le_z, In, Each, clamp_same, signed_in}
 use Rattle.transform.specs.Transform.{Grid, at, cell, grid_of, vertical_pass, horizontal_pass, result_of, results_of, samples_of}
 use Rattle.transform.specs.TransformBounds.{numeral_in}
 use Rattle.transform.specs.TransformLaws.{CoefficientsIn, range_in, SmallIn, small_samples_in}

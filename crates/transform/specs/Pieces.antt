@@ -1,5 +1,6 @@
 -- What single functions of the code take and give, where the definitions have no name for it.
-use Rattle.numbers.specs.Words.{ℕ, ◌+◌, ◌*◌, ◌<◌, ◌≡◌, Bool, false, ◌&&◌, ◌⊎◌, List, [], ◌∷◌, build, ℤ, pos, negsuc, le_z, In}
+use Rattle.std.specs.Prelude.{◌+◌, ◌*◌, ◌<◌, ◌≡◌, ◌&&◌, ◌⊎◌, ◌∷◌}
+use Rattle.numbers.specs.Words.{ℕ, Bool, false, List, [], build, ℤ, pos, negsuc, le_z, In}
 use Rattle.transform.specs.Transform.{at, samples_of}
 use Rattle.transform.specs.Lanes.{short_residual}
 

@@ -1,7 +1,8 @@
 -- The inverse transforms of a block of 4 by 4 coefficients: RFC 6386, section 14.3, 4377-4439 (Walsh-Hadamard, for Y2) and section 14.4,
 -- 4543-4610 (DCT). A flag `walsh` says which. Every division rounds down, and nothing on the way is cut to a width; the RFC keeps 16 bits
 -- between the passes (4350-4353, 4507-4510; docs/DIFFERENCES.md).
-use Rattle.numbers.specs.Words.{ℕ, ◌+◌, ◌*◌, ◌/◌, ◌%◌, Bool, true, false, ◌&&◌, cond, List, [], ◌∷◌, get_or, replicate, build, all_below, ℤ, pos, negsuc, ◌+ℤ◌, ◌-ℤ◌, ◌*ℤ◌, le_z, shr_z, wrap_z}
+use Rattle.std.specs.Prelude.{◌+◌, ◌*◌, ◌/◌, ◌%◌, ◌&&◌, ◌∷◌, ◌+ℤ◌, ◌-ℤ◌, ◌*ℤ◌}
+use Rattle.numbers.specs.Words.{ℕ, Bool, true, false, cond, List, [], get_or, replicate, build, all_below, ℤ, pos, negsuc, le_z, shr_z, wrap_z}
 pub use Rattle.transform.specs.declared.Transformed.{Transformed}
 
 -- ---- a block as four rows of four numbers

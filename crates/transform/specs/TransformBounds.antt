@@ -1,5 +1,6 @@
 -- How far the numbers of a transform go: from a limit on what goes in follows one on what comes out, for both transforms and both passes.
-use Rattle.numbers.specs.Words.{ℕ, suc, ◌+◌, ◌*◌, ◌/◌, ◌≤◌, mul-le-mul_left, mul-le-mul_right, mul-zero, arith, Bool, true, false, ◌&&◌, T, lit<, lit≤, List, [], ◌∷◌, get_or, ℤ, pos, negsuc, neg_ℤ, ◌+ℤ◌, ◌-ℤ◌, ◌*ℤ◌, le_z, shr_z, In, Each, Each2, up, dn, to_le, of_le, add_parts, up_neg, dn_neg, sub_parts_ℤ, up_times, dn_times, shr_parts, In_wider, num, plainly, inside, know, shr, v, known, each_∷, each2_∷, wrap_in, w64}
+use Rattle.std.specs.Prelude.{◌+◌, ◌*◌, ◌/◌, ◌≤◌, ◌&&◌, ◌∷◌, ◌+ℤ◌, ◌-ℤ◌, ◌*ℤ◌}
+use Rattle.numbers.specs.Words.{ℕ, suc, mul-le-mul_left, mul-le-mul_right, mul-zero, arith, Bool, true, false, T, lit<, lit≤, List, [], get_or, ℤ, pos, negsuc, neg_ℤ, le_z, shr_z, In, Each, Each2, up, dn, to_le, of_le, add_parts, up_neg, dn_neg, sub_parts_ℤ, up_times, dn_times, shr_parts, In_wider, num, plainly, inside, know, shr, v, known, each_∷, each2_∷, wrap_in, w64}
 use Rattle.transform.specs.Transform.{Grid, cell, four, grid_column, transpose_of, scaled_of, pass_of, line_of, rows_of, vertical_pass, bias_of, horizontal_pass, result_of}
 
 -- a numeral between two others

@@ -1,5 +1,6 @@
 -- What callers cite of the inverse transforms.
-use Rattle.numbers.specs.Words.{ℕ, zero, suc, ◌+◌, ◌*◌, ◌/◌, ◌%◌, ◌≤◌, ◌<◌, ℕ_discrete, arith, ◌≡◌, refl, sym, ◌∙◌, ap, Bool, true, false, ◌&&◌, inl, inr, ltb, T, lit<, lt_or, not_so, both_left, both_right, both_true, cond_at, List, [], ◌∷◌, get_or, replicate, build, ◌∷≡◌, build_listed, get_or_build, get_or_build_past, get_or_constant, all_below, all_below_lem, ℤ, pos, negsuc, ◌+ℤ◌, ◌-ℤ◌, ◌*ℤ◌, +ℤ_idr, le_z, shr_z, In, Each, Each2, up, dn, of_le, le_true, true_le, add_parts, sub_parts_ℤ, up_times, dn_times, shr_parts, each_[], each_∷, each2_[], each2_∷, floor_is, wrap_in}
+use Rattle.std.specs.Prelude.{◌+◌, ◌*◌, ◌/◌, ◌%◌, ◌≤◌, ◌<◌, ◌≡◌, ◌&&◌, ◌∷◌, ◌+ℤ◌, ◌-ℤ◌, ◌*ℤ◌}
+use Rattle.numbers.specs.Words.{ℕ, zero, suc, ℕ_discrete, arith, refl, sym, ◌∙◌, ap, Bool, true, false, inl, inr, ltb, T, lit<, lt_or, not_so, both_left, both_right, both_true, cond_at, List, [], get_or, replicate, build, ◌∷≡◌, build_listed, get_or_build, get_or_build_past, get_or_constant, all_below, all_below_lem, ℤ, pos, negsuc, +ℤ_idr, le_z, shr_z, In, Each, Each2, up, dn, of_le, le_true, true_le, add_parts, sub_parts_ℤ, up_times, dn_times, shr_parts, each_[], each_∷, each2_[], each2_∷, floor_is, wrap_in}
 use Rattle.transform.specs.Transform.{Transformed, Grid, at, cell, four, grid_row, grid_of, transpose_of, scaled_of, pass_of, line_of, rows_of, vertical_pass, bias_of, horizontal_pass, result_of, results_of, samples_of, fits16, block_fits, transform_of}
 pub use Rattle.transform.specs.Pieces.{CoefficientsIn}
 use Rattle.transform.specs.Pieces.{PlainTo}

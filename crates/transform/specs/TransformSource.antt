@@ -1,6 +1,7 @@
 -- The definitions of vp8_transform, as its source has them: each division adds a multiple of the divisor first and takes it off again, and
 -- every number of the result is worked out by itself. They are ours, for coefficients that fit 16 bits.
-use Rattle.numbers.specs.Words.{ℕ, zero, suc, ◌+◌, ◌/◌, ◌%◌, ◌<◌, arith, ◌≡◌, refl, sym, ◌∙◌, Bool, true, false, T, lit<, List, [], ◌∷◌, get_or_build, ℤ, pos, negsuc, ◌+ℤ◌, ◌-ℤ◌, ◌*ℤ◌, le_z, quot_z, rem_z, shr_z, le_z_yes, In, of_eq, ≤ℤ-trans, add_parts, sub_parts_ℤ, times_mono, In_wider, plainly, inside, know, shr, v, known, floor16_source, floor8_source, signed16, wrapped_source, w64}
+use Rattle.std.specs.Prelude.{◌+◌, ◌/◌, ◌%◌, ◌<◌, ◌≡◌, ◌∷◌, ◌+ℤ◌, ◌-ℤ◌, ◌*ℤ◌}
+use Rattle.numbers.specs.Words.{ℕ, zero, suc, arith, refl, sym, ◌∙◌, Bool, true, false, T, lit<, List, [], get_or_build, ℤ, pos, negsuc, le_z, quot_z, rem_z, shr_z, le_z_yes, In, of_eq, ≤ℤ-trans, add_parts, sub_parts_ℤ, times_mono, In_wider, plainly, inside, know, shr, v, known, floor16_source, floor8_source, signed16, wrapped_source, w64}
 use Rattle.transform.specs.Transform.{Grid, at, cell, grid_of, transpose_of, scaled_of, pass_of, rows_of, vertical_pass, bias_of, horizontal_pass, result_of, results_of, samples_of, transform_of}
 use Rattle.transform.specs.TransformBounds.{vertical_in, horizontal_in}
 use Rattle.transform.specs.TransformLaws.{below_four, CoefficientsIn, grid_in, transform_good}

@@ -1,5 +1,6 @@
 -- How the program reads its header, fills its planes and sums them.
-use Rattle.numbers.specs.Words.{ℕ, zero, suc, ◌+◌, ◌*◌, ◌%◌, add-one, ◌≡◌, refl, List, get_or, build, ℤ, pos, ◌+ℤ◌, ◌-ℤ◌, ◌*ℤ◌}
+use Rattle.std.specs.Prelude.{◌+◌, ◌*◌, ◌%◌, ◌≡◌, ◌+ℤ◌, ◌-ℤ◌, ◌*ℤ◌}
+use Rattle.numbers.specs.Words.{ℕ, zero, suc, add-one, refl, List, get_or, build, ℤ, pos}
 use Rattle.header.specs.Header.{entry_count}
 
 -- ---- an entry of the header: two bytes, 32768 too large

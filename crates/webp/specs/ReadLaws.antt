@@ -1,5 +1,6 @@
 -- The reader's laws: what each test says, the number of the first that fails, what a file has that is not refused.
-use Rattle.numbers.specs.Words.{ℕ, ◌+◌, ◌*◌, ◌%◌, ◌≤◌, ◌<◌, arith, ◌≡◌, refl, sym, ◌∙◌, Bool, true, false, ◌&&◌, ◌||◌, ◌⊎◌, inl, inr, ⊎_elim, eqb, leb, both_left, both_right, eq-eqb, eqb-true, le-leb, leb-true, lt-leb, ne_eqb, List, length, get_or, byte_at}
+use Rattle.std.specs.Prelude.{◌+◌, ◌*◌, ◌%◌, ◌≤◌, ◌<◌, ◌≡◌, ◌&&◌, ◌||◌, ◌⊎◌}
+use Rattle.numbers.specs.Words.{ℕ, arith, refl, sym, ◌∙◌, Bool, true, false, inl, inr, ⊎_elim, eqb, leb, both_left, both_right, eq-eqb, eqb-true, le-leb, leb-true, lt-leb, ne_eqb, List, length, get_or, byte_at}
 use Rattle.webp.specs.declared.read.Found.TheVariants as F
 use Rattle.webp.specs.Webp.{uint32_at, riff, webp, vp8, four_cc_at, marked_of, sized_of, lossy_of, chunk_size, filled_of, find_refusal, found_refusal, find_of}
 

@@ -1,6 +1,7 @@
 -- RFC 9649, the simple file format (lossy): the file around one key frame, and the frame in a file. In a list of bytes a place past the
 -- end reads 0; each test asks first that the bytes are there.
-use Rattle.numbers.specs.Words.{ℕ, ◌+◌, ◌*◌, ◌/◌, ◌%◌, Bool, true, false, ◌&&◌, ◌||◌, eqb, leb, List, [], ◌∷◌, ◌++◌, length, get_or, drop, replicate, byte_at}
+use Rattle.std.specs.Prelude.{◌+◌, ◌*◌, ◌/◌, ◌%◌, ◌&&◌, ◌||◌, ◌∷◌, ◌++◌}
+use Rattle.numbers.specs.Words.{ℕ, Bool, true, false, eqb, leb, List, [], length, get_or, drop, replicate, byte_at}
 use Rattle.webp.specs.declared.read.Found.{Found}
 pub use Rattle.webp.specs.declared.write.WrapAnswer.{WrapAnswer}
 use Rattle.webp.specs.declared.read.Found.TheVariants as F

@@ -1,5 +1,6 @@
 -- Both ways: a written file is found, and a found file is the one that would be written.
-use Rattle.numbers.specs.Words.{ℕ, ◌+◌, ◌*◌, ◌/◌, ◌%◌, ◌≤◌, ◌<◌, div-add-mod, div-div-eq-div-mul, mod-eq_of_lt, arith, ◌≡◌, refl, sym, ◌∙◌, ap, Bool, true, ◌&&◌, inl, inr, ⊎_elim, eqb, leb, eq_or, both_left, both_right, both_true, eq-eqb, eqb-true, List, [], ◌∷◌, ◌++◌, append_assoc, length, get_or, take, drop, length-append, length-drop, take-append-drop, drop-drop, get_or-append-add, get_or-drop, get_or-take, length-take-le, take-append_seam, ◌∷≡◌, build_listed, built, get_or_constant, constant, byte_at}
+use Rattle.std.specs.Prelude.{◌+◌, ◌*◌, ◌/◌, ◌%◌, ◌≤◌, ◌<◌, ◌≡◌, ◌&&◌, ◌∷◌, ◌++◌}
+use Rattle.numbers.specs.Words.{ℕ, div-add-mod, div-div-eq-div-mul, mod-eq_of_lt, arith, refl, sym, ◌∙◌, ap, Bool, true, inl, inr, ⊎_elim, eqb, leb, eq_or, both_left, both_right, both_true, eq-eqb, eqb-true, List, [], append_assoc, length, get_or, take, drop, length-append, length-drop, take-append-drop, drop-drop, get_or-append-add, get_or-drop, get_or-take, length-take-le, take-append_seam, ◌∷≡◌, build_listed, built, get_or_constant, constant, byte_at}
 pub use Rattle.numbers.specs.Lists.{Bytes}
 use Rattle.webp.specs.declared.read.Found.TheVariants as F
 use Rattle.webp.specs.Webp.{uint32_at, uint32_of, riff, webp, vp8, four_cc_at, pad_of, riff_size, file_of, marked_of, sized_of, lossy_of, chunk_size, filled_of, found_refusal, find_of}

@@ -1,5 +1,6 @@
 -- Small files, one for each way through the reader: number, place and length. Proved by computation.
-use Rattle.numbers.specs.Words.{ℕ, ◌≡◌, refl, List, [], ◌∷◌, ◌++◌}
+use Rattle.std.specs.Prelude.{◌≡◌, ◌∷◌, ◌++◌}
+use Rattle.numbers.specs.Words.{ℕ, refl, List, []}
 use Rattle.webp.specs.Webp.{uint32_at, uint32_of, riff, webp, vp8, four_cc_at, file_of, marked_of, sized_of, lossy_of, filled_of, find_refusal, find_of, found_number_of, found_start_of, found_length_of}
 
 -- a row: the bytes, and what the reader must say of them

@@ -1,5 +1,6 @@
 -- What the writer of a file stores: the twenty bytes before a frame, and bytes from a place on.
-use Rattle.numbers.specs.Words.{ℕ, ◌+◌, List, ◌++◌, length, take, drop}
+use Rattle.std.specs.Prelude.{◌+◌, ◌++◌}
+use Rattle.numbers.specs.Words.{ℕ, List, length, take, drop}
 use Rattle.webp.specs.Webp.{uint32_of, riff, webp, vp8, riff_size}
 
 -- the twenty bytes before a frame of n

@@ -1,5 +1,6 @@
 -- The writer's laws: the parts of a file stored one behind the other, the answer as the code finds it, and what an answer says.
-use Rattle.numbers.specs.Words.{ℕ, zero, suc, ◌+◌, ◌-◌, ◌/◌, ◌%◌, ◌≤◌, ◌<◌, arith, ◌≡◌, refl, sym, ◌∙◌, ap, subst, ◌⊎◌, inl, inr, ⊎_elim, lt_or, le-leb, lt-leb, List, [], ◌∷◌, ◌++◌, append_assoc, append-nil, length, take, drop, replicate, drop_of_length-le, length-append, length-drop, length-replicate, drop-append-add, drop-drop, take_all, take-append_seam, take-length}
+use Rattle.std.specs.Prelude.{◌+◌, ◌-◌, ◌/◌, ◌%◌, ◌≤◌, ◌<◌, ◌≡◌, ◌⊎◌, ◌∷◌, ◌++◌}
+use Rattle.numbers.specs.Words.{ℕ, zero, suc, arith, refl, sym, ◌∙◌, ap, subst, inl, inr, ⊎_elim, lt_or, le-leb, lt-leb, List, [], append_assoc, append-nil, length, take, drop, replicate, drop_of_length-le, length-append, length-drop, length-replicate, drop-append-add, drop-drop, take_all, take-append_seam, take-length}
 use Rattle.webp.specs.declared.write.WrapAnswer.TheVariants as W
 use Rattle.webp.specs.Webp.{WrapAnswer, pad_of, riff_size, most_size, file_of, WriteEnded, written_into, wrap_of}
 unfoldable pub use Rattle.webp.specs.Write.{head_of, laid}

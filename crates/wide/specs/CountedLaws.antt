@@ -1,5 +1,6 @@
 -- The laws of grammars that count: their runs and their parts, one that counts or one whose value says what it read.
-use Rattle.numbers.specs.Words.{ℕ, suc, ◌+◌, add-suc, add-zero, arith, ◌≡◌, refl, sym, ◌∙◌, ap, Bool, List}
+use Rattle.std.specs.Prelude.{◌+◌, ◌≡◌}
+use Rattle.numbers.specs.Words.{ℕ, suc, add-suc, add-zero, arith, refl, sym, ◌∙◌, ap, Bool, List}
 use Rattle.reader.specs.declared.boolean.Reader.{Reader}
 use Rattle.reader.specs.Reading.{Given, given, missing, symbol_of, Reading, done, ask, ◌>>=◌, run, Within, ends, asks, count}
 use Rattle.reader.specs.Counts.{Costs}

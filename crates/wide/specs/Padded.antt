@@ -1,5 +1,6 @@
 -- A grammar over bytes with zero padding: each symbol by the rule of `symbol_of` without its refusal, so every run ends in a value.
-use Rattle.numbers.specs.Words.{ℕ, ◌+◌, ◌-◌, ◌*◌, Bool, leb, List}
+use Rattle.std.specs.Prelude.{◌+◌, ◌-◌, ◌*◌}
+use Rattle.numbers.specs.Words.{ℕ, Bool, leb, List}
 use Rattle.reader.specs.declared.boolean.Reader.{Reader}
 use Rattle.reader.specs.Reading.{split_of, chosen_of, grow, Reading, done, ask}
 

@@ -1,5 +1,6 @@
 -- The laws of runs over padded bytes. THE LAW is `padded_run`: where such a run ends inside the partition, the run that refuses gives the same.
-use Rattle.numbers.specs.Words.{ℕ, zero, suc, ◌+◌, ◌-◌, ◌*◌, ◌≤◌, ◌<◌, arith, ◌≡◌, refl, ◌∙◌, Bool, true, false, ⊎_elim, lt_or, eq_or, le-leb, List, length, get_or}
+use Rattle.std.specs.Prelude.{◌+◌, ◌-◌, ◌*◌, ◌≤◌, ◌<◌, ◌≡◌}
+use Rattle.numbers.specs.Words.{ℕ, zero, suc, arith, refl, ◌∙◌, Bool, true, false, ⊎_elim, lt_or, eq_or, le-leb, List, length, get_or}
 use Rattle.reader.specs.declared.boolean.Reader.{Reader}
 use Rattle.reader.specs.Reading.{given, split_of, chosen_of, shifted, loaded, grow, decided_of, symbol_of, Reading, done, ask, ◌>>=◌, run, Within, ends, asks}
 use Rattle.reader.specs.ReadingLaws.{grow_stop, grow_shift, grow_load, split_is, decided_fact, symbol_is, run_done, run_got}

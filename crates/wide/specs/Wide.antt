@@ -1,6 +1,7 @@
 -- The boolean decoder of RFC 6386, section 7.3, 1239-1313, with a window of 64 bits: what its calls give, for every input. Arithmetic wraps
 -- as the code's does. `top` is the RFC's range less one; the RFC's value is the top of `value`, its bit_count stands in `count`.
-use Rattle.numbers.specs.Words.{ℕ, ◌+◌, ◌-◌, ◌*◌, ◌/◌, ◌%◌, ◌^◌, bit_xor, count_leading_zeros, Bool, true, false, ltb, leb, bit_of, List, length, get_or}
+use Rattle.std.specs.Prelude.{◌+◌, ◌-◌, ◌*◌, ◌/◌, ◌%◌, ◌^◌}
+use Rattle.numbers.specs.Words.{ℕ, bit_xor, count_leading_zeros, Bool, true, false, ltb, leb, bit_of, List, length, get_or}
 use Rattle.reader.specs.declared.boolean.Reader.{Reader}
 pub use Rattle.wide.specs.declared.wide.Wide.{Wide}
 pub use Rattle.wide.specs.declared.wide.Bit.{Bit}

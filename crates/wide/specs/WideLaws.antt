@@ -1,5 +1,6 @@
 -- The wide reader stands for a reader of sixteen bits over padded bytes: `Sim`, and that each call keeps it.
-use Rattle.numbers.specs.Words.{ℕ, zero, suc, ◌+◌, ◌-◌, ◌*◌, ◌/◌, ◌%◌, ◌^◌, ◌≤◌, ◌<◌, add-mul-mod_self_right, div-one, le_of_mul-le-mul_right, mod-add-div', mod-eq_of_lt, mod-le, mod-lt, mul-le-mul, mul-le-mul_right, mul-lt-mul_of_pos_right, mul-one, sub-add_cancel, arith, field, high, pow-add, pow_pos, shl-shr, shr-shr, split, bit_xor, xor_block, xor_lt, xor_self, xor_zero_r, count_leading_zeros, leading_le, leading_top, leading_unique, twice, doubled, halved, mod_scale, cases8, ◌≡◌, ◌≢◌, refl, sym, ◌∙◌, ap, subst, Bool, true, false, ⊎_elim, ltb, lit<, lt_or, eq_or, le-leb, le-ltb, leb-true, lt-leb, lt-ltb, ltb-true, bit_of, List, length, get_or, bool_byte}
+use Rattle.std.specs.Prelude.{◌+◌, ◌-◌, ◌*◌, ◌/◌, ◌%◌, ◌^◌, ◌≤◌, ◌<◌, ◌≡◌, ◌≢◌}
+use Rattle.numbers.specs.Words.{ℕ, zero, suc, add-mul-mod_self_right, div-one, le_of_mul-le-mul_right, mod-add-div', mod-eq_of_lt, mod-le, mod-lt, mul-le-mul, mul-le-mul_right, mul-lt-mul_of_pos_right, mul-one, sub-add_cancel, arith, field, high, pow-add, pow_pos, shl-shr, shr-shr, split, bit_xor, xor_block, xor_lt, xor_self, xor_zero_r, count_leading_zeros, leading_le, leading_top, leading_unique, twice, doubled, halved, mod_scale, cases8, refl, sym, ◌∙◌, ap, subst, Bool, true, false, ⊎_elim, ltb, lit<, lt_or, eq_or, le-leb, le-ltb, leb-true, lt-leb, lt-ltb, ltb-true, bit_of, List, length, get_or, bool_byte}
 use Rattle.reader.specs.declared.boolean.Reader.{Reader}
 use Rattle.reader.specs.Reading.{split_of, chosen_of, shifted, loaded, grow, decided_of}
 use Rattle.reader.specs.ReadingLaws.{Bytes, Valid, grow_stop, grow_shift, grow_load, split_is}

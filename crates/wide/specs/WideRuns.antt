@@ -1,5 +1,6 @@
 -- Code over a wide reader, one question of its grammar after another: what its contract says (`Reads`), and the steps of its proof (`Going`).
-use Rattle.numbers.specs.Words.{ℕ, suc, ◌+◌, ◌-◌, ◌*◌, ◌^◌, ◌≤◌, ◌<◌, arith, pow-add, pow_mono, ◌≡◌, refl, sym, ◌∙◌, ap, Bool, true, false, ⊎_elim, lt_or, le-leb, lt-leb, bit_small, List, length, get_or, drop, ℤ}
+use Rattle.std.specs.Prelude.{◌+◌, ◌-◌, ◌*◌, ◌^◌, ◌≤◌, ◌<◌, ◌≡◌}
+use Rattle.numbers.specs.Words.{ℕ, suc, arith, pow-add, pow_mono, refl, sym, ◌∙◌, ap, Bool, true, false, ⊎_elim, lt_or, le-leb, lt-leb, bit_small, List, length, get_or, drop, ℤ}
 use Rattle.reader.specs.declared.trees.Branch.TheVariants as B
 use Rattle.reader.specs.declared.boolean.Reader.{Reader}
 use Rattle.reader.specs.Reading.{given, Reading, done, ask, ◌>>=◌, run, Within}

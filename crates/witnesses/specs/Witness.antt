@@ -1,7 +1,8 @@
 -- The promises are not about nothing: small tiles of one macroblock in each row, whose calls are computed. Two of two rows differ in the first byte of
 -- token partition 1, and in a third that partition was cut away: they meet every hypothesis of demand 3, so their first rows come out the same, and the
 -- row below differs. One stops by 6, one by 7.
-use Rattle.numbers.specs.Words.{ℕ, zero, suc, ◌+◌, ◌*◌, ◌<◌, arith, ◌≡◌, refl, true, ltb, ltb-true, List, [], ◌∷◌, ◌++◌, length, replicate, build, placed, copied, all_of, all_of_any, ℤ, pos, clamp_z, up_to, wrap_z}
+use Rattle.std.specs.Prelude.{◌+◌, ◌*◌, ◌<◌, ◌≡◌, ◌∷◌, ◌++◌}
+use Rattle.numbers.specs.Words.{ℕ, zero, suc, arith, refl, true, ltb, ltb-true, List, [], length, replicate, build, placed, copied, all_of, all_of_any, ℤ, pos, clamp_z, up_to, wrap_z}
 use Rattle.reader.specs.Reading.{Bytes, valid_of, first_reader, symbol_of, split_of, grow, decided_of, run}
 use Rattle.lent.specs.Memory.{Memory, memory_of, long_of, sizes_fine_of, record_at, record_set}
 use Rattle.tile.specs.Tile.{span_at_of, contents_of, pick_of, reader_of_of, readers_of, side_of, sides_of, count_of, inside_of, tokens_fine, partitions_of}

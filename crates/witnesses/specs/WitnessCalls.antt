@@ -1,6 +1,7 @@
 -- No group of promises is about nothing: one small call of each, computed. Tiles and memory are those of Witness; files are in webp's own table
 -- (crates/webp/specs/Worked.antt).
-use Rattle.numbers.specs.Words.{ℕ, ◌+◌, ◌≡◌, refl, true, false, List, [], ◌∷◌, ◌++◌, get_or, replicate, build, placed, copied, clamp_z, up_to, wrap_z}
+use Rattle.std.specs.Prelude.{◌+◌, ◌≡◌, ◌∷◌, ◌++◌}
+use Rattle.numbers.specs.Words.{ℕ, refl, true, false, List, [], get_or, replicate, build, placed, copied, clamp_z, up_to, wrap_z}
 use Rattle.reader.specs.Reading.{valid_of, symbol_of, split_of, grow, decided_of, run}
 use Rattle.lent.specs.Memory.{long_of, sizes_fine_of, record_at, record_set}
 use Rattle.tile.specs.Tile.{span_at_of, contents_of, pick_of, reader_of_of, readers_of, side_of, sides_of, count_of, inside_of, tokens_fine, partitions_of}

@@ -1,6 +1,7 @@
 -- The bounds of M-103 are reached, each by a tile of one macroblock: 119 symbols of the first partition, 7,296 of a token partition; and a tile is
 -- surveyed. Computed.
-use Rattle.numbers.specs.Words.{◌+◌, add-zero, ◌≡◌, refl, sym, ◌∙◌, ap, List, [], ◌∷◌, ◌++◌, get_or, replicate, build, placed, copied, ℤ, pos, clamp_z, up_to, wrap_z}
+use Rattle.std.specs.Prelude.{◌+◌, ◌≡◌, ◌∷◌, ◌++◌}
+use Rattle.numbers.specs.Words.{add-zero, refl, sym, ◌∙◌, ap, List, [], get_or, replicate, build, placed, copied, ℤ, pos, clamp_z, up_to, wrap_z}
 use Rattle.reader.specs.Reading.{valid_of, symbol_of, split_of, grow, decided_of, trace, count, run}
 use Rattle.lent.specs.Memory.{long_of, sizes_fine_of, record_at, record_set, record_found}
 use Rattle.tile.specs.Tile.{span_at_of, contents_of, pick_of, reader_of_of, readers_of, side_of, sides_of, count_of, inside_of, tokens_fine, partitions_of}

@@ -1,5 +1,6 @@
 -- A key frame of 16 by 16 samples that is taken, and the same cut in its token partition: computed. So what is promised of frames is not about nothing.
-use Rattle.numbers.specs.Words.{ℕ, zero, suc, ◌*◌, ◌/◌, arith, ◌≡◌, refl, sym, ◌∙◌, ap, List, [], ◌∷◌, ◌++◌, get_or, replicate, build, get_or_constant, pos}
+use Rattle.std.specs.Prelude.{◌*◌, ◌/◌, ◌≡◌, ◌∷◌, ◌++◌}
+use Rattle.numbers.specs.Words.{ℕ, zero, suc, arith, refl, sym, ◌∙◌, ap, List, [], get_or, replicate, build, get_or_constant, pos}
 use Rattle.reader.specs.Reading.{symbol_of, split_of, grow, decided_of, run}
 use Rattle.reader.specs.Extra.{extra_from}
 use Rattle.tile.specs.Tile.{span_at_of, contents_of}

@@ -1,5 +1,6 @@
 -- The number that a list of symbols is coded as, exactly: each symbol narrows an interval, and the code is the last interval's bottom.
-use Rattle.numbers.specs.Words.{ℕ, zero, suc, ◌+◌, ◌*◌, ◌^◌, true, false, ltb, List, [], ◌∷◌}
+use Rattle.std.specs.Prelude.{◌+◌, ◌*◌, ◌^◌, ◌∷◌}
+use Rattle.numbers.specs.Words.{ℕ, zero, suc, true, false, ltb, List, []}
 use Rattle.reader.specs.Reading.{split_of, CodedSymbol}
 use Rattle.writer.specs.Encoder.{offset_of, width_of}
 

@@ -1,5 +1,6 @@
 -- Decoder and code: a reader whose window and remaining bytes hold the code of some symbols answers them, and misses none.
-use Rattle.numbers.specs.Words.{ℕ, zero, suc, ◌+◌, ◌-◌, ◌*◌, ◌%◌, ◌^◌, ◌≤◌, ◌<◌, add-one, lt_of_mul-lt-mul_right, mod-eq_of_lt, mul_comm, mul-le-mul_right, mul-lt-mul_of_pos_right, mul-one, pow-succ', suc-add, zero-add, arith, pow-add, pow_pos, twice, doubled, cases8, ◌≡◌, refl, sym, ◌∙◌, ap, subst, Bool, true, false, ⊎_elim, leb, lt_or, eq_or, eq-eqb, le-leb, le-ltb, lt-leb, lt-ltb, List, [], ◌∷◌, length, get_or, drop, get_or-eq_default, drop_of_length-le, drop-cons}
+use Rattle.std.specs.Prelude.{◌+◌, ◌-◌, ◌*◌, ◌%◌, ◌^◌, ◌≤◌, ◌<◌, ◌≡◌, ◌∷◌}
+use Rattle.numbers.specs.Words.{ℕ, zero, suc, add-one, lt_of_mul-lt-mul_right, mod-eq_of_lt, mul_comm, mul-le-mul_right, mul-lt-mul_of_pos_right, mul-one, pow-succ', suc-add, zero-add, arith, pow-add, pow_pos, twice, doubled, cases8, refl, sym, ◌∙◌, ap, subst, Bool, true, false, ⊎_elim, leb, lt_or, eq_or, eq-eqb, le-leb, le-ltb, lt-leb, lt-ltb, List, [], length, get_or, drop, get_or-eq_default, drop_of_length-le, drop-cons}
 use Rattle.reader.specs.declared.boolean.Reader.{Reader}
 use Rattle.reader.specs.Reading.{given, split_of, chosen_of, shifted, loaded, grow, decided_of, symbol_of, CodedSymbol, Answers, none, more}
 use Rattle.reader.specs.ReadingLaws.{Bytes, Valid, grow_shift, grow_load, grow_stop, split_is, decided_inside, decided_edge, symbol_is, symbol_valid, Each, nil, cons, Byte}

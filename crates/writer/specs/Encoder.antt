@@ -1,5 +1,6 @@
 -- The boolean encoder (RFC 6386, section 7.3).
-use Rattle.numbers.specs.Words.{ℕ, zero, suc, ◌+◌, ◌-◌, ◌*◌, ◌/◌, ◌%◌, ◌^◌, Bool, true, false, eqb, ltb, leb, List, [], ◌∷◌, ◌++◌, length, get_or, set}
+use Rattle.std.specs.Prelude.{◌+◌, ◌-◌, ◌*◌, ◌/◌, ◌%◌, ◌^◌, ◌∷◌, ◌++◌}
+use Rattle.numbers.specs.Words.{ℕ, zero, suc, Bool, true, false, eqb, ltb, leb, List, [], length, get_or, set}
 use Rattle.reader.specs.Reading.{split_of, CodedSymbol}
 
 -- the RFC's bool_encoder (7.3, 1131-1137): the bytes written, `range`, `bottom` (32 bits), `count` its bit_count

@@ -1,6 +1,7 @@
 -- The encoder writes the code: its bytes, with `bottom` after them, are the exact bottom of the interval, whatever was carried. So what it
 -- writes is read back.
-use Rattle.numbers.specs.Words.{ℕ, zero, suc, ◌+◌, ◌-◌, ◌*◌, ◌/◌, ◌%◌, ◌^◌, max, ◌≤◌, ◌<◌, lt_of_mul-lt-mul_right, mul-lt-mul_of_pos_right, mul-one, pow-succ', arith, pow-add, pow_mono, pow_pos, twice, doubled, ◌≡◌, ◌≢◌, refl, sym, ◌∙◌, ap, subst, Bool, true, false, ⊎_elim, leb, lt_or, eq_or, eq-eqb, le-leb, le-ltb, lt-leb, lt-ltb, ne_eqb, List, [], ◌∷◌, ◌++◌, length, length-append}
+use Rattle.std.specs.Prelude.{◌+◌, ◌-◌, ◌*◌, ◌/◌, ◌%◌, ◌^◌, ◌≤◌, ◌<◌, ◌≡◌, ◌≢◌, ◌∷◌, ◌++◌}
+use Rattle.numbers.specs.Words.{ℕ, zero, suc, max, lt_of_mul-lt-mul_right, mul-lt-mul_of_pos_right, mul-one, pow-succ', arith, pow-add, pow_mono, pow_pos, twice, doubled, refl, sym, ◌∙◌, ap, subst, Bool, true, false, ⊎_elim, leb, lt_or, eq_or, eq-eqb, le-leb, le-ltb, lt-leb, lt-ltb, ne_eqb, List, [], length, length-append}
 use Rattle.reader.specs.declared.boolean.Reader.{Reader}
 use Rattle.reader.specs.Reading.{split_of, first_reader, given, Reading, run, Within, CodedSymbol, trace}
 use Rattle.reader.specs.ReadingLaws.{Bytes, Valid, first_valid, split_is, Each, nil, cons, Byte, trace_bytes, recoded}

@@ -1,6 +1,7 @@
 -- The writer is the RFC's encoder: its numbers are, whatever the room; and as long as the room suffices, so are the bytes at its start, and
 -- what lies behind them has not changed. Over too small a room nothing is said of the bytes, but the writer counts on.
-use Rattle.numbers.specs.Words.{ℕ, suc, ◌+◌, ◌-◌, ◌*◌, ◌/◌, ◌%◌, ◌^◌, ◌≤◌, ◌<◌, add-one, mod-lt, mul-div-mul_right, mul-le-mul, mul-lt-mul_of_pos_right, arith, pow-add, pow_mono, pow_pos, twice, doubled, doubled_less, ◌≡◌, refl, sym, ◌∙◌, ap, subst, Bool, true, ⊎_elim, leb, lt_or, le-leb, lt-leb, List, [], ◌∷◌, ◌++◌, length, get_or, set, take, drop, length-append, length-set, append_snoc, drop-append-add, drop-cons, drop-drop, length-sets, set_at, sets, sets-eq, take-append_seam}
+use Rattle.std.specs.Prelude.{◌+◌, ◌-◌, ◌*◌, ◌/◌, ◌%◌, ◌^◌, ◌≤◌, ◌<◌, ◌≡◌, ◌∷◌, ◌++◌}
+use Rattle.numbers.specs.Words.{ℕ, suc, add-one, mod-lt, mul-div-mul_right, mul-le-mul, mul-lt-mul_of_pos_right, arith, pow-add, pow_mono, pow_pos, twice, doubled, doubled_less, refl, sym, ◌∙◌, ap, subst, Bool, true, ⊎_elim, leb, lt_or, le-leb, lt-leb, List, [], length, get_or, set, take, drop, length-append, length-set, append_snoc, drop-append-add, drop-cons, drop-drop, length-sets, set_at, sets, sets-eq, take-append_seam}
 use Rattle.reader.specs.Reading.{split_of, CodedSymbol}
 use Rattle.reader.specs.ReadingLaws.{split_is, Byte}
 use Rattle.wide.specs.Wide.{less32, doublings_of}

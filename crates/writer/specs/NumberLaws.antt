@@ -1,5 +1,6 @@
 -- Bytes as a number: joined, changed at a place, and one more by a carry.
-use Rattle.numbers.specs.Words.{ℕ, zero, suc, ◌+◌, ◌-◌, ◌*◌, ◌^◌, ◌≤◌, ◌<◌, mul_assoc, pow-succ', arith, ◌≡◌, refl, sym, ◌∙◌, ap, ⊎_elim, eq_or, eq-eqb, ne_eqb, List, [], ◌∷◌, ◌++◌, length, get_or, set, take, drop, length-drop, length-set, drop-cons, drop-length, take-length, take-set-le, take-suc, set_keeps}
+use Rattle.std.specs.Prelude.{◌+◌, ◌-◌, ◌*◌, ◌^◌, ◌≤◌, ◌<◌, ◌≡◌, ◌∷◌, ◌++◌}
+use Rattle.numbers.specs.Words.{ℕ, zero, suc, mul_assoc, pow-succ', arith, refl, sym, ◌∙◌, ap, ⊎_elim, eq_or, eq-eqb, ne_eqb, List, [], length, get_or, set, take, drop, length-drop, length-set, drop-cons, drop-length, take-length, take-set-le, take-suc, set_keeps}
 use Rattle.reader.specs.ReadingLaws.{Bytes}
 use Rattle.writer.specs.Code.{size, number}
 use Rattle.writer.specs.Encoder.{add_one_of}

@@ -1,6 +1,7 @@
 -- The encoder as the code has it (RFC 6386, section 7.3): its four numbers by value, and beside them the room that is lent, where what it
 -- writes stands from the start on. What lies past the room's end is not written; the four numbers go on all the same.
-use Rattle.numbers.specs.Words.{ℕ, ◌+◌, ◌-◌, ◌*◌, ◌/◌, ◌%◌, ◌^◌, ◌≤◌, ◌<◌, Bool, true, false, ◌&&◌, ltb, leb, List, set}
+use Rattle.std.specs.Prelude.{◌+◌, ◌-◌, ◌*◌, ◌/◌, ◌%◌, ◌^◌, ◌≤◌, ◌<◌, ◌&&◌}
+use Rattle.numbers.specs.Words.{ℕ, Bool, true, false, ltb, leb, List, set}
 use Rattle.wide.specs.Wide.{less32, doublings_of}
 pub use Rattle.writer.specs.declared.Writer.{Writer}
 use Rattle.writer.specs.Encoder.{add_one_of}

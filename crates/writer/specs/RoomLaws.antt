@@ -1,5 +1,6 @@
 -- The laws of the writer and its room, as the code makes them.
-use Rattle.numbers.specs.Words.{ℕ, zero, suc, ◌+◌, ◌-◌, ◌*◌, ◌/◌, ◌%◌, ◌^◌, ◌≤◌, ◌<◌, div-add-mod', arith, ◌≡◌, refl, sym, ◌∙◌, ap, subst, Bool, true, false, ◌&&◌, ⊎_elim, ltb, leb, eq_or, both_left, both_right, both_true, eq-eqb, le-leb, leb-true, lt-leb, lt-ltb, ltb-true, ne_eqb, List, ◌++◌, length, get_or, set, get_or-append, get_or-eq_default, length-set, set-append_left, set_out}
+use Rattle.std.specs.Prelude.{◌+◌, ◌-◌, ◌*◌, ◌/◌, ◌%◌, ◌^◌, ◌≤◌, ◌<◌, ◌≡◌, ◌&&◌, ◌++◌}
+use Rattle.numbers.specs.Words.{ℕ, zero, suc, div-add-mod', arith, refl, sym, ◌∙◌, ap, subst, Bool, true, false, ⊎_elim, ltb, leb, eq_or, both_left, both_right, both_true, eq-eqb, le-leb, leb-true, lt-leb, lt-ltb, ltb-true, ne_eqb, List, length, get_or, set, get_or-append, get_or-eq_default, length-set, set-append_left, set_out}
 use Rattle.wide.specs.Wide.{less32, doublings_of}
 use Rattle.writer.specs.Encoder.{add_one_of, carried}
 use Rattle.writer.specs.NumberLaws.{length_add_one}

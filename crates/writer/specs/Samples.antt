@@ -1,5 +1,6 @@
 -- The definition computed: bytes of a small list, as the RFC's C program writes them; and a carry through two bytes of 255.
-use Rattle.numbers.specs.Words.{ℕ, ◌≡◌, refl, Bool, true, false, [], ◌∷◌}
+use Rattle.std.specs.Prelude.{◌≡◌, ◌∷◌}
+use Rattle.numbers.specs.Words.{ℕ, refl, Bool, true, false, []}
 use Rattle.reader.specs.Reading.{split_of, CodedSymbol}
 use Rattle.writer.specs.Encoder.{add_one_of, carried, shift_out, emit, write_of, write_all, flush_of, encode_of}
 

@@ -1,5 +1,6 @@
 -- The shifts of a symbol all at once. While the count lasts they move `bottom` and nothing else; the one that ends it writes a byte.
-use Rattle.numbers.specs.Words.{ℕ, zero, suc, ◌+◌, ◌-◌, ◌*◌, ◌/◌, ◌%◌, ◌^◌, ◌≤◌, ◌<◌, div-add-mod', mul-div-mul_right, mul-le-mul, mul-one, arith, pow_mono, twice, doubled, doubled_less, halved, ◌≡◌, ◌≢◌, refl, sym, ◌∙◌, ap, Bool, true, false, ⊎_elim, leb, lt_or, eq_or, eq-eqb, le-ltb, lt-leb, lt-ltb, ne_eqb, [], ◌∷◌, ◌++◌}
+use Rattle.std.specs.Prelude.{◌+◌, ◌-◌, ◌*◌, ◌/◌, ◌%◌, ◌^◌, ◌≤◌, ◌<◌, ◌≡◌, ◌≢◌, ◌∷◌, ◌++◌}
+use Rattle.numbers.specs.Words.{ℕ, zero, suc, div-add-mod', mul-div-mul_right, mul-le-mul, mul-one, arith, pow_mono, twice, doubled, doubled_less, halved, refl, sym, ◌∙◌, ap, Bool, true, false, ⊎_elim, leb, lt_or, eq_or, eq-eqb, le-ltb, lt-leb, lt-ltb, ne_eqb, []}
 use Rattle.reader.specs.Reading.{split_of}
 use Rattle.wide.specs.Wide.{less32, doublings_of}
 use Rattle.wide.specs.WideLaws.{lifts}
