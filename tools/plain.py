@@ -16,7 +16,8 @@ In the sources and in the specs (crates/*/specs):
 - a name of another module is brought by a `use` line, never written by its whole path;
 - `◌≡◌` is that of Rattle.std.specs.Prelude, and no operator of ours has `≡` for a part; a symbol of the kit's comes from one module of the kit's, and none
   of ours is spelled like it, nor like a name that every file has. In sources every symbol is the kit's;
-- specs name the kit through crates/numbers/specs/Words.antt, which hands its names on and holds nothing else;
+- specs have the kit's operators straight from its Prelude, as `rt ci` wants, and its other names through crates/numbers/specs/Words.antt, which hands
+  them on and holds nothing else;
 - a file of specs stands in specs/ itself, a module of Lib.antt.
 Exit status 1 where something is not so.
 """
@@ -99,7 +100,8 @@ def in_modules():
 
 def kit_by_words(file, text):
     for line, m in uses(file, text) if crate_of(file) != "numbers" else []:
-        if m and re.match(KIT, m.group("module")):
+        straight = m and m.group("module") == "Rattle.std.specs.Prelude" and all(symbol(name) for name in names_of(m))
+        if m and re.match(KIT, m.group("module")) and not straight:
             yield f"{line}: a name of the kit's, and not through crates/numbers/specs/Words.antt"
 
 
