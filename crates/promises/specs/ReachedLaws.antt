@@ -126,5 +126,5 @@ pub record Latest (P : Picture) (S₀ : State) (k : ℕ) (S : State) : Type 0 wh
   pub step : step_at P k found ≡ finished made
   pub next : S ≡ next_of P k found made
 
-pub latest : {P : Picture} {S₀ S : State} {k : ℕ} → Reached P S₀ (suc k) S → Latest P S₀ k S
+pub latest : {P : Picture} {S₀ : State} {k : ℕ} {S : State} → Reached P S₀ (suc k) S → Latest P S₀ k S
 latest (after {S} {x} r e) = record { found = S; made = x; reached = r; step = e; next = refl }
