@@ -175,7 +175,8 @@ module _ (p : ℕ) (b c : List ℕ) (y : Bytes b) (z : Bytes c) (a : AlikeFrames
       ap (λ (k : Taken). sample_at (plane a (deblock_of (planes_in e) e.strengths k.answer.tile.width k.answer.tile.height answer.simple).planes) (k.answer.tile.width / 16 * plane_side a) x r) (sym one) in
       let samples : (v : Bool) → present_at_of header₂ frame_level ≡ v → (a : Plane) (x r : ℕ) → x < wide * plane_side a → r + 3 < p * plane_side a
       → sample_of wide a x r (frame_filtered header₂ answer (picture_of (frame_call b) m).mem) ≡ sample_of wide a x r (frame_filtered header₂ answer (picture_of second n).mem) =
-      λ v. elim v [
+      λ v. elim v as (λ w. present_at_of header₂ frame_level ≡ w → (a : Plane) (x r : ℕ) → x < wide * plane_side a → r + 3 < p * plane_side a
+      → sample_of wide a x r (frame_filtered header₂ answer (picture_of (frame_call b) m).mem) ≡ sample_of wide a x r (frame_filtered header₂ answer (picture_of second n).mem)) [
         | true ↦ λ g a x r h l. sample_on header₂ answer (picture_of (frame_call b) m).mem wide g a x r ∙ d.samples a x r h l ∙ sides a x r ∙ sym (sample_on header₂ answer (picture_of second n).mem wide g a x r)
         | false ↦ λ g a x r h l. ap (sample_of wide a x r) (all_off header₂ answer (picture_of (frame_call b) m).mem wide g) ∙ i.samples a x r h (omega arith) ∙ sym (ap (sample_of wide a x r) (all_off header₂ answer (picture_of second n).mem wide g))
       ] in
