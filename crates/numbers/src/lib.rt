@@ -72,5 +72,7 @@ pub fn copy(from: &[u8], to: &mut [u8])
     ensures { to.new ≡ copied_over from.now to.old }
 {
     let n = from.len().min(to.len());
-    to[..n].copy_from_slice(&from[..n]);
+    for i in 0..n {
+        to[i] = from[i];
+    }
 }
