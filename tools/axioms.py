@@ -1,7 +1,7 @@
 #!/usr/bin/env python3
 """Nothing is assumed in the archive: tools/axioms.py LOG. LOG is what `rt lib` printed. Its last `logic=` line says `proved` and has no field but
 those below: `axioms=` counts what the proofs assume in the whole graph, `foreign=` names C functions. What is trusted there is the kit's own work and
-what an earlier check kept: `rt ci` proves all of it anew. tools/archive.sh runs it."""
+what an earlier check kept; `rt ci` proves from nothing whatever it has not passed on the machine before. tools/archive.sh runs it."""
 import re
 import sys
 
