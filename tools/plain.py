@@ -27,7 +27,8 @@ import sys
 from sources import FUNCTION, KIT, ROOT, SAME, Fault, blanked, modules, rust_uses, words
 
 SOURCES = sorted((ROOT / "crates").glob("*/src/**/*.rt"))
-SPECS = sorted((ROOT / "crates").glob("*/specs/**/*.antt"))
+# The theorems of crate promises that stand in proofs/ are read as those in specs/.
+SPECS = sorted([*(ROOT / "crates").glob("*/specs/**/*.antt"), *(ROOT / "crates/promises/proofs").glob("*.antt")])
 USE = re.compile(r"(?P<module>[^\s{}*]+?)(?:\.\{(?P<names>[^{}]*)\}| as (?P<alias>\w+))?")
 # a `use` line of specs, and one of a source's clauses
 LINES = {".antt": re.compile(r"^( *)(?:unfoldable )?(?:pub )?use (.*?)$", re.M), ".rt": re.compile(r"^( *)ghost use (.*?);?$", re.M)}
@@ -106,7 +107,7 @@ def kit_by_words(file, text):
 
 
 def below(file, text):
-    if file.parent.name != "specs" or (file.stem != "Lib" and re.search(r"^\s*(?:pub )?mod ", text, re.M)):
+    if file.parent.name not in ("specs", "proofs") or (file.stem != "Lib" and re.search(r"^\s*(?:pub )?mod ", text, re.M)):
         yield "a module below another: the scripts do not follow it"
 
 

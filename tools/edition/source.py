@@ -146,12 +146,12 @@ class Specs:
     """All specs files, and what their names stand for."""
 
     def __init__(self):
-        self.files = {f.key: f for f in (File(p) for p in sorted((ROOT / "crates").glob("*/specs/*.antt")))}
+        self.files = {f.key: f for f in (File(p) for p in sorted([*(ROOT / "crates").glob("*/specs/*.antt"), *(ROOT / "crates/promises/proofs").glob("*.antt")]))}
         self.crates, self.declared = {f.crate for f in self.files.values()}, {}
 
     def find(self, module, word):
         """What `word` of a module is: an item, a declared type, or a name of the kit."""
-        m = re.match(r"Rattle\.(\w+)\.specs\.(?:(declared)\.)?(\S+)$", module)
+        m = re.match(r"Rattle\.(\w+)\.(?:specs|proofs)\.(?:(declared)\.)?(\S+)$", module)
         if not m or m.group(1) not in self.crates:
             return Kit(SAME.get(module, module), word)
         crate, declared, rest = m.groups()

@@ -203,7 +203,7 @@ module _ (p : ℕ) (t u : Call) (m n : Memory) (a : Alike p t u) (e : Fine t m) 
         ∙ sym (rest_keeps y (mode_byte (k * mode_width + i)) few q.reached (λ j g v. keeps_mode y j v (k * mode_width + i) (inl (omega arith))))
         ∙ sym (ap (λ (E : Ended). mode_byte (k * mode_width + i) E.mem) (fine_is u n f))
 
-  both_calls : Bytes t.bytes → Bytes u.bytes → Isolated p t u m n
+  pub both_calls : Bytes t.bytes → Bytes u.bytes → Isolated p t u m n
   both_calls b d =
       let z = sound t m b e in
       let y = sound u n d f in
@@ -224,9 +224,3 @@ module _ (p : ℕ) (t u : Call) (m n : Memory) (a : Alike p t u) (e : Fine t m) 
         no_difference = nothing_differs;
         ignored = past_count;
       }
-
--- DEMAND 3: for any two tiles alike in all but token partition p, whatever its start, length and bytes, with any old contents in memory, neither being
--- refused. As it was written, partition p is as long in both: less is asked here.
--- That the bytes are bytes is what the call's type says
-pub isolated : (p : ℕ) (t u : Call) (m n : Memory) → Alike p t u → Fine t m → Fine u n → Bytes t.bytes → Bytes u.bytes → Isolated p t u m n
-isolated = both_calls

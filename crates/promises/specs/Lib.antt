@@ -24,9 +24,7 @@ pub mod RecodedFrame
 pub mod Encoded
 pub mod RecodeCalled
 pub mod Deblocked
-pub mod DeblockedLaws
 pub mod KeyFrame
-pub mod KeyFrameLaws
 pub mod Packed
 pub mod PackedLaws
 pub mod Segments
@@ -34,13 +32,9 @@ pub mod SegmentsLaws
 pub mod Numbers
 pub mod NumbersLaws
 pub mod Called
-pub mod CalledLaws
 pub mod HaltedLaws
 pub mod Rescue
-pub mod RescueLaws
 pub mod Remade
-pub mod RemadeLaws
-pub mod RescueDeblockedLaws
 pub mod Profile
 pub mod ProfileLaws
 pub mod Survey

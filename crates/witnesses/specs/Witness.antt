@@ -27,7 +27,7 @@ use Rattle.predict.specs.Predict.{dc_block_of, sum_of_first}
 use Rattle.transform.specs.Transform.{grid_of, transpose_of, scaled_of, pass_of, rows_of, vertical_pass, horizontal_pass, results_of, samples_of}
 use Rattle.promises.specs.Refusals.{Fine, fine_is}
 use Rattle.promises.specs.Isolation.{SameTokens, Alike, Stopped, Isolated}
-use Rattle.promises.specs.IsolationLaws.{isolated}
+use Rattle.promises.proofs.Isolated.{isolated}
 use Rattle.promises.specs.Places.{sample_of, luma}
 
 -- THE TILE: 16 samples wide, `rows` macroblocks high, its first partition and two token partitions one after the other, the first opened afresh

@@ -11,7 +11,7 @@ use Rattle.frame.specs.declared.take.Taken.{Taken}
 use Rattle.frame.specs.Take.{nothing_taken, whole_of, partitions_placed, given_header, taken_of}
 use Rattle.frame.specs.Tables.{default_probs, update_probs}
 use Rattle.promises.specs.KeyFrame.{frame_tile, Shows, AlikeFrames}
-use Rattle.promises.specs.KeyFrameLaws.{cut_frames}
+use Rattle.promises.proofs.KeyFrameLaws.{cut_frames}
 use Rattle.witnesses.specs.Witness.{held_of, bytes_by}
 
 -- its tag, start code and sizes

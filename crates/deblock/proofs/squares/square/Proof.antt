@@ -15,7 +15,7 @@ first : (c : tie.Joined-column-ne0) → let f = when (not (eqb (start c).args.co
     (c.if-column-ne0.p ≡ f (start c).args.p.now) × (c.if-column-ne0.q ≡ f (start c).args.q.now)
 first c =
     ⊎_elim
-    (λ v. let e = ap not (ne_eqb _ 0 v.if-column-ne0.true) in (when_yes _ _ e (v.p-is ∙ rw (← c.outer_of-outer.ensures) v.vertical.ensures.0), when_yes _ _ e (v.q-is ∙ rw (← c.outer_of-outer.ensures) v.vertical.ensures.1)))
+    (λ v. let e : not (eqb (start c).args.column 0) ≡ true = ap not (ne_eqb _ 0 v.if-column-ne0.true) in (when_yes _ _ e (v.p-is ∙ rw (← c.outer_of-outer.ensures) v.vertical.ensures.0), when_yes _ _ e (v.q-is ∙ rw (← c.outer_of-outer.ensures) v.vertical.ensures.1)))
     (λ v. let e = ap not (eq-eqb _ 0 v.if-column-ne0.false) in (when_no _ _ e v.p-is, when_no _ _ e v.q-is)) c.if-column-ne0.branch-raw
 
 second : (c : tie.Joined-inside) → let f = when (eqb (start c.before).args.t.inside 1) (inners_of true (inner_edge_of (start c.before).args.simple (start c.before).args.t) (start c.before).args.w ((start c.before).args.column * (start c.before).args.n) ((start c.before).args.row * (start c.before).args.n) (start c.before).args.n) in

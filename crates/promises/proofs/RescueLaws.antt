@@ -28,7 +28,8 @@ use Rattle.promises.specs.Grey.{InPlane, done}
 use Rattle.promises.specs.GreyLaws.{other_block, finished_or_grey}
 use Rattle.promises.specs.TwoRuns.{Twins, Same}
 use Rattle.promises.specs.Isolation.{SameTokens, Alike}
-use Rattle.promises.specs.IsolationLaws.{twins, start_same, inside, Rest, apart, isolated}
+use Rattle.promises.specs.IsolationLaws.{twins, start_same, inside, Rest, apart}
+use Rattle.promises.proofs.Isolated.{isolated}
 use Rattle.promises.specs.HaltedLaws.{Together, Halts, together, past, halts, all_together}
 use Rattle.promises.specs.Rescue.{rescue_refusal, RescueFine, mark_at, saved, RescueRefused, RescueNumbers, Marked, Saves, RescueIsolated}
 

@@ -22,7 +22,7 @@ use Rattle.promises.specs.KeptLaws.{Sound, sound}
 use Rattle.promises.specs.Grey.{done}
 use Rattle.promises.specs.GreyLaws.{other_block}
 use Rattle.promises.specs.Rescue.{RescueFine, saved}
-use Rattle.promises.specs.RescueLaws.{rescue_fine_too, rescue_is, marked, too_sample, too_mode, too_strength}
+use Rattle.promises.proofs.RescueLaws.{rescue_fine_too, rescue_is, marked, too_sample, too_mode, too_strength}
 use Rattle.promises.specs.Remade.{Rebuilding, begun, next, Remade, LastSaved}
 
 -- ---- what follows the stop passes through every state that is reached

@@ -16,7 +16,7 @@ use Rattle.promises.specs.Stops.{stops_at}
 use Rattle.promises.specs.GreyLaws.{finished_or_grey}
 use Rattle.promises.specs.CostLaws.{same_costs}
 use Rattle.promises.specs.Isolation.{Alike}
-use Rattle.promises.specs.IsolationLaws.{isolated}
+use Rattle.promises.proofs.Isolated.{isolated}
 use Rattle.promises.specs.Called.{CalledEnds, CalledIsolated}
 
 module _ (bytes : List ℕ) (header : List ℤ) (tile : List ℕ) (m : Memory) where

@@ -22,11 +22,11 @@ use Rattle.promises.specs.Isolation.{Alike}
 use Rattle.promises.specs.Segments.{SameKinds}
 use Rattle.promises.specs.SegmentsLaws.{same_kinds}
 use Rattle.promises.specs.Deblocked.{GreyStays}
-use Rattle.promises.specs.DeblockedLaws.{unrefused, Left, limit_byte, left_stays, all_deblocked, left_isolated}
+use Rattle.promises.proofs.DeblockedLaws.{unrefused, Left, limit_byte, left_stays, all_deblocked, left_isolated}
 use Rattle.promises.specs.Rescue.{RescueFine, saved, Saves, RescueIsolatedDeblocked}
-use Rattle.promises.specs.RescueLaws.{rescue_fine_too, saves, rescue_isolated}
+use Rattle.promises.proofs.RescueLaws.{rescue_fine_too, saves, rescue_isolated}
 use Rattle.promises.specs.Remade.{Remade}
-use Rattle.promises.specs.RemadeLaws.{last_saved, remade, live_last}
+use Rattle.promises.proofs.RemadeLaws.{last_saved, remade, live_last}
 
 module _ (t : Call) (m : Memory) (marks : List ℕ) (e : RescueFine t m marks) (b : Bytes t.bytes) where
   abbrev left : Memory

@@ -25,7 +25,7 @@ use Rattle.promises.specs.Refusals.{Fine}
 use Rattle.promises.specs.Places.{Plane, luma, blue, red, plane_of, plane_side, sample_of, strength_byte, block_at}
 use Rattle.promises.specs.Valid.{limits_at_most_189}
 use Rattle.promises.specs.Isolation.{SameTokens, Alike}
-use Rattle.promises.specs.IsolationLaws.{isolated}
+use Rattle.promises.proofs.Isolated.{isolated}
 use Rattle.promises.specs.Grey.{InPlane, done}
 use Rattle.promises.specs.GreyLaws.{finished_or_grey}
 use Rattle.promises.specs.Deblocked.{EdgeReaches, DeblockRefused, deblocked_of, plane, sample_after, GreyStays, IsolatedDeblocked}

@@ -27,10 +27,10 @@ use Rattle.promises.specs.Places.{Plane, luma, blue, red, plane_side, sample_of,
 use Rattle.promises.specs.Grey.{InPlane, done}
 use Rattle.promises.specs.GreyLaws.{finished_or_grey}
 use Rattle.promises.specs.Isolation.{Alike}
-use Rattle.promises.specs.IsolationLaws.{isolated}
+use Rattle.promises.proofs.Isolated.{isolated}
 use Rattle.promises.specs.CostLaws.{same_costs, old_memory_costs_the_same}
 use Rattle.promises.specs.Deblocked.{plane, sample_after}
-use Rattle.promises.specs.DeblockedLaws.{grey_stays, isolated_deblocked}
+use Rattle.promises.proofs.DeblockedLaws.{grey_stays, isolated_deblocked}
 use Rattle.promises.specs.KeyFrame.{frame_tile, Shows, KeyFrameEnds, KeyFrameShows, AlikeFrames, DamagedFrames, CutFrames, shown_unplaced, KeyFrameIsolated, KeyFrameDamaged}
 
 -- ---- a level of 0 is not there, any other is
