@@ -24,7 +24,7 @@ TABLE = "## Faults that the prover must refuse"
 FACTS = [
     r"^note: src/\S+:\d+:\d+: it is not proved that ",
     r": error: (?:`[^`]*`: )?(?:as printed, |computed as far as they go, )?the two (?:types|sides) (?:are|(?:first )?differ) ",
-    r": error: `[^`]*`: expected type `",
+    r": error: `[^`]*`: expected type `(?!goal\.|tie\.|Rattle\.\w+\.proofs\.)",
     r": error: `[^`]*`: `(?!(?:search|omega|grind|cc|simp|rw|record)\b)",
     r": error: (?:`[^`]*`: )?`(?:search|omega|grind|cc|simp)\b[^`]*`:? (?:(?:found )?no proof|did not prove|the goal does not follow|the equations do not join)",
     r": error: (?:`[^`]*`: )?give a proof of that as the last argument",

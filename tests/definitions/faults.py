@@ -42,6 +42,7 @@ def main():
         folder = Path(place)
         for part in ("crates", "docs", "tools"):
             shutil.copytree(ROOT / part, folder / part, ignore=shutil.ignore_patterns("proofs", "data", "must-fail", "out", "*.png", "*.svg"))
+        shutil.copytree(ROOT / "crates/promises/proofs", folder / "crates/promises/proofs")
         for what, name, old, new, said in FAULTS:
             got = tried(folder, name, old, new)
             if said not in got:
