@@ -11,6 +11,8 @@ pub use Rattle.std.specs.Int.Bits.{bit_and, bit_or, bit_xor, or_add_and, xor_sel
 unfoldable pub use Rattle.std.specs.Int.Count.{count_leading_zeros, count_trailing_zeros}
 pub use Rattle.std.specs.Int.Count.{leading_unique}
 pub use Rattle.numbers.specs.Powers.{twice, doubled, doubled_less, halved, mod_scale, cases8}
+-- answers
+pub use Rattle.std.specs.Prelude.{Option, Some, None, Result, Ok, Err}
 -- equations, tests and choices
 pub use Rattle.numbers.specs.Tests.{lt_or, eq_or, not_first, never, not_so, both_left, both_right, both_true, both_false, cond_at, eq-eqb, eqb-false, eqb-true, le-leb, le-ltb, leb-false, leb-true, lt-leb, lt-ltb, ltb-false, ltb-true, ne_eqb, not-false, not-true}
 pub use Rattle.numbers.specs.Flags.{bit_of, bit_small}
