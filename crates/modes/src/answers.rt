@@ -3,7 +3,7 @@
 use reader::boolean::{Reader, Symbol};
 
 // What stands before a macroblock's modes; small where its luma modes are sixteen small ones.
-#[derive(Clone, Copy)]
+#[derive(Clone, Copy, Debug, PartialEq, Eq)]
 pub struct Prefix {
     pub segment: u8,
     pub skip: bool,
@@ -11,7 +11,7 @@ pub struct Prefix {
 }
 
 // A macroblock's modes but for the sixteen of its luma, which stand in an array beside it.
-#[derive(Clone, Copy)]
+#[derive(Clone, Copy, Debug, PartialEq, Eq)]
 pub struct Kinds {
     pub segment: u8,
     pub skip: bool,

@@ -3,7 +3,7 @@ ghost use Rattle.std.specs.Prelude.{◌≡◌};
 ghost use Rattle.modes.specs.Modes.{bottom_of, right_of, each_below_of, empty_context, context_fine_of};
 
 // The modes of the four sub-blocks on a side, and whether the blocks on that side had coefficients: four luma, two U, two V, Y2.
-#[derive(Clone, Copy)]
+#[derive(Clone, Copy, Debug, PartialEq, Eq)]
 pub struct Context {
     pub modes: [u8; 4],
     pub flags: [u8; 9],
@@ -39,13 +39,7 @@ pub fn right(modes: &[u8; 16]) -> [u8; 4]
 pub fn each_below(l: &[u8], limit: u8) -> bool
     ensures { result ≡ each_below_of limit l.now }
 {
-    let mut fine = true;
-    let mut i = 0;
-    while i < l.len() {
-        fine = (l[i] < limit) & fine;
-        i = i + 1;
-    }
-    fine
+    l.iter().all(|x| *x < limit)
 }
 
 // Whether it is in range: each mode below 10, each flag 0 or 1.

@@ -1,30 +1,16 @@
 // How many symbols modes that were read took: each says it by how deep it stands in its tree.
 ghost use Rattle.std.specs.Prelude.{◌≡◌, true, ◌<◌, ◌≤◌, ◌+◌, get_or};
-ghost use Rattle.numbers.specs.Flags.{bit_of};
 ghost use Rattle.modes.specs.Modes.{Modes, macroblock_of, prefix_reads_of, large_reads, small_depths, small_reads_of, luma_reads_of, modes_read_of};
 
 use crate::answers::Kinds;
 use header::frame::Announced;
 
-fn wide(x: u8) -> u64
-    ensures { result ≡ x }
-{
-    x as u64
-}
-
-fn flag(on: bool) -> u64
-    ensures { (result ≡ bit_of on) × (result < 2) }
-{
-    if on { 1 } else { 0 }
-}
-
 // What stood before the modes.
 fn prefix_reads(a: Announced) -> u64
     ensures { (result ≡ prefix_reads_of a) × (result ≤ 4) }
 {
-    let map = flag(a.map);
-    let skips = flag(a.skips);
-    map + map + skips + 1
+    let map = u64::from(a.map);
+    map + map + u64::from(a.skips) + 1
 }
 
 // How deep a chroma mode stands.
@@ -33,8 +19,7 @@ fn chroma_reads(mode: u8) -> u64
     ensures { (result ≡ large_reads true mode) × (result ≤ 3) }
 {
     let depths = [1u8, 3, 2, 3];
-    let at = mode as usize;
-    wide(depths[at])
+    u64::from(depths[usize::from(mode)])
 }
 
 // How deep a small mode stands.
@@ -43,8 +28,7 @@ fn depth_of(depths: &[u8; 10], mode: u8) -> u64
     requires mode_bound { mode < 10 }
     ensures { (result ≡ get_or small_depths mode 0) × (result ≤ 7) }
 {
-    let at = mode as usize;
-    wide(depths[at])
+    u64::from(depths[usize::from(mode)])
 }
 
 // Sixteen small modes.
@@ -54,10 +38,8 @@ fn small_reads(modes: &[u8; 16]) -> u64
 {
     let depths = [1u8, 2, 3, 5, 6, 6, 5, 6, 7, 7];
     let mut reads: u64 = 0;
-    let mut i = 0;
-    while i < 16 {
-        reads = reads + depth_of(&depths, modes[i]);
-        i = i + 1;
+    for mode in modes {
+        reads += depth_of(&depths, *mode);
     }
     reads
 }

@@ -111,7 +111,7 @@ fn head(s: &[u8], w: Wide, a: Announced) -> Begun
             skip: k.on,
             small: !b.on,
         },
-        next: next,
+        next,
     }
 }
 
@@ -222,19 +222,14 @@ fn sixteen(s: &[u8], w: Wide, top: &[u8; 4], left: &[u8; 4]) -> Lumas
     let all = all_probabilities();
     let mut modes = [0u8; 16];
     let mut next = w;
-    let mut i = 0;
-    while i < 16 {
+    for i in 0..16 {
         let up = mode_above(top, &modes, i);
         let by = mode_left(left, &modes, i);
         let m = block(s, next, up, by, &all);
         modes[i] = m.mode;
         next = m.next;
-        i = i + 1;
     }
-    Lumas {
-        modes: modes,
-        next: next,
-    }
+    Lumas { modes, next }
 }
 
 // Small modes, or a large one sixteen times.
@@ -272,7 +267,7 @@ pub(crate) fn quick(s: &[u8], a: Announced, w: Wide, top: &[u8; 4], left: &[u8; 
             small: p.small,
             chroma: c.mode,
         },
-        modes: modes,
-        next: next,
+        modes,
+        next,
     }
 }

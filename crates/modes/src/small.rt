@@ -1,7 +1,7 @@
 // The small modes of a macroblock (RFC 6386, sections 11.2, 11.3 and 11.5): each is read with nine probabilities that the modes
 // above it and left of it choose.
 ghost use Rattle.std.specs.Prelude.{◌≡◌, true, ◌<◌, ◌≤◌, ◌+◌, ◌*◌};
-ghost use Rattle.numbers.specs.Tables.{in_rows, flat};
+ghost use Rattle.std.specs.List.{flat_map};
 ghost use Rattle.reader.specs.Reading.{Valid};
 ghost use Rattle.modes.specs.Modes.{Modes, block_mode_of, mode_above_of, mode_left_of, zeros, small_modes_of, to_mode, to_sixteen, contexts_of, block_answer, small_answer, Told};
 ghost use Rattle.modes.specs.Table.{renumbered_table};
@@ -22,12 +22,12 @@ pub(crate) fn place(top: u8, left: u8) -> usize
     requires { (top < 10) × (left < 10) }
     ensures { (result ≡ (top * 10 + left) * 9) × (result ≤ 891) }
 {
-    (top as usize * 10 + left as usize) * 9
+    (usize::from(top) * 10 + usize::from(left)) * 9
 }
 
-// The rows by themselves, so that the loop over them is proved without their numbers.
+// The rows by themselves, so that laying them out is proved without their numbers.
 fn table_rows() -> [[u8; 9]; 100]
-    ensures { (in_rows 9 result ≡ true) × (flat result ≡ renumbered_table) }
+    ensures { flat_map (λ x. x) result ≡ renumbered_table }
 {
     BMODE
 }
@@ -38,11 +38,7 @@ pub fn all_probabilities() -> [u8; 900]
 {
     let rows = table_rows();
     let mut all = [0u8; 900];
-    let mut i = 0;
-    while i < 900 {
-        all[i] = rows[i / 9][i % 9];
-        i = i + 1;
-    }
+    all.copy_from_slice(rows.as_flattened());
     all
 }
 
@@ -108,8 +104,7 @@ pub(crate) fn sixteen(s: &[u8], r: Reader, top: &[u8; 4], left: &[u8; 4]) -> Lum
     let mut modes = [0u8; 16];
     let mut reads: u64 = 0;
     let mut t = r;
-    let mut i = 0;
-    while i < 16 {
+    for i in 0..16 {
         let up = mode_above(top, &modes, i);
         let by = mode_left(left, &modes, i);
         let c = block(s, t, up, by, &all);
@@ -119,17 +114,16 @@ pub(crate) fn sixteen(s: &[u8], r: Reader, top: &[u8; 4], left: &[u8; 4]) -> Lum
             return LumaRead {
                 answer: Next::Missing,
                 modes: [0u8; 16],
-                reads: reads,
+                reads,
             };
         };
         modes[i] = m;
         t = next;
-        i = i + 1;
     }
     LumaRead {
         answer: Next::At(t),
-        modes: modes,
-        reads: reads,
+        modes,
+        reads,
     }
 }
 

@@ -1,4 +1,4 @@
-use Rattle.numbers.specs.Words.{◌-◌, ◌<◌, arith}
+use Rattle.numbers.specs.Words.{◌<◌, arith}
 use Rattle.modes.specs.ModesLaws.{above_mode, left_mode}
 use Rattle.modes.proofs.Steps.{coding_start, coding_next, coding_end}
 use Rattle.modes.proofs.quick.sixteen.Goals as goal

@@ -1,4 +1,4 @@
-use Rattle.numbers.specs.Words.{◌-◌, ◌<◌, arith}
+use Rattle.numbers.specs.Words.{◌<◌, arith}
 use Rattle.modes.specs.Modes.{zeros, to_sixteen}
 use Rattle.modes.specs.ModesLaws.{above_mode, left_mode, small_modes_within}
 use Rattle.modes.proofs.Careful.{going_start, going_next, going_missing, going_end, told}

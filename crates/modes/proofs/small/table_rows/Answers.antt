@@ -6,4 +6,4 @@ use Rattle.modes.proofs.small.table_rows.Goals as goal
 
 pub returns : goal.returns
 unfolding rfc_table
-returns c = (refl, table_is _ refl refl)
+returns c = table_is _ refl refl
