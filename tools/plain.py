@@ -8,7 +8,7 @@ In the sources (crates/*/src):
 - a contract names definitions: no `ghost use` line brings anything from a file of laws;
 - a crate is a library or a program; each file is in a module; and what another crate can call is in a public one: no `pub fn` anywhere else;
 - what C can call is `#[unsafe(no_mangle)] pub extern "C" fn hookbarley_..` in crate hookbarley_c, and nothing else is marked, but for what a type derives
-  and the line that has the prover try its tactics;
+  and the lines that have the prover try its tactics, with the lemmas and definitions that they name;
 - a `use` line of the code brings names as they are: none renamed, and never all of a module.
 In the sources and in the specs (crates/*/specs):
 - no block comment of antt's, no `--` inside a name and no text in quotes; no axiom, no `open`, and no operator for a variable;
@@ -73,7 +73,7 @@ def laws(_, text):
 
 def exported(file, text):
     calls = re.findall(r'^#\[unsafe\(no_mangle\)\]\npub extern "C" fn hookbarley_\w+\(', text, re.M) if crate_of(file) == "hookbarley_c" else []
-    others = re.sub(r"^ *#\[derive\([\w:, ]+\)\]$|^#!\[tactic\(auto\)\]$", "", text, flags=re.M)
+    others = re.sub(r"^ *#\[derive\([\w:, ]+\)\]$|^ *#!?\[tactic\(auto(?:, (?:using|unfolding)\([\w:,\s]+\))*\)\]$", "", text, flags=re.M)
     if len(calls) != len(re.findall(r"#!?\s*\[", others)) or len(calls) != len(re.findall(r"\bextern\b", text)):
         yield 'an attribute or an `extern` that is not `#[unsafe(no_mangle)] pub extern "C" fn hookbarley_..` of crate hookbarley_c'
 
