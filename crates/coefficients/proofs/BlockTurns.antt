@@ -14,7 +14,6 @@ use Rattle.coefficients.specs.BlockLaws.{SixteenBits, signed_within}
 use Rattle.coefficients.specs.BlockSteps.{from_signed, SignedRead, signed_took, block_none, block_missing, block_ends, block_zero, block_lost, block_number}
 use Rattle.coefficients.specs.Block.{Signed, signed_value, zigzag, probability_place, probabilities_at, quantizer_at, context_after, Coefficients, block_from, block, to_block_called}
 use Rattle.coefficients.specs.declared.block.Block.TheVariants as K
-use Rattle.coefficients.specs.declared.block.BlockRead.{BlockRead}
 use Rattle.coefficients.specs.declared.block.Signed.TheVariants as G
 
 -- `whole` from the reader r₀ is what is left of it after `reads` symbols: `more` positions from n on
@@ -34,10 +33,12 @@ pub going_start : {s table : List ℕ} {kind q0 q1 ctx first : ℕ} {r : Reader}
 going_start {first} v h l = record { more = 16 - first; sum = omega arith; on = λ y j t. took_as refl (sym (zero-add j)) t; few = omega arith; valid = v; near = h }
 
 -- the last position was read
-pub going_end : {s table : List ℕ} {kind q0 q1 : ℕ} {whole : Reading Coefficients} {r₀ : Reader} {n ctx : ℕ} {z : Bool} {r : Reader} {values : List ℤ} {reads : ℕ} → Going s table kind q0 q1 whole r₀ n ctx z r values reads → 16 ≤ n → Took whole s r₀ (given (record { end = n; values = values }) r) reads
-going_end {s} {table} {kind} {q0} {q1} {n = n} {ctx} {z} {r} {values} {reads} g l =
+pub going_end : {s table : List ℕ} {kind q0 q1 : ℕ} {whole : Reading Coefficients} {r₀ : Reader} {n ctx : ℕ} {z : Bool} {r : Reader} {values : List ℤ} {reads : ℕ} → Going s table kind q0 q1 whole r₀ n ctx z r values reads → 16 ≤ n → Took whole s r₀ (given (record { end = 16; values = values }) r) reads
+going_end {s} {table} {kind} {q0} {q1} {whole} {r₀} {n} {ctx} {z} {r} {values} {reads} g l =
     let none : g.more ≡ 0 = omega (arith, g.sum) in
-    took_as refl (add-zero reads) (g.on _ 0 (rw none (block_none table kind q0 q1 s n ctx z values r)))
+    let last : n ≡ 16 = omega (arith, g.sum) in
+    let t : Took whole s r₀ (given (record { end = n; values = values }) r) reads = took_as refl (add-zero reads) (g.on _ 0 (rw none (block_none table kind q0 q1 s n ctx z values r))) in
+    rw last at t
 
 -- a turn, once the code has asked its token and had the answer x for k symbols
 pub record Turn (s table : List ℕ) (kind q0 q1 : ℕ) (whole : Reading Coefficients) (r₀ : Reader) (n ctx : ℕ) (z : Bool) (r : Reader) (values : List ℤ) (reads : ℕ) (x : Token) (k : ℕ) : Type 0 where
@@ -112,9 +113,9 @@ module _ {s table : List ℕ} {kind q0 q1 : ℕ} {whole : Reading Coefficients} 
           }
 
 -- what the code returns, with the numbers behind it
-module _ (m : Reading Coefficients) (s : List ℕ) (r : Reader) (old : List ℤ) {a : BlockRead} {k : ℕ} where
-  pub called_missing : a ≡ record { answer = K.Missing; reads = k } → {out : List ℤ} → out ≡ old → Took m s r missing k → (record { answer = a.answer; out = out } ≡ to_block_called old (run m s r)) × (a.reads ≡ count m s r)
-  called_missing d e t = (rw (d, e, t.gave), rw d t.took)
+module _ (m : Reading Coefficients) (s : List ℕ) (r : Reader) (old : List ℤ) {k : ℕ} where
+  pub called_missing : {out : List ℤ} → out ≡ old → Took m s r missing k → (record { answer = K.Missing; out = out } ≡ to_block_called old (run m s r)) × (k ≡ count m s r)
+  called_missing e t = (rw (e, t.gave), t.took)
 
-  pub called_ended : {n : ℕ} {values : List ℤ} {q : Reader} → a ≡ record { answer = K.Ended n q; reads = k } → Took m s r (given (record { end = n; values = values }) q) k → (record { answer = a.answer; out = values } ≡ to_block_called old (run m s r)) × (a.reads ≡ count m s r)
-  called_ended d t = (rw (d, t.gave), rw d t.took)
+  pub called_ended : {n : ℕ} {values : List ℤ} {q : Reader} → Took m s r (given (record { end = n; values = values }) q) k → (record { answer = K.Ended n q; out = values } ≡ to_block_called old (run m s r)) × (k ≡ count m s r)
+  called_ended t = (rw t.gave, t.took)

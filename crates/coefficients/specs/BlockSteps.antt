@@ -195,9 +195,9 @@ module _ (s : List ℕ) (r : Reader) (table : List ℕ) (kind ctx first q0 q1 : 
     unfolding block_call_of
     decode_refused = rw (e, block_call_of)
 
-    pub refused : {a : BlockRead} → a ≡ record { answer = B.Refused; reads = 0 } → Decoded a old
+    pub refused : Decoded (record { answer = B.Refused; reads = 0 }) old
     unfolding block_reads
-    refused d = (rw d decode_refused, rw d (rw (e, block_reads)))
+    refused = (decode_refused, rw (e, block_reads))
 
 -- ---- with a header
 pub table_refused : (h : List ℤ) → (length h ≡ entry_count → ⊥) → record { answer = H.Refused; bytes = replicate probability_count 0 } ≡ table_of h
@@ -219,6 +219,6 @@ module _ (s : List ℕ) (r : Reader) (h : List ℤ) (kind ctx first q0 q1 : ℕ)
       let q : block_reads s r l kind ctx first q0 q1 old ≡ block_by_header_reads s r h kind ctx first q0 q1 old = rw (f, eq-eqb _ _ e, block_by_header_reads) in
       (d.0 ∙ p, d.1 ∙ q)
 
-  pub header_refused : (length h ≡ entry_count → ⊥) → {a : BlockRead} → a ≡ record { answer = B.Refused; reads = 0 } → HeaderDecoded a old
+  pub header_refused : (length h ≡ entry_count → ⊥) → HeaderDecoded (record { answer = B.Refused; reads = 0 }) old
   unfolding block_by_header_of block_by_header_reads
-  header_refused f d = (rw d (rw (ne_eqb _ _ f, block_by_header_of)), rw d (rw (ne_eqb _ _ f, block_by_header_reads)))
+  header_refused f = (rw (ne_eqb _ _ f, block_by_header_of), rw (ne_eqb _ _ f, block_by_header_reads))

@@ -84,12 +84,12 @@ fn extended(s: &[u8], r: Reader, probs: &[u8], base: u32) -> NumberRead
     let Number::Value(v, next) = answer else {
         return NumberRead {
             answer: Number::Missing,
-            reads: reads,
+            reads,
         };
     };
     NumberRead {
         answer: Number::Value(base + v, next),
-        reads: reads,
+        reads,
     }
 }
 
@@ -129,11 +129,8 @@ fn product(v: u32, q: u16, negative: bool) -> i32
     requires { v ≤ 2114 }
     ensures { result ≡ wrap_z (sign_of negative (v * q)) }
 {
-    let x = v as i64 * q as i64;
-    if negative {
-        return wrapped(-x);
-    }
-    wrapped(x)
+    let x = i64::from(v) * i64::from(q);
+    wrapped(if negative { -x } else { x })
 }
 
 fn read_signed(s: &[u8], r: Reader, token: u8, q: u16) -> SignedRead
@@ -147,13 +144,13 @@ fn read_signed(s: &[u8], r: Reader, token: u8, q: u16) -> SignedRead
     let Number::Value(v, next) = answer else {
         return SignedRead {
             answer: Signed::Missing,
-            reads: reads,
+            reads,
         };
     };
     let Symbol::Got(negative, after) = next.symbol(s, 128) else {
         return SignedRead {
             answer: Signed::Missing,
-            reads: reads,
+            reads,
         };
     };
     SignedRead {
@@ -170,7 +167,7 @@ fn entry(table: &[u8; 16], n: usize) -> usize
     requires by_index { (k : ℕ) → get_or table.now k 0 < 16 }
     ensures { (result ≡ get_or table.now n 0) × (result < 16) }
 {
-    table[n] as usize
+    usize::from(table[n])
 }
 
 // Where the eleven probabilities of a position stand in the table.
@@ -182,25 +179,18 @@ fn place(table: &[u8; 16], kind: usize, n: usize, ctx: usize) -> usize
     ((kind * 8 + entry(table, n)) * 3 + ctx) * 11
 }
 
+#[tactic(auto, unfolding(crate::specs::Block::quantizer_at))]
 fn quantizer(n: usize, q0: u16, q1: u16) -> u16
     ensures { result ≡ quantizer_at n q0 q1 }
 {
     if n == 0 { q0 } else { q1 }
 }
 
+#[tactic(auto, unfolding(crate::specs::Block::context_after))]
 fn context(token: u8) -> usize
     ensures { (result ≡ context_after token) × (result < 3) }
 {
     if token == 2 { 1 } else { 2 }
-}
-
-fn counted(answer: Block, reads: u64) -> BlockRead
-    ensures { result ≡ record { answer = answer; reads = reads } }
-{
-    BlockRead {
-        answer: answer,
-        reads: reads,
-    }
 }
 
 // A block of arguments in range. Its numbers reach `out` only where it ended.
@@ -223,43 +213,50 @@ fn read_block(
 {
     let mut values = *out;
     let mut next = r;
-    let mut n = first;
     let mut near = ctx;
     let mut zero = false;
     let mut reads: u64 = 0;
-    while n < 16 {
+    for n in first..16 {
         let t = walk_token(s, next, table, place(&BANDS, kind, n, near), zero);
         let answer = t.answer;
-        reads = reads + t.reads;
+        reads += t.reads;
         let Token::Read(token, after) = answer else {
-            return counted(Block::Missing, reads);
+            return BlockRead {
+                answer: Block::Missing,
+                reads,
+            };
         };
         if token == 0 {
             *out = values;
-            return counted(Block::Ended(n, after), reads);
+            return BlockRead {
+                answer: Block::Ended(n, after),
+                reads,
+            };
         }
-        if token == 1 {
+        zero = token == 1;
+        if zero {
             near = 0;
-            zero = true;
             next = after;
-            n = n + 1;
         } else {
             let number = read_signed(s, after, token, quantizer(n, q0, q1));
             let signed = number.answer;
-            reads = reads + number.reads;
+            reads += number.reads;
             let Signed::Value(v, last) = signed else {
-                return counted(Block::Missing, reads);
+                return BlockRead {
+                    answer: Block::Missing,
+                    reads,
+                };
             };
-            let z = entry(&ZIGZAG, n);
-            values[z] = v;
+            values[entry(&ZIGZAG, n)] = v;
             near = context(token);
-            zero = false;
             next = last;
-            n = n + 1;
         }
     }
     *out = values;
-    counted(Block::Ended(n, next), reads)
+    BlockRead {
+        answer: Block::Ended(16, next),
+        reads,
+    }
 }
 
 // ---- the public calls
@@ -268,14 +265,7 @@ fn read_block(
 fn small(out: &[i32; 16]) -> bool
     ensures { result ≡ sixteen_bits out.now 16 }
 {
-    let mut fine = true;
-    let mut i = 0;
-    while i < 16 {
-        let v = out[i];
-        fine = fine & ((-32768 <= v) & (v <= 32767));
-        i = i + 1;
-    }
-    fine
+    out.iter().all(|v| -32768 <= *v && *v <= 32767)
 }
 
 fn numeric(token: u8) -> bool
@@ -329,7 +319,10 @@ pub fn decode(
         × (result.reads ≡ block_reads s.now r table.now kind ctx first q0 q1 out.old) }
 {
     if !(valid(s, r) & (arguments(table, kind, ctx, first) & small(out))) {
-        return counted(Block::Refused, 0);
+        return BlockRead {
+            answer: Block::Refused,
+            reads: 0,
+        };
     }
     read_block(s, r, table, kind, ctx, first, q0, q1, out)
 }
@@ -342,17 +335,15 @@ pub fn probabilities(h: &[i32]) -> Table
     if h.len() != ENTRY_COUNT {
         return Table {
             answer: Checked::Refused,
-            bytes: bytes,
+            bytes,
         };
     }
-    let mut i = 0;
-    while i < PROBABILITY_COUNT {
+    for i in 0..PROBABILITY_COUNT {
         bytes[i] = probability(h[COEFFICIENT_PROBABILITY + i]);
-        i = i + 1;
     }
     Table {
         answer: Checked::Done,
-        bytes: bytes,
+        bytes,
     }
 }
 
@@ -375,7 +366,10 @@ pub fn decode_header(
     let t = probabilities(h);
     let answer = t.answer;
     let Checked::Done = answer else {
-        return counted(Block::Refused, 0);
+        return BlockRead {
+            answer: Block::Refused,
+            reads: 0,
+        };
     };
     let bytes = t.bytes;
     decode(s, r, &bytes, kind, ctx, first, q0, q1, out)

@@ -1,5 +1,5 @@
 -- `probabilities` meets its contract. The loop's invariant: the bytes passed are the header's.
-use Rattle.numbers.specs.Words.{◌+◌, ◌-◌, arith, refl, ◌∙◌, ap, filled_none, filled_next, filled_all, back, w32}
+use Rattle.numbers.specs.Words.{◌+◌, arith, refl, ◌∙◌, ap, filled_none, filled_next, filled_all, back, w32}
 use Rattle.header.specs.Header.{coefficient_probability, entry, probability_of}
 use Rattle.coefficients.specs.BlockSteps.{table_refused, table_done}
 use Rattle.coefficients.specs.Block.{header_table}
