@@ -1,5 +1,5 @@
 -- The RFC's loop filter gives what Kernel.antt gives.
-use Rattle.std.specs.Prelude.{◌+◌, ◌*◌, ◌/◌, ◌≤◌, ◌<◌, ◌≡◌, ◌&&◌, ◌||◌, ◌∷◌, ◌+ℤ◌, ◌-ℤ◌, ◌*ℤ◌, ◌≤ℤ◌}
+use Rattle.std.specs.Prelude.{◌+◌, ◌*◌, ◌/◌, ◌≤◌, ◌≡◌, ◌&&◌, ◌||◌, ◌+ℤ◌, ◌-ℤ◌, ◌*ℤ◌}
 use Rattle.numbers.specs.Words.{ℕ, arith, refl, sym, ◌∙◌, ap, ap₂, Bool, true, false, not, cond, inl, inr, ltb, leb, T, lit<, lit≤, lt_or, le-leb, lt-leb, List, get_or, ◌∷≡◌, build_listed, ℤ, pos, negsuc, neg_ℤ, nat_abs, +ℤ_comm, +ℤ_idl, le_z, shr_z, le_z_yes, to_le, of_le, of_eq, lt_parts, nlt_le, ≤ℤ-trans, add_parts, up_neg, dn_neg, sub_parts_ℤ, shr_parts, shr_mono, clamp_z, clip_z, signed_to, signed_byte_z, clamp_cases, clamp_same, clamp_low, clamp_high, up_to_abs, signed_in}
 use Rattle.filter.specs.Kernel as kernel
 use Rattle.filter.specs.Kernel.{samples_across, across, tapped, eighth, part, half, sides, no_steps, common_steps_of, macroblock_steps_of, inner_steps_of, moved_of, filter_of}

@@ -8,7 +8,7 @@ use super::steps::{acted, added};
 
 // The rule that acted, and for each sample its value before and after the filter, and the step: what the rule added to it before the sum
 // was clipped to a byte. The step is below 0 where the sample was to fall, and 0 where the rule leaves it.
-#[derive(Clone, Copy)]
+#[derive(Clone, Copy, Debug, PartialEq, Eq)]
 pub struct Explanation {
     pub rule: Rule,
     pub before: [u8; 8],
@@ -33,7 +33,7 @@ pub fn explain(
     Explanation {
         rule: why,
         before: *e,
-        after: after,
-        steps: steps,
+        after,
+        steps,
     }
 }

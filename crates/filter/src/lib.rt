@@ -23,6 +23,7 @@ pub fn filter(e: &[u8; 8], simple: bool, edge: bool, limit: u8, inner: u8, thres
 }
 
 // The kth of the samples that `filter` gives.
+#[tactic(auto, unfolding(crate::specs::Kernel::pixel_of))]
 pub fn pixel(
     e: &[u8; 8],
     simple: bool,

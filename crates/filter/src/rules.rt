@@ -8,17 +8,20 @@ use super::answers::Rule;
 pub fn distance(a: u8, b: u8) -> u8
     ensures { result ≡ apart (pos a) (pos b) }
 {
-    if a < b { b - a } else { a - b }
+    a.abs_diff(b)
 }
 
 // The edge test.
+#[tactic(auto, unfolding(crate::specs::Kernel::within_limit_of))]
 pub fn within_limit(e: &[u8; 8], limit: u8) -> bool
     ensures { result ≡ within_limit_of (samples_across e.now) limit }
 {
-    4 * distance(e[3], e[4]) as u16 + distance(e[2], e[5]) as u16 <= 2 * limit as u16 + 1
+    4 * u16::from(distance(e[3], e[4])) + u16::from(distance(e[2], e[5]))
+        <= 2 * u16::from(limit) + 1
 }
 
 // Whether two neighbours differ by at most inner.
+#[tactic(auto, unfolding(crate::specs::Kernel::smooth))]
 fn smooth(a: u8, b: u8, inner: u8) -> bool
     ensures { result ≡ smooth inner (pos a) (pos b) }
 {
@@ -50,6 +53,7 @@ fn rough(e: &[u8; 8], inner: u8) -> u8
 }
 
 // Whether the two samples next to the edge, on either side, differ by more than threshold.
+#[tactic(auto, unfolding(crate::specs::Kernel::high_variance_of))]
 fn high_variance(e: &[u8; 8], threshold: u8) -> bool
     ensures { result ≡ high_variance_of (samples_across e.now) threshold }
 {

@@ -6,16 +6,17 @@ ghost use Rattle.numbers.specs.Lists.{build};
 ghost use Rattle.filter.specs.Kernel.{samples_across, across, tapped, eighth, sides, common_steps_of, macroblock_steps_of, inner_steps_of, steps_of, moved_of};
 
 use super::answers::Rule;
-use super::samples::{clamp, minus, plus};
+use super::samples::{minus, plus};
 
 // v as a signed byte, -128..=127.
 pub fn signed_byte(v: i16) -> i16
     ensures { result ≡ signed_byte_z v }
 {
-    clamp(v, -128, 127)
+    v.clamp(-128, 127)
 }
 
 // Three times the step across the edge.
+#[tactic(auto, unfolding(crate::specs::Kernel::across))]
 fn across(e: &[u8; 8]) -> i16
     ensures value { result ≡ across (samples_across e.now) }
     ensures fact { In (negsuc 764) (pos 765) result }
@@ -35,7 +36,7 @@ fn tapped(e: &[u8; 8]) -> i16
 fn eighth(a: i16) -> i16
     ensures { result ≡ eighth a }
 {
-    clamp(a >> 3, -16, 15)
+    (a >> 3).clamp(-16, 15)
 }
 
 // The steps of eight samples: what is added on the p side is taken off on the q side.
@@ -81,10 +82,8 @@ fn moved(e: &[u8; 8], s: &[i16; 8]) -> [u8; 8]
     ensures { result ≡ moved_of e.now s.now }
 {
     let mut out = [0; 8];
-    let mut i = 0;
-    while i < 8 {
+    for i in 0..8 {
         out[i] = plus(e[i], s[i]);
-        i += 1;
     }
     out
 }
@@ -117,10 +116,8 @@ fn widened(s: &[i16; 8]) -> [i32; 8]
     ensures { result ≡ build 8 (λ k. get_or s.now k (pos 0)) }
 {
     let mut out = [0; 8];
-    let mut i = 0;
-    while i < 8 {
-        out[i] = s[i] as i32;
-        i += 1;
+    for i in 0..8 {
+        out[i] = i32::from(s[i]);
     }
     out
 }

@@ -1,10 +1,9 @@
 // The strengths of a macroblock's edge filter (RFC 6386, section 15.4): limit, inner, threshold, inside.
-ghost use Rattle.std.specs.Prelude.{◌≡◌, ◌+◌, ◌≤◌, min, max};
-ghost use Rattle.numbers.specs.Flags.{bit_of};
+ghost use Rattle.std.specs.Prelude.{◌≡◌, ◌+◌, ◌≤◌, max};
 ghost use Rattle.filter.specs.Strengths.{inner_of, threshold_of, strength_of_of, strength_fine_of, strength_answer};
 
 // A macroblock's strengths: edge limit, interior limit, threshold of high variance; 1 where inner edges are filtered.
-#[derive(Clone, Copy)]
+#[derive(Clone, Copy, Debug, PartialEq, Eq)]
 pub struct Strength {
     pub limit: u8,
     pub inner: u8,
@@ -31,30 +30,19 @@ fn inner_limit(level: u8, sharp: u8) -> u8
     ensures { (result ≡ inner_of level sharp) × ((1 ≤ result) × (result ≤ max level 1)) }
 {
     if sharp == 0 {
-        return at_least_one(level);
+        return level.max(1);
     }
     if 9 <= sharp {
         return 1;
     }
     if 4 < sharp {
-        return at_least_one(smaller(level / 4, 9 - sharp));
+        return (level / 4).min(9 - sharp).max(1);
     }
-    at_least_one(smaller(level / 2, 9 - sharp))
-}
-
-fn smaller(a: u8, b: u8) -> u8
-    ensures { result ≡ min a b }
-{
-    if a < b { a } else { b }
-}
-
-fn at_least_one(a: u8) -> u8
-    ensures { result ≡ max a 1 }
-{
-    if a == 0 { 1 } else { a }
+    (level / 2).min(9 - sharp).max(1)
 }
 
 // The threshold of high variance in a key frame.
+#[tactic(auto, unfolding(crate::specs::Strengths::threshold_of))]
 fn variance(level: u8) -> u8
     ensures { result ≡ threshold_of level }
 {
@@ -65,12 +53,6 @@ fn variance(level: u8) -> u8
         return 1;
     }
     0
-}
-
-fn flag(inside: bool) -> u8
-    ensures { result ≡ bit_of inside }
-{
-    if inside { 1 } else { 0 }
 }
 
 fn of_level(level: u8, sharp: u8, inside: bool) -> Strength
@@ -88,13 +70,14 @@ fn of_level(level: u8, sharp: u8, inside: bool) -> Strength
     let inner = inner_limit(level, sharp);
     Strength {
         limit: level + level + inner,
-        inner: inner,
+        inner,
         threshold: variance(level),
-        inside: flag(inside),
+        inside: u8::from(inside),
     }
 }
 
 // The strengths at a level 0..63 and a sharpness; `inside` says whether the inner edges are filtered.
+#[tactic(auto, unfolding(crate::specs::Strengths::strength_answer))]
 pub fn at_level(level: u8, sharp: u8, inside: bool) -> Strengths
     ensures { result ≡ strength_answer level sharp inside }
 {

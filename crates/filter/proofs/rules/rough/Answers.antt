@@ -1,5 +1,5 @@
 -- `rough` meets its contract: none of the pairs before the kth fails.
-use Rattle.numbers.specs.Words.{◌-◌, arith, sym, ◌∙◌, not-false, not-true}
+use Rattle.numbers.specs.Words.{arith, sym, ◌∙◌, not-false, not-true}
 use Rattle.filter.specs.Kernel.{rough_at}
 use Rattle.filter.specs.KernelLaws.{first_here, first_later, first_end}
 use Rattle.filter.proofs.rules.rough.Goals as goal

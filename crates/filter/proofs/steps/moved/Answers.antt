@@ -1,5 +1,5 @@
 -- `moved` meets its contract: the loop stores a sample a turn.
-use Rattle.numbers.specs.Words.{◌-◌, arith, refl, ◌∙◌, ap, get_or, filled_none, filled_next, filled_all, ℤ, pos, ◌+ℤ◌, there, passed, clip_z, w16}
+use Rattle.numbers.specs.Words.{arith, refl, ◌∙◌, ap, get_or, filled_none, filled_next, filled_all, ℤ, pos, ◌+ℤ◌, there, passed, clip_z, w16}
 use Rattle.filter.specs.Kernel.{moved_of}
 use Rattle.filter.proofs.steps.moved.Goals as goal
 

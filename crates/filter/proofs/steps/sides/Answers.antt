@@ -1,5 +1,5 @@
 -- `sides` meets its contract.
-use Rattle.numbers.specs.Words.{◌≡◌, refl, ◌∙◌, List, [], ◌∷◌, ◌∷≡◌, ℤ, pos, negsuc, neg_ℤ, ◌+ℤ◌, +ℤ_idl, In, round, Var, is, E, fits, ◌⊖◌, lit, v, known, there, any, w16}
+use Rattle.numbers.specs.Words.{◌≡◌, refl, ◌∙◌, List, [], ◌∷◌, ◌∷≡◌, ℤ, pos, negsuc, neg_ℤ, ◌+ℤ◌, +ℤ_idl, In, round, Var, is, E, ◌⊖◌, lit, v, known, there, any, w16}
 use Rattle.filter.specs.Kernel as kernel
 use Rattle.filter.proofs.steps.sides.Goals as goal
 
@@ -12,15 +12,6 @@ abbrev ρ : {q : ℤ} → In (negsuc 127) (pos 127) q → List Var
 
 taken : {q : ℤ} → In (negsuc 127) (pos 127) q → round w16 (pos 0 +ℤ neg_ℤ (round w16 q)) ≡ neg_ℤ q
 taken {q} i = is w16 (ρ i) off tt ∙ +ℤ_idl (neg_ℤ q)
-
-pub overflow_sub-result : goal.overflow_sub-result
-overflow_sub-result c = fits w16 (ρ c.requires.0) off tt
-
-pub overflow_sub-result-2 : goal.overflow_sub-result-2
-overflow_sub-result-2 c = fits w16 (ρ c.requires.1) off tt
-
-pub overflow_sub-result-3 : goal.overflow_sub-result-3
-overflow_sub-result-3 c = fits w16 (ρ c.requires.2) off tt
 
 pub returns : goal.returns
 unfolding kernel.sides

@@ -1,19 +1,10 @@
 -- `steps` meets its contract: each arm is a line of the definition.
-use Rattle.numbers.specs.Words.{◌∙◌, ap, ℤ, inside_read, answered, called, passed, signed_byte_z, signed_in, w16}
+use Rattle.numbers.specs.Words.{◌∙◌, ap, ℤ, inside_read, answered, called, signed_byte_z, signed_in, w16}
 use Rattle.filter.specs.Kernel.{no_steps, common_steps_of, macroblock_steps_of, inner_steps_of, steps_of}
 use Rattle.filter.proofs.steps.steps.Goals as goal
 
-pub common_steps-requires : goal.common_steps-requires
-common_steps-requires c = passed w16 c.tapped.ensures.fact tt tt
-
-pub common_steps-requires-in-HighVariance : goal.common_steps-requires-in-HighVariance
-common_steps-requires-in-HighVariance c = passed w16 c.tapped-in-HighVariance.ensures.fact tt tt
-
 pub macroblock_steps-requires : goal.macroblock_steps-requires
 macroblock_steps-requires c = inside_read (answered w16 c.signed_byte.ensures (signed_in 127 _) tt)
-
-pub inner_steps-requires : goal.inner_steps-requires
-inner_steps-requires c = passed w16 c.across.ensures.fact tt tt
 
 pub returns-in-EdgeFailed : goal.returns-in-EdgeFailed
 unfolding steps_of no_steps
