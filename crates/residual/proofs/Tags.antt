@@ -1,11 +1,12 @@
--- The tags of the answers that this crate's code takes apart.
-use Rattle.numbers.specs.Words.{◌≡◌, refl, ◌⊎◌, List, ℤ}
-use denote.Enum.Declared.{tag_of}
+-- The answers that this crate's code takes apart.
+use Rattle.numbers.specs.Words.{ℕ, ◌≡◌, refl, List, ℤ}
+use Rattle.reader.specs.declared.boolean.Reader.{Reader}
 use Rattle.reader.specs.Reading.{missing}
 use Rattle.coefficients.specs.declared.block.Block.{Block}
-use Rattle.coefficients.specs.BlockLaws as laws
+use Rattle.coefficients.specs.declared.block.Block.TheVariants as B
 use Rattle.coefficients.specs.BlockLaws.{from_block}
-use Rattle.coefficients.specs.contracts.block.Block as block
 
-pub not_ended : (l : List ℤ) (x : Block) → (tag_of block.the_type x ≡ 1) ⊎ (tag_of block.the_type x ≡ 2) → from_block l x ≡ missing
-not_ended = laws.not_ended (tag_of block.the_type) (λ n r. refl)
+pub not_ended : (l : List ℤ) (x : Block) → ((n : ℕ) (r : Reader) → x ≡ B.Ended n r → ⊥) → from_block l x ≡ missing
+not_ended l (B.Ended n r) h = absurd (h n r refl)
+not_ended l B.Missing h = refl
+not_ended l B.Refused h = refl

@@ -285,7 +285,7 @@ module _ (s table : List ℕ) (kind n p : ℕ) (w : Wide) where
           ended = λ q0 q1 values E lim c i a. absurd (omega (arith, z.below));
         }
 
-    pub zeroing_end : {place ahead : ℕ} → b.on ≡ false → m + 1 ≡ 16 → Zeroed s table kind n p w (record { n = m + 1; place = place; ahead = ahead; next = b.next })
+    pub zeroing_end : {place ahead : ℕ} → b.on ≡ false → m + 1 ≡ 16 → Zeroed s table kind n p w (record { n = 16; place = place; ahead = ahead; next = b.next })
     zeroing_end v k =
         record {
           low = omega (arith, z.low);

@@ -31,12 +31,9 @@ pub(crate) fn no_residual(answer: Ended, reads: u64) -> ResidualRead
     ensures { result ≡ record { residual = no_residual_of answer; reads = reads } }
 {
     let residual = Residual {
-        answer: answer,
+        answer,
         top: [0; 9],
         left: [0; 9],
     };
-    ResidualRead {
-        residual: residual,
-        reads: reads,
-    }
+    ResidualRead { residual, reads }
 }

@@ -4,7 +4,7 @@ ghost use Rattle.std.specs.Prelude.{◌≡◌, ◌+◌, ◌<◌, true, length, r
 ghost use Rattle.header.specs.Header.{probability_count};
 ghost use Rattle.numbers.specs.Flags.{bit_of};
 ghost use Rattle.reader.specs.Reading.{Valid};
-ghost use Rattle.residual.specs.Residual.{Flags, cleared, second_kind_of, kind_of, zero_of, second, advance, blocks_from, dc_stage_of, residual_of};
+ghost use Rattle.residual.specs.Residual.{Flags, cleared, second_kind_of, kind_of, second, advance, blocks_from, dc_stage_of, residual_of};
 ghost use Rattle.residual.specs.Parts.{Held, Part, model_of};
 
 use crate::contexts::{FlagsAt, cleared, flagged, location, near};
@@ -102,7 +102,7 @@ fn passed(m: State, r: Reader, p: FlagsAt, on: bool, empty: bool) -> State
         reader: r,
         top: top_after,
         left: left_after,
-        empty: empty,
+        empty,
     }
 }
 
@@ -123,7 +123,7 @@ fn read_second(s: &[u8], table: &[u8], f: Factors, m: State, flat: &mut [i32]) -
         return Turn {
             ended: false,
             state: m,
-            reads: reads,
+            reads,
         };
     };
     let t = transform(&c, true);
@@ -133,14 +133,8 @@ fn read_second(s: &[u8], table: &[u8], f: Factors, m: State, flat: &mut [i32]) -
     Turn {
         ended: true,
         state: next,
-        reads: reads,
+        reads,
     }
-}
-
-pub(crate) fn zero(v: i32) -> bool
-    ensures { result ≡ zero_of v }
-{
-    v == 0
 }
 
 // Block i of the 24. Whether it is empty goes by its end and its first coefficient: zeros that were coded are something.
@@ -168,16 +162,16 @@ fn block(
         return Turn {
             ended: false,
             state: m,
-            reads: reads,
+            reads,
         };
     };
     store(flat, 16 * i, &c);
-    let empty = m.empty & ((end <= 1) & zero(c[0]));
+    let empty = m.empty & ((end <= 1) & (c[0] == 0));
     let next = passed(m, r, p, k.first < end, empty);
     Turn {
         ended: true,
         state: next,
-        reads: reads,
+        reads,
     }
 }
 
@@ -188,8 +182,7 @@ fn blocks(s: &[u8], table: &[u8], f: Factors, small: bool, start: State, flat: &
 {
     let mut m = start;
     let mut reads: u64 = 0;
-    let mut i = 0;
-    while i < 24 {
+    for i in 0..24usize {
         let t = block(s, table, f, small, m, i, flat);
         reads = reads + t.reads;
         m = t.state;
@@ -197,15 +190,14 @@ fn blocks(s: &[u8], table: &[u8], f: Factors, small: bool, start: State, flat: &
             return Turn {
                 ended: false,
                 state: m,
-                reads: reads,
+                reads,
             };
         }
-        i = i + 1;
     }
     Turn {
         ended: true,
         state: m,
-        reads: reads,
+        reads,
     }
 }
 
@@ -266,8 +258,8 @@ pub(crate) fn read(
     }
     let start = State {
         reader: r,
-        top: top,
-        left: left,
+        top,
+        left,
         empty: true,
     };
     let t = dc_stage(s, table, f, small, start, flat);

@@ -39,7 +39,7 @@ pub(crate) fn flagged(flags: [u8; 9], x: usize, on: bool) -> [u8; 9]
     ensures { result ≡ slice_set flags x (bit_of on) }
 {
     let mut next = flags;
-    next[x] = on as u8;
+    next[x] = u8::from(on);
     next
 }
 
@@ -58,10 +58,8 @@ pub(crate) fn flags_fine(flags: [u8; 9]) -> bool
     ensures { result ≡ flags_of flags }
 {
     let mut fine = true;
-    let mut i = 0;
-    while i < 9 {
-        fine = (flags[i] <= 1) & fine;
-        i = i + 1;
+    for flag in flags {
+        fine = (flag <= 1) & fine;
     }
     fine
 }

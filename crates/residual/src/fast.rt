@@ -211,18 +211,10 @@ pub(crate) fn places_after(kind: usize) -> [u16; 16]
 {
     let bands = BANDS_AFTER;
     let mut places = [0u16; 16];
-    let mut i = 0;
-    while i < 16 {
+    for i in 0..16usize {
         places[i] = bands[i] + 264 * kind as u16;
-        i = i + 1;
     }
     places
-}
-
-fn widened(x: u16) -> usize
-    ensures { result ≡ x }
-{
-    x as usize
 }
 
 // Looked up before the symbol that chooses the context is known: after a mispredicted branch there is then one load less to wait for.
@@ -230,7 +222,7 @@ fn place_after(places: &[u16; 16], n: usize) -> usize
     requires { n < 16 }
     ensures { result ≡ slice_index places.now n }
 {
-    widened(places[n])
+    usize::from(places[n])
 }
 
 // From node 1 of a position on, with 25 bits loaded: past zeros, after which the block does not end.
@@ -249,26 +241,24 @@ fn pass_zeros(
     requires norms_value { (norms.now ≡ norms_of) × Ranged w }
     ensures { Zeroed s.now table.now kind first start w result × Ranged result.next }
 {
-    let mut n = first;
     let mut at = start;
     let mut next = w;
-    while n < 16 {
+    for n in first..16 {
         let ahead = place_after(places, n);
         let z = bit(next, norms, table[at + 1]);
         let x = z.next;
         if z.on {
             return Zeros {
-                n: n,
+                n,
                 place: at,
-                ahead: ahead,
+                ahead,
                 next: x,
             };
         }
         at = ahead;
-        n = n + 1;
-        if n == 16 {
+        if n == 15 {
             return Zeros {
-                n: n,
+                n: 16,
                 place: 0,
                 ahead: 0,
                 next: x,
@@ -277,10 +267,10 @@ fn pass_zeros(
         next = x.fill(s);
     }
     Zeros {
-        n: n,
+        n: 16,
         place: at,
         ahead: 0,
-        next: next,
+        next,
     }
 }
 
@@ -309,6 +299,7 @@ pub(crate) fn read_block(
     let mut n = k.first;
     let mut here = first_place(k.kind, ctx, k.first);
     let mut reads: u64 = 0;
+    // Stays a while: a turn goes past the zeros too, so its step is not one.
     while n < 16 {
         let full = next.fill(s);
         let e = bit(full, norms, table[here]);
@@ -342,6 +333,6 @@ pub(crate) fn read_block(
     WideBlock {
         end: n,
         reads: reads + (n - k.first) as u64,
-        next: next,
+        next,
     }
 }

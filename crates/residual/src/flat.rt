@@ -10,11 +10,7 @@ pub(crate) fn sixteen(flat: &[i32], at: usize) -> [i32; 16]
     ensures { result ≡ sixteen_at flat.now at }
 {
     let mut c = [0; 16];
-    let mut j = 0;
-    while j < 16 {
-        c[j] = flat[at + j];
-        j = j + 1;
-    }
+    c.copy_from_slice(&flat[at..at + 16]);
     c
 }
 
@@ -23,11 +19,7 @@ pub(crate) fn store(flat: &mut [i32], at: usize, c: &[i32; 16])
     requires { at + 16 ≤ length flat.old }
     ensures { flat.new ≡ stored flat.old at c.now }
 {
-    let mut j = 0;
-    while j < 16 {
-        flat[at + j] = c[j];
-        j = j + 1;
-    }
+    flat[at..at + 16].copy_from_slice(&c[..]);
 }
 
 // The first coefficient of each luma block.
@@ -35,34 +27,8 @@ pub(crate) fn spread(flat: &mut [i32], dc: &[i32; 16])
     requires { length flat.old ≡ 384 }
     ensures { flat.new ≡ spread flat.old dc.now 16 }
 {
-    let mut k = 0;
-    while k < 16 {
+    for k in 0..16usize {
         flat[16 * k] = dc[k];
-        k = k + 1;
-    }
-}
-
-// All of them, to the caller's memory.
-pub(crate) fn hand_over(out: &mut [i16], flat: &[i16])
-    requires { (length out.old ≡ 384) × (length flat.now ≡ 384) }
-    ensures { out.new ≡ flat.now }
-{
-    let mut j = 0;
-    while j < 384 {
-        out[j] = flat[j];
-        j = j + 1;
-    }
-}
-
-// No coefficients.
-fn clear(out: &mut [i16])
-    requires { length out.old ≡ 384 }
-    ensures { out.new ≡ replicate 384 (pos 0) }
-{
-    let mut j = 0;
-    while j < 384 {
-        out[j] = 0;
-        j = j + 1;
     }
 }
 
@@ -72,10 +38,8 @@ fn lay(out: &mut [i16], flat: &[i32], n: usize, from: usize)
     requires n_nonzero { ((0 < n) × (from + 16 * n ≤ 384)) × Each (negsuc 32767) (pos 32767) flat.now }
     ensures { out.new ≡ laid_from out.old flat.now n from (16 * n) }
 {
-    let mut j = 0;
-    while j < 16 * n {
+    for j in 0..16 * n {
         out[from + j] = flat[from + (16 * (j % n) + j / n)] as i16;
-        j = j + 1;
     }
 }
 
@@ -86,7 +50,7 @@ pub(crate) fn squares(out: &mut [i16], flat: &[i32], skip: bool)
     ensures { out.new ≡ macroblock_lanes flat.now }
 {
     if skip {
-        clear(out);
+        out.fill(0);
         return;
     }
     lay(out, flat, 16, 0);

@@ -56,11 +56,11 @@ fn read_residual(
     let left = m.left;
     let residual = Residual {
         answer: Ended::Done(next, m.empty),
-        top: top,
-        left: left,
+        top,
+        left,
     };
     ResidualRead {
-        residual: residual,
+        residual,
         reads: t.reads,
     }
 }

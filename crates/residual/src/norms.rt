@@ -1,10 +1,9 @@
 // The doublings of a range, as a table.
-ghost use Rattle.std.specs.Prelude.{◌≡◌, true};
-ghost use Rattle.numbers.specs.Tables.{in_rows, flat};
+ghost use Rattle.std.specs.Prelude.{◌≡◌};
+ghost use Rattle.std.specs.List.{flat_map};
 ghost use Rattle.residual.specs.Symbols.{norms_of};
 
-// The doublings of each range of 1..255, then the range after them, less one. Rows of ten, no power of two: so the compiler sees that the
-// loop below copies row after row, and makes the table once.
+// The doublings of each range of 1..255, then the range after them, less one.
 const NORMS: [[u8; 10]; 51] = [
     [7, 6, 6, 5, 5, 5, 5, 4, 4, 4],
     [4, 4, 4, 4, 4, 3, 3, 3, 3, 3],
@@ -59,9 +58,9 @@ const NORMS: [[u8; 10]; 51] = [
     [245, 246, 247, 248, 249, 250, 251, 252, 253, 254],
 ];
 
-// The rows by themselves, so that the loop over them is proved without their numbers.
+// The rows by themselves, so that the copy of them is proved without their numbers.
 fn norm_rows() -> [[u8; 10]; 51]
-    ensures { (in_rows 10 result ≡ true) × (flat result ≡ norms_of) }
+    ensures { flat_map (λ x. x) result ≡ norms_of }
 {
     NORMS
 }
@@ -72,10 +71,6 @@ pub(crate) fn norms() -> [u8; 510]
 {
     let rows = norm_rows();
     let mut all = [0u8; 510];
-    let mut i = 0;
-    while i < 510 {
-        all[i] = rows[i / 10][i % 10];
-        i = i + 1;
-    }
+    all.copy_from_slice(rows.as_flattened());
     all
 }

@@ -13,9 +13,8 @@ ghost use Rattle.residual.specs.Quick.{wider_of, model_at, QuickWhere};
 ghost use Rattle.residual.specs.Groups.{group_of, GroupFits, settled_of, none_after, zeros_at, Ready, Passed};
 
 use crate::answers::{Ended, Residual, ResidualRead, no_residual};
-use crate::blocks::{Kind, kind_of, second_kind, zero};
+use crate::blocks::{Kind, kind_of, second_kind};
 use crate::fast::{Spots, places_after, read_block};
-use crate::flat::hand_over;
 use crate::norms::norms;
 use header::quantizers::Factors;
 use reader::boolean::Reader;
@@ -44,10 +43,8 @@ fn seconds(flat: &[i16]) -> [i32; 16]
     ensures { result ≡ sixteen_at flat.now 384 }
 {
     let mut c = [0; 16];
-    let mut k = 0;
-    while k < 16 {
-        c[k] = flat[384 + k] as i32;
-        k = k + 1;
+    for k in 0..16usize {
+        c[k] = i32::from(flat[384 + k]);
     }
     c
 }
@@ -57,10 +54,8 @@ fn set_firsts(flat: &mut [i16], dc: &[i32; 16])
     requires { (length flat.old ≡ 400) × Each (negsuc 32767) (pos 32767) dc.now }
     ensures { flat.new ≡ stored flat.old 0 dc.now }
 {
-    let mut k = 0;
-    while k < 16 {
+    for k in 0..16usize {
         flat[k] = dc[k] as i16;
-        k = k + 1;
     }
 }
 
@@ -148,27 +143,21 @@ fn row(
     let mut reads = m.reads;
     let mut empty = m.empty;
     let mut beside = left[k.flag + y];
-    let mut x = 0;
-    while x < k.side {
+    for x in 0..k.side {
         let ctx = (top[k.flag + x] + beside) as usize;
         let spots = Spots {
             at: at + x,
             step: k.step,
         };
         let b = read_block(s, next, norms, table, places, kind, ctx, flat, spots);
-        beside = (kind.first < b.end) as u8;
+        beside = u8::from(kind.first < b.end);
         top[k.flag + x] = beside;
         empty = empty & (b.end <= 1);
         reads = reads + b.reads;
         next = b.next;
-        x = x + 1;
     }
     left[k.flag + y] = beside;
-    Passing {
-        next: next,
-        reads: reads,
-        empty: empty,
-    }
+    Passing { next, reads, empty }
 }
 
 fn rows(
@@ -190,10 +179,8 @@ fn rows(
 {
     let places = places_after(k.kind.kind);
     let mut m = start;
-    let mut y = 0;
-    while y < k.side {
+    for y in 0..k.side {
         m = row(s, norms, table, &places, k, m, y, top, left, flat);
-        y = y + 1;
     }
     m
 }
@@ -216,10 +203,8 @@ fn zeros(flat: &[i16], at: usize, n: usize) -> bool
     ensures { result ≡ zeros_at flat.now at n }
 {
     let mut all = true;
-    let mut i = 0;
-    while i < n {
-        all = zero(flat[at + i] as i32) & all;
-        i = i + 1;
+    for i in 0..n {
+        all = (flat[at + i] == 0) & all;
     }
     all
 }
@@ -244,22 +229,20 @@ fn parts(
 {
     let norms = norms();
     let mut m = start;
-    let mut g = small as usize;
-    while g < 4 {
+    for g in usize::from(small)..4 {
         let k = group_at(f, small, g);
         let q = rows(s, &norms, table, k, m, top, left, flat);
         let empty = settle(flat, g, q.empty);
         let next = q.next;
         m = Passing {
-            next: next,
+            next,
             reads: q.reads,
-            empty: empty,
+            empty,
         };
-        g = g + 1;
     }
     let next = m.next;
     Passing {
-        next: next,
+        next,
         reads: m.reads,
         empty: m.empty & (zeros(flat, 256, 8) & zeros(flat, 0, 16)),
     }
@@ -306,18 +289,15 @@ pub(crate) fn read_quick(
             read: no_residual(Ended::Missing, 0),
         };
     }
-    hand_over(out, &flat[0..384]);
+    out.copy_from_slice(&flat[0..384]);
     let residual = Residual {
         answer: Ended::Done(narrow(s, w), m.empty),
         top: above,
         left: beside,
     };
     let read = ResidualRead {
-        residual: residual,
+        residual,
         reads: m.reads,
     };
-    Quick {
-        fine: true,
-        read: read,
-    }
+    Quick { fine: true, read }
 }

@@ -103,15 +103,9 @@ pub(crate) fn even(w: Wide, norms: &[u8; 510], prob: u8) -> Bit
     let x = low(w, prob);
     let on = x < high(w.value);
     Bit {
-        on: on,
+        on,
         next: after(w, norms, x, on),
     }
-}
-
-fn bit_value(bit: bool) -> u32
-    ensures { (result ≡ bit_of bit) × (result < 2) }
-{
-    if bit { 1 } else { 0 }
 }
 
 // A number of as many bits as there are probabilities, at most sixteen, most significant first: `reader::extra` in other words.
@@ -122,16 +116,11 @@ pub(crate) fn extra_bits(s: &[u8], w: Wide, norms: &[u8; 510], probs: &[u8]) -> 
 {
     let mut value: u32 = 0;
     let mut next = w;
-    let mut i = 0;
-    while i < probs.len() {
+    for prob in probs {
         let f = next.fill(s);
-        let b = even(f, norms, probs[i]);
-        value = value + value + bit_value(b.on);
+        let b = even(f, norms, *prob);
+        value = value + value + u32::from(b.on);
         next = b.next;
-        i = i + 1;
     }
-    Numbered {
-        value: value,
-        next: next,
-    }
+    Numbered { value, next }
 }

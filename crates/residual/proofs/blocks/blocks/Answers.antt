@@ -1,4 +1,4 @@
-use Rattle.numbers.specs.Words.{◌-◌, arith, sym, ◌∙◌, not-false, not-true}
+use Rattle.numbers.specs.Words.{arith, sym, ◌∙◌, not-false, not-true}
 use Rattle.residual.proofs.Turns.{going_start, going_end, turn_few, going_missing, going_next}
 use Rattle.residual.proofs.blocks.blocks.Goals as goal
 

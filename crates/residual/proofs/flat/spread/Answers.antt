@@ -1,4 +1,4 @@
-use Rattle.numbers.specs.Words.{◌-◌, arith, ◌≡◌, sym, ◌∙◌, length-set, back, w32}
+use Rattle.numbers.specs.Words.{arith, ◌≡◌, sym, ◌∙◌, length-set, back, w32}
 use Rattle.residual.specs.ResidualSteps.{spread_none, spread_next}
 use Rattle.residual.proofs.flat.spread.Goals as goal
 

@@ -1,15 +1,15 @@
-use Rattle.numbers.specs.Words.{◌-◌, arith, ◌≡◌, refl, sym, length-set, placed_none, back, w32}
-use Rattle.residual.specs.ResidualSteps.{stored_next}
+use Rattle.numbers.specs.Words.{ℕ, zero, suc, ◌+◌, ◌≤◌, arith, ◌≡◌, sym, ◌∙◌, ap, List, length, get_or, set, placed, ℤ, pos}
+use Rattle.std.proofs.Math.Seq.{paste, paste-zero, paste-suc}
+use Rattle.std.proofs.lemmas.Slice.{put_mid-paste}
 use Rattle.residual.proofs.flat.store.Goals as goal
 
-pub loop-j-init : goal.loop-j-init
-loop-j-init c = (refl, omega arith, sym (placed_none _ _ _))
-
-pub loop-j-preserved : goal.loop-j-preserved
-loop-j-preserved c = (simp length-set c.loop-j.invariant.0, omega arith, stored_next _ _ _ _ c.loop-j.invariant.2 (back w32 c.flat-1.given))
-
-pub shape_of-flat : goal.shape_of-flat
-shape_of-flat c = c.loop-j.invariant.0
+-- one after the other is the same as all at once
+pasted : (l c : List ℤ) (at n : ℕ) → at + n ≤ length l → n ≤ length c → placed l at (λ j. get_or c j (pos 0)) n ≡ paste l at c n
+unfolding placed
+pasted l c at zero h k = paste-zero l at c
+pasted l c at (suc n) h k = ap (λ (x : List ℤ). set x (at + n) (get_or c n (pos 0))) (pasted l c at n (omega arith) (omega arith)) ∙ paste-suc l at c n (pos 0) (omega arith) (omega arith)
 
 pub returns : goal.returns
-returns c = let e : c.loop-j.j ≡ 16 = omega arith in rw e at c.loop-j.invariant.2
+returns c =
+    put_mid-paste c.args.at _ c.args.flat.now c.copy_from_slice.new.self c.args.c.now 16 c.copy_from_slice.ensures.after (omega arith) (sym c.told-c)
+    ∙ sym (pasted c.args.flat.now c.args.c.now c.args.at 16 c.requires (rw c.told-c (omega arith)))

@@ -6,4 +6,4 @@ use Rattle.residual.proofs.norms.norm_rows.Goals as goal
 
 pub returns : goal.returns
 unfolding norms_of build doublings_of count_leading_zeros
-returns c = (refl, refl)
+returns c = refl

@@ -1,4 +1,4 @@
-use Rattle.numbers.specs.Words.{ℕ, ◌-◌, ◌≤◌, ◌<◌, arith, ◌≡◌, sym, ◌∙◌, ap, ap₂, Bool, false, ◌&&◌, bit_small, length}
+use Rattle.numbers.specs.Words.{ℕ, ◌≤◌, ◌<◌, arith, ◌≡◌, sym, ◌∙◌, ap, ap₂, Bool, ◌&&◌, bit_small, length}
 use Rattle.wide.specs.WideLaws.{byte_bit}
 use Rattle.residual.specs.Quick.{wider_of}
 use Rattle.residual.specs.GroupsLaws.{parting_start, parting_group, parting_end, group_ready}
@@ -6,7 +6,7 @@ use Rattle.residual.proofs.quick.parts.Goals as goal
 
 pub loop-g-init : goal.loop-g-init
 loop-g-init c =
-    let e = byte_bit c.args.small in
+    let e = c.from-g.ensures ∙ byte_bit c.args.small in
     ((omega (arith, e, bit_small c.args.small), omega (arith, c.requires.flags.1.0)), (record { size = c.requires.table_len.0; top = c.requires.flags.0.0; left = c.requires.flags.0.1; long = ap length c.requires.table_len.1.0; ranged = c.requires.table_len.1.1 }, parting_start c.args.s.now c.args.table.now c.args.f (wider_of c.args.start c.args.top.now c.args.left.now) c.requires.table_len.1.0 c.requires.flags.1.0 c.args.small e c.requires.flags.1.1))
 
 pub group_at-k-requires : goal.group_at-k-requires
@@ -17,9 +17,6 @@ rows-q-requires c = record { group_fits = (c.group_at-k.ensures.1, omega (arith,
 
 pub settle-empty-requires : goal.settle-empty-requires
 settle-empty-requires c = c.rows-q.ensures.ready.long
-
-pub overflow_add-g : goal.overflow_add-g
-overflow_add-g c = omega (arith, c.loop-g-test.true)
 
 pub loop-g-smaller : goal.loop-g-smaller
 loop-g-smaller c = let l : c.loop-g.g < 4 = c.loop-g-test.true in omega arith

@@ -1,4 +1,4 @@
-use Rattle.numbers.specs.Words.{◌+◌, ◌-◌, ◌*◌, ◌^◌, ◌<◌, arith, ◌≡◌, refl, sym, ◌∙◌, ltb, length, get_or}
+use Rattle.numbers.specs.Words.{◌+◌, ◌*◌, ◌^◌, ◌<◌, arith, ◌≡◌, refl, sym, ◌∙◌, ltb, length, get_or}
 use Rattle.wide.specs.WideLaws.{byte_bit}
 use Rattle.residual.specs.GroupsLaws.{spot_room, row_room, near_flag, passed_to, row_start, row_next, row_end}
 use Rattle.residual.proofs.quick.row.Goals as goal
@@ -48,16 +48,13 @@ bounds-top-k-in-loop-x c = omega (arith, c.requires.group_fits.0.flag, c.loop-x-
 pub overflow_add-reads : goal.overflow_add-reads
 overflow_add-reads c = omega (arith, c.loop-x.invariant.1.few, c.loop-x.invariant.0, c.requires.group_fits.0.flag, c.requires.group_fits.1.1, c.read_block-b.ensures.1.0)
 
-pub overflow_add-x : goal.overflow_add-x
-overflow_add-x c = omega (arith, c.requires.group_fits.0.flag, c.loop-x-test.true)
-
 pub loop-x-smaller : goal.loop-x-smaller
 loop-x-smaller c = let l : c.loop-x.x < c.args.k.side = c.loop-x-test.true in omega arith
 
 pub loop-x-preserved : goal.loop-x-preserved
 loop-x-preserved c =
     let i : c.args.k.flag + c.args.y < length c.args.left.now = rw c.requires.ready.left.long (omega (arith, c.requires.group_fits.0.flag, c.requires.group_fits.1.0)) in
-    (omega arith, row_next c.args.left.now c.loop-x.beside c.loop-x.invariant.1 (λ n. (c.shared_slice_known-2-1.given n).fits) c.requires.group_fits.1.0 c.loop-x-test.true i c.read_block-b.ensures.0 c.read_block-b.ensures.1.0 c.read_block-b.ensures.1.1 (byte_bit (ltb c.args.k.kind.first c.read_block-b.result.end)))
+    (omega arith, row_next c.args.left.now c.loop-x.beside c.loop-x.invariant.1 (λ n. (c.shared_slice_known-2-1.given n).fits) c.requires.group_fits.1.0 c.loop-x-test.true i c.read_block-b.ensures.0 c.read_block-b.ensures.1.0 c.read_block-b.ensures.1.1 (c.from-beside.ensures ∙ byte_bit (ltb c.args.k.kind.first c.read_block-b.result.end)))
 
 pub overflow_add-left : goal.overflow_add-left
 overflow_add-left c = omega (arith, c.requires.group_fits.0.flag, c.requires.group_fits.1.0)

@@ -1,4 +1,4 @@
-use Rattle.numbers.specs.Words.{ℕ, ◌-◌, ◌*◌, ◌<◌, arith, ◌≡◌, sym, ◌∙◌, ap}
+use Rattle.numbers.specs.Words.{ℕ, ◌*◌, ◌<◌, arith, ◌≡◌, sym, ◌∙◌, ap}
 use Rattle.residual.specs.GroupsLaws.{row_room, passed_none, passed_then, passed_to}
 use Rattle.residual.proofs.quick.rows.Goals as goal
 
@@ -10,9 +10,6 @@ loop-y-init c = let e : 0 ≡ c.args.k.side * 0 = omega arith in (omega arith, p
 
 pub row-m-requires : goal.row-m-requires
 row-m-requires c = record { group_fits = (c.requires.group_fits.0, (c.loop-y-test.true, omega (arith, c.loop-y.invariant.1.few, c.requires.group_fits.1, row_room c.requires.group_fits.0 c.loop-y-test.true))); ready = c.loop-y.invariant.1.ready; norms_value = (c.requires.norms_value, c.places_after-places.ensures) }
-
-pub overflow_add-y : goal.overflow_add-y
-overflow_add-y c = omega (arith, c.requires.group_fits.0.flag, c.loop-y-test.true)
 
 pub loop-y-smaller : goal.loop-y-smaller
 loop-y-smaller c = let l : c.loop-y.y < c.args.k.side = c.loop-y-test.true in omega arith

@@ -1,8 +1,5 @@
-use Rattle.numbers.specs.Words.{ℕ, ◌+◌, ◌-◌, get_or, Filled, pos}
+use Rattle.numbers.specs.Words.{ℕ, ◌+◌, get_or, Filled, pos}
 use Rattle.residual.proofs.quick.seconds.Given as goal
 
 abbrev pub invariant-loop-k : goal.invariant-loop-k
 invariant-loop-k l = Filled l.c 16 (λ (j : ℕ). get_or l.flat (384 + j) (pos 0)) l.k
-
-abbrev pub decreases-loop-k : goal.decreases-loop-k
-decreases-loop-k l = 16 - l.k

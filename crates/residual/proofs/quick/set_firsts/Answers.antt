@@ -1,4 +1,4 @@
-use Rattle.numbers.specs.Words.{◌-◌, arith, ◌≡◌, sym, ◌∙◌, length-set, placed_none, fit, rounded, there, w16, w32}
+use Rattle.numbers.specs.Words.{arith, ◌≡◌, sym, ◌∙◌, length-set, placed_none, fit, rounded, there, w16, w32}
 use Rattle.residual.specs.QuickLaws.{firsts_next}
 use Rattle.residual.proofs.quick.set_firsts.Goals as goal
 
