@@ -142,10 +142,8 @@ fn results(g: Grid, walsh: bool) -> [i32; 16]
     ensures { result ≡ results_of walsh g }
 {
     let mut out = [0; 16];
-    let mut k = 0;
-    while k < 16 {
+    for k in 0..16usize {
         out[k] = result(g[k / 4][k % 4], walsh);
-        k += 1;
     }
     out
 }
@@ -201,17 +199,12 @@ fn look(c: &[i32; 16]) -> Seen
 {
     let mut fits = true;
     let mut plain = true;
-    let mut k = 0;
-    while k < 16 {
+    for k in 0..16usize {
         let x = c[k];
         fits = (-32768 <= x) & (x <= 32767) & fits;
         plain = ((k == 0) | (x == 0)) & plain;
-        k += 1;
     }
-    Seen {
-        fits: fits,
-        plain: plain,
-    }
+    Seen { fits, plain }
 }
 
 // The results of coefficients that fit. Each way names its transform by a constant, so that the compiler can join the passes.

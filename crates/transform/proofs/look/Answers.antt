@@ -1,5 +1,5 @@
 -- `look` meets its contract: what the loop holds is true of the coefficients passed.
-use Rattle.numbers.specs.Words.{ℕ, ◌+◌, ◌-◌, ◌^◌, ◌<◌, add-one, ℕ_discrete, arith, ◌≡◌, refl, ◌∙◌, ap, Bool, true, false, ◌&&◌, ◌||◌, ◌⊎◌, inl, inr, ⊎_elim, eqb, lit<, both_left, both_right, eqb-true, List, all_below, ℤ, pos, negsuc, le_z, mag, back, same_bits, w32, of_z}
+use Rattle.numbers.specs.Words.{ℕ, ◌+◌, ◌^◌, ◌<◌, add-one, ℕ_discrete, arith, ◌≡◌, refl, ◌∙◌, ap, Bool, true, false, ◌&&◌, ◌||◌, ◌⊎◌, inl, inr, ⊎_elim, eqb, lit<, both_left, both_right, eqb-true, List, all_below, ℤ, pos, negsuc, le_z, mag, back, same_bits, w32, of_z}
 use Rattle.transform.specs.Transform.{at, fits16, block_fits}
 use Rattle.transform.specs.Pieces.{PlainTo}
 use Rattle.transform.proofs.look.Goals as goal

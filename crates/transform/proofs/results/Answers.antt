@@ -1,5 +1,5 @@
 -- `results` meets its contract: the array is filled, place by place.
-use Rattle.numbers.specs.Words.{◌-◌, ◌/◌, ◌%◌, arith, refl, ◌∙◌, ap, filled_none, filled_next, filled_all, there, answered, passed, w32}
+use Rattle.numbers.specs.Words.{◌/◌, ◌%◌, arith, refl, ◌∙◌, ap, filled_none, filled_next, filled_all, there, answered, passed, w32}
 use Rattle.transform.specs.Transform.{result_of, results_of}
 use Rattle.transform.specs.TransformBounds.{result_in}
 use Rattle.transform.proofs.results.Goals as goal

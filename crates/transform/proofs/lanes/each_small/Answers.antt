@@ -1,5 +1,5 @@
 -- `each_small` meets its contract: 64 a turn.
-use Rattle.numbers.specs.Words.{ℕ, ◌+◌, ◌-◌, ◌*◌, ◌/◌, arith, ◌≡◌, refl, ◌∙◌, ap, ⊎_elim, length, all_below}
+use Rattle.numbers.specs.Words.{ℕ, ◌+◌, ◌*◌, ◌/◌, arith, ◌≡◌, refl, ◌∙◌, ap, ⊎_elim, length, all_below}
 use Rattle.transform.specs.Transform.{at}
 use Rattle.transform.specs.Pieces.{Blocks, is_small}
 use Rattle.transform.proofs.lanes.each_small.Goals as goal

@@ -1,6 +1,5 @@
 -- `more_small` meets its contract: one more a turn.
-use Rattle.numbers.specs.Words.{◌+◌, ◌-◌, add_assoc, add-zero, arith, ◌≡◌, pos, negsuc, back, w16}
-use Rattle.transform.specs.Transform.{at}
+use Rattle.numbers.specs.Words.{◌+◌, add_assoc, add-zero, arith, ◌≡◌, pos, negsuc, back, w16}
 use Rattle.transform.specs.LanesLaws.{within_next}
 use Rattle.transform.proofs.lanes.more_small.Goals as goal
 

@@ -1,5 +1,5 @@
 -- `put_alone` meets its contract: a number a turn.
-use Rattle.numbers.specs.Words.{◌-◌, arith, ◌≡◌, refl, sym, ◌∙◌, ap, false, never, List, stored_none, stored_next, ℤ, answered, back, signed_in, w16, w32}
+use Rattle.numbers.specs.Words.{arith, ◌≡◌, refl, sym, ◌∙◌, ap, false, never, List, stored_none, stored_next, ℤ, answered, back, signed_in, w16, w32}
 use Rattle.transform.specs.Transform.{at, samples_of}
 use Rattle.transform.specs.Lanes.{short_residual}
 use Rattle.transform.proofs.lanes.put_alone.Goals as goal

@@ -1,5 +1,5 @@
 -- `put_lane` meets its contract: a number a turn.
-use Rattle.numbers.specs.Words.{◌-◌, arith, ◌≡◌, sym, [], ◌∷◌, stored_none, stored_next, is, shr, v, known, any, w16}
+use Rattle.numbers.specs.Words.{arith, ◌≡◌, sym, [], ◌∷◌, stored_none, stored_next, is, shr, v, known, any, w16}
 use Rattle.transform.proofs.lanes.put_lane.Goals as goal
 
 pub loop-k-init : goal.loop-k-init

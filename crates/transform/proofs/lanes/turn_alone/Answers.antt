@@ -1,5 +1,5 @@
 -- `turn_alone` meets its contract: a block a turn.
-use Rattle.numbers.specs.Words.{◌-◌, arith, ◌≡◌, sym, ◌∙◌}
+use Rattle.numbers.specs.Words.{arith, ◌≡◌, sym, ◌∙◌}
 use Rattle.transform.specs.LanesLaws.{turned_none, turned_next}
 use Rattle.transform.proofs.lanes.turn_alone.Goals as goal
 
