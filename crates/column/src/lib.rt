@@ -7,20 +7,14 @@ ghost use Rattle.column.specs.Column.{packed_of, digits_of, half_of, packed_byte
 
 use modes::contexts::Context;
 
-fn wide(x: u8) -> u32
-    ensures { (result ≡ x) × (result < 256) }
-{
-    x as u32
-}
-
 // In four bits each, the first lowest.
 fn pack_modes(m: [u8; 4]) -> u32
     ensures { (result ≡ packed_of 16 m) × (result < 2097152) }
 {
-    let a = wide(m[0]);
-    let b = wide(m[1]);
-    let c = wide(m[2]);
-    let d = wide(m[3]);
+    let a = u32::from(m[0]);
+    let b = u32::from(m[1]);
+    let c = u32::from(m[2]);
+    let d = u32::from(m[3]);
     a + (b + (c + d * 16) * 16) * 16
 }
 
@@ -28,15 +22,15 @@ fn pack_modes(m: [u8; 4]) -> u32
 fn pack_flags(l: [u8; 9]) -> u32
     ensures { (result ≡ packed_of 2 l) × (result < 2097152) }
 {
-    let a = wide(l[0]);
-    let b = wide(l[1]);
-    let c = wide(l[2]);
-    let d = wide(l[3]);
-    let e = wide(l[4]);
-    let f = wide(l[5]);
-    let g = wide(l[6]);
-    let h = wide(l[7]);
-    let i = wide(l[8]);
+    let a = u32::from(l[0]);
+    let b = u32::from(l[1]);
+    let c = u32::from(l[2]);
+    let d = u32::from(l[3]);
+    let e = u32::from(l[4]);
+    let f = u32::from(l[5]);
+    let g = u32::from(l[6]);
+    let h = u32::from(l[7]);
+    let i = u32::from(l[8]);
     a + (b + (c + (d + (e + (f + (g + (h + i * 2) * 2) * 2) * 2) * 2) * 2) * 2) * 2
 }
 
@@ -60,7 +54,7 @@ pub fn pack(c: Context) -> [u8; 4]
 fn half(high: u8, low: u8) -> u32
     ensures { result ≡ half_of high low }
 {
-    wide(high) * 256 + wide(low)
+    u32::from(high) * 256 + u32::from(low)
 }
 
 fn unpack_modes(v: u32) -> [u8; 4]

@@ -33,20 +33,6 @@ module _ (h : List ℤ) (segment : ℕ) where
   pub segment_none : 4 ≤ segment → Q.Refused ≡ quantizers_of h segment
   segment_none l = segment_refused (both_false (header_of h) (le-ltb _ _ l))
 
--- 155 over 100 of a step, at least 8, as the code tests it
-pub second_low : (step : ℕ) → step * 155 / 100 < 8 → 8 ≡ second_ac_of step
-second_low step h = omega arith
-
-pub second_high : (step : ℕ) → 8 ≤ step * 155 / 100 → step * 155 / 100 ≡ second_ac_of step
-second_high step h = omega arith
-
--- at most n, as the code tests it
-pub capped_low : (step n : ℕ) → step < n → step ≡ min step n
-capped_low step n h = omega arith
-
-pub capped_high : (step n : ℕ) → n ≤ step → n ≡ min step n
-capped_high step n h = omega arith
-
 -- the six together, from what each call answered
 pub six_are : (h : List ℤ) (segment i : ℕ) → i ≡ index_of h segment → {a b c d e f x y : ℕ}
     → a ≡ dc_at (index_with i (entry h ydc_delta)) → b ≡ ac_at i → c ≡ dc_at (index_with i (entry h y2dc_delta))

@@ -65,32 +65,23 @@ pub fn probability(entry: i32) -> u8
 pub fn present_at(h: &[i32], i: usize) -> bool
     ensures { result ≡ present_at_of h.now i }
 {
-    if h.len() <= i {
-        return false;
-    }
-    present(h[i])
+    present(h.get(i).copied().unwrap_or(0))
 }
 
 pub fn probability_at(h: &[i32], i: usize) -> u8
     ensures { result ≡ probability_at_of h.now i }
 {
-    if h.len() <= i {
-        return 0;
-    }
-    probability(h[i])
+    probability(h.get(i).copied().unwrap_or(0))
 }
 
 // Whether each entry lies in -255..255, however many there are.
 pub fn entries_fine(h: &[i32]) -> bool
     ensures { result ≡ entries_of h.now }
 {
-    let mut i = 0;
-    while i < h.len() {
-        let x = h[i];
-        if (x < -255) | (255 < x) {
+    for x in h {
+        if (*x < -255) | (255 < *x) {
             return false;
         }
-        i = i + 1;
     }
     true
 }

@@ -1,5 +1,5 @@
 // Quantizers (RFC 6386, sections 9.6 and 14.1): the six factors of a segment, from the header. Once a segment and a picture.
-ghost use Rattle.std.specs.Prelude.{◌≡◌, true, ◌<◌, min, pos, negsuc, length, get_or};
+ghost use Rattle.std.specs.Prelude.{◌≡◌, true, ◌<◌, pos, negsuc, length, get_or};
 ghost use Rattle.numbers.specs.In.{In, Each};
 ghost use Rattle.numbers.specs.Tables.{flat, in_rows};
 ghost use Rattle.header.specs.Header.{entry_count, entry};
@@ -104,14 +104,7 @@ fn second_ac(step: u16) -> u16
     requires { step < 285 }
     ensures { result ≡ second_ac_of step }
 {
-    let scaled = step * 155 / 100;
-    if scaled < 8 { 8 } else { scaled }
-}
-
-fn at_most_132(step: u16) -> u16
-    ensures { result ≡ min step 132 }
-{
-    if step < 132 { step } else { 132 }
+    (step * 155 / 100).max(8)
 }
 
 // The DC step at an index moved by the header's entry `at`.
@@ -151,7 +144,7 @@ pub(crate) fn six(h: &[i32], segment: usize) -> Factors
         yac: ac_step(index as usize),
         y2dc: dc_moved(h, index, Y2DC_DELTA) * 2,
         y2ac: second_ac(ac_moved(h, index, Y2AC_DELTA)),
-        uvdc: at_most_132(dc_moved(h, index, UVDC_DELTA)),
+        uvdc: dc_moved(h, index, UVDC_DELTA).min(132),
         uvac: ac_moved(h, index, UVAC_DELTA),
     }
 }

@@ -31,7 +31,7 @@ pub fn read_column(mem: &[u8], x: usize) -> ColumnRecord
     let mut b = [0u8; COLUMN_WIDTH];
     let answer = read(mem, x, &mut b);
     ColumnRecord {
-        answer: answer,
+        answer,
         context: unpack(b),
     }
 }

@@ -1,7 +1,6 @@
 // The records of a macroblock. In mode memory: segment, skip, small, sixteen luma modes, chroma. In strength memory: limit, inner,
 // threshold, inside, then segment and small once more (M-106). Only this file knows.
 ghost use Rattle.std.specs.Prelude.{◌≡◌};
-ghost use Rattle.numbers.specs.Flags.{bit_of};
 ghost use Rattle.lent.specs.Memory.{Written, mode_record, kinds_fine_of, mode_written, mode_found, strength_written, strength_found};
 
 use crate::records::{read, store, write};
@@ -31,19 +30,13 @@ pub struct StrengthRecord {
     pub small: bool,
 }
 
-fn bit(b: bool) -> u8
-    ensures { result ≡ bit_of b }
-{
-    if b { 1 } else { 0 }
-}
-
 fn record_of(k: Kinds, modes: &[u8; 16]) -> [u8; MODE_WIDTH]
     ensures { result ≡ mode_record k modes.now }
 {
     let mut bytes = [0u8; MODE_WIDTH];
     bytes[0] = k.segment;
-    bytes[1] = bit(k.skip);
-    bytes[2] = bit(k.small);
+    bytes[1] = u8::from(k.skip);
+    bytes[2] = u8::from(k.small);
     bytes[19] = k.chroma;
     store(&mut bytes, 3, modes);
     bytes
@@ -72,7 +65,7 @@ pub fn read_mode_record(mem: &[u8], i: usize) -> ModeRecord
     let mut b = [0u8; MODE_WIDTH];
     let answer = read(mem, i, &mut b);
     ModeRecord {
-        answer: answer,
+        answer,
         kinds: Kinds {
             segment: b[0],
             skip: b[1] != 0,
@@ -97,7 +90,7 @@ pub fn write_strength(mem: &mut [u8], i: usize, t: Strength, kinds: Kinds) -> Ch
         t.threshold,
         t.inside,
         kinds.segment,
-        bit(kinds.small),
+        u8::from(kinds.small),
     ];
     write(mem, i, strength_fine(t) & (kinds.segment < 4), &bytes)
 }
@@ -109,7 +102,7 @@ pub fn read_strength(mem: &[u8], i: usize) -> StrengthRecord
     let mut b = [0u8; STRENGTH_WIDTH];
     let answer = read(mem, i, &mut b);
     StrengthRecord {
-        answer: answer,
+        answer,
         strength: Strength {
             limit: b[0],
             inner: b[1],

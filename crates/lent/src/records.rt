@@ -10,11 +10,8 @@ pub(crate) fn store(mem: &mut [u8], at: usize, bytes: &[u8])
     requires { at + length bytes.now ≤ length mem.old }
     ensures { mem.new ≡ copied mem.old at bytes.now 0 (length bytes.now) }
 {
-    let mut j = 0;
-    while j < bytes.len() {
-        mem[at + j] = bytes[j];
-        j = j + 1;
-    }
+    let end = at + bytes.len();
+    mem[at..end].copy_from_slice(bytes);
 }
 
 // Where record i starts in n bytes.

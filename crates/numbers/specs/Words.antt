@@ -15,7 +15,7 @@ pub use Rattle.numbers.specs.Powers.{twice, doubled, doubled_less, halved, mod_s
 pub use Rattle.std.specs.Prelude.{Option, Some, None, Result, Ok, Err}
 -- equations, tests and choices
 pub use Rattle.numbers.specs.Tests.{lt_or, eq_or, not_first, never, not_so, both_left, both_right, both_true, both_false, cond_at, eq-eqb, eqb-false, eqb-true, le-leb, le-ltb, leb-false, leb-true, lt-leb, lt-ltb, ltb-false, ltb-true, ne_eqb, not-false, not-true}
-pub use Rattle.numbers.specs.Flags.{bit_of, bit_small}
+pub use Rattle.numbers.specs.Flags.{bit_of, bit_small, byte_bit}
 -- lists and tables
 pub use Rattle.std.proofs.Math.ListN.{get_or-append, get_or-eq_default}
 pub use Rattle.std.proofs.lemmas.List.{get_or-replicate, length-replicate, drop-append-le, set-append_left, set_at, set-get_or, take-set-le}
@@ -24,7 +24,7 @@ pub use Rattle.std.proofs.lemmas.List.Edits.{sets, sets-eq}
 unfoldable pub use Rattle.numbers.specs.Lists.{build}
 pub use Rattle.numbers.specs.Lists.{listed, Filled, ◌∷≡◌, set_keeps, length_build, build_listed, get_or_build, get_or_build_past, built, build_same, filled_none, filled_next, filled_all, get_or_constant, constant, build_constant, byte_at, Bytes, copied_over, copy_whole}
 unfoldable pub use Rattle.numbers.specs.Runs.{placed, copied}
-pub use Rattle.numbers.specs.Runs.{Off, off_less, placed_none, placed_next, length_placed, placed_in, placed_off, placed_keeps, placed_self, placed_same, copied_placed, copied_none, copied_next, length_copied, copied_keeps, copied_in, copied_off}
+pub use Rattle.numbers.specs.Runs.{Off, off_less, placed_none, placed_next, length_placed, placed_in, placed_off, placed_keeps, placed_self, placed_same, copied_placed, copied_none, copied_next, length_copied, copied_keeps, copied_in, copied_off, part_placed, part_copied, part_filled}
 unfoldable pub use Rattle.numbers.specs.Stores.{stored_at}
 pub use Rattle.numbers.specs.StoresLaws.{stored_none, stored_next, length_stored, stored_off, stored_in, stored_keeps, stored_more, stored_same}
 pub use Rattle.numbers.specs.Tables.{all_at, all_of, all_below, permuted, all_at_lem, all_of_lem, all_of_any, all_below_lem, permuted_at, flat_at_lem, Laid, laid_none, laid_next, laid_all}

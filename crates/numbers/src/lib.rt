@@ -4,7 +4,7 @@
 
 ghost use Rattle.std.specs.Prelude.{◌≡◌};
 ghost use Rattle.numbers.specs.Lists.{byte_at, copied_over};
-ghost use Rattle.numbers.specs.Clamp.{clamp_z, up_to};
+ghost use Rattle.numbers.specs.Clamp.{up_to};
 ghost use Rattle.numbers.specs.Wrap.{wrap16_of};
 
 // Whether a call did its work, or refused an argument out of range (9) and left everything as it was.
@@ -37,34 +37,18 @@ pub fn wrap16(v: i64) -> Wrapped
     }
 }
 
-// v, or the end of lo..=hi that it lies beyond.
-fn clamp(v: i32, lo: i32, hi: i32) -> i32
-    ensures { result ≡ clamp_z lo hi v }
-{
-    if v < lo {
-        lo
-    } else if v > hi {
-        hi
-    } else {
-        v
-    }
-}
-
 // v in 0..=top.
 pub fn clamp_to(v: i32, top: u8) -> u8
     ensures { result ≡ up_to top v }
 {
-    clamp(v, 0, top as i32) as u8
+    v.clamp(0, i32::from(top)) as u8
 }
 
 // The byte at a place; past the end it is zero.
 pub fn byte_or_zero(s: &[u8], i: usize) -> u8
     ensures { result ≡ byte_at s.now i }
 {
-    if s.len() <= i {
-        return 0;
-    }
-    s[i]
+    s.get(i).copied().unwrap_or(0)
 }
 
 // As much of `from` as `to` has room for, at the start of `to`; what lies behind it in `to` is left alone.
@@ -72,7 +56,5 @@ pub fn copy(from: &[u8], to: &mut [u8])
     ensures { to.new ≡ copied_over from.now to.old }
 {
     let n = from.len().min(to.len());
-    for i in 0..n {
-        to[i] = from[i];
-    }
+    to[..n].copy_from_slice(&from[..n]);
 }

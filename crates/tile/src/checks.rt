@@ -2,7 +2,7 @@
 ghost use Rattle.std.specs.Prelude.{◌≡◌};
 ghost use Rattle.tile.specs.Tile.{side_of, sides_of, count_of, inside_of, tokens_fine, partitions_of};
 
-use crate::partitions::{least, part};
+use crate::partitions::part;
 use crate::{Span, Tile};
 use reader::boolean::valid;
 
@@ -42,13 +42,11 @@ fn tokens_inside(n: usize, tile: Tile) -> bool
     ensures { result ≡ tokens_fine n tile }
 {
     let tokens = tile.tokens;
-    let some = least(tile.count, 8);
-    let mut i = 0;
-    while i < some {
+    let some = tile.count.min(8);
+    for i in 0..some {
         if !inside(n, tokens[i]) {
             return false;
         }
-        i = i + 1;
     }
     true
 }

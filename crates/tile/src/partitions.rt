@@ -1,5 +1,5 @@
 // Partitions: spans of the bytes, which may overlap. Once one is cut out, only its contents are spoken of.
-ghost use Rattle.std.specs.Prelude.{◌≡◌, ◌⊎◌, ◌≤◌};
+ghost use Rattle.std.specs.Prelude.{◌≡◌};
 ghost use Rattle.reader.specs.Reading.{no_reader_of};
 ghost use Rattle.tile.specs.Tile.{pick_of, contents_of, span_at_of, token_contents, reader_of_of, readers_of};
 
@@ -16,22 +16,13 @@ pub fn pick(row: usize, count: usize) -> usize
     row % count
 }
 
-pub(crate) fn least(a: usize, b: usize) -> usize
-    ensures { (result ≤ a) × (result ≤ b) × ((result ≡ a) ⊎ (result ≡ b)) }
-{
-    if a < b {
-        return a;
-    }
-    b
-}
-
 // The contents of a span: what lies past the end of the bytes is cut off.
 pub fn part(bytes: &[u8], span: Span) -> &[u8]
     ensures { result.now ≡ contents_of bytes.now span }
 {
     let n = bytes.len();
-    let start = least(span.start, n);
-    let end = start + least(span.len, n - start);
+    let start = span.start.min(n);
+    let end = start + span.len.min(n - start);
     &bytes[start..end]
 }
 
@@ -39,11 +30,8 @@ pub fn part(bytes: &[u8], span: Span) -> &[u8]
 fn span(tile: Tile, i: usize) -> Span
     ensures { result ≡ span_at_of tile i }
 {
-    if 8 <= i {
-        return Span { start: 0, len: 0 };
-    }
     let tokens = tile.tokens;
-    tokens[i]
+    tokens.get(i).copied().unwrap_or(Span { start: 0, len: 0 })
 }
 
 // The contents of token partition i.
@@ -79,10 +67,8 @@ pub fn openers(bytes: &[u8], tile: Tile) -> [Reader; 8]
     ensures { result ≡ readers_of bytes.now tile }
 {
     let mut readers = [no_reader(); 8];
-    let mut i = 0;
-    while i < 8 {
+    for i in 0..8 {
         readers[i] = opener(bytes, tile, i);
-        i = i + 1;
     }
     readers
 }

@@ -3,4 +3,4 @@ use Rattle.column.specs.ColumnLaws.{packed_nine}
 use Rattle.column.proofs.pack_flags.Goals as goal
 
 pub returns : goal.returns
-returns c = packed_nine _ (search rules) c.wide-a.ensures c.wide-b.ensures c.wide-c.ensures c.wide-d.ensures c.wide-e.ensures c.wide-f.ensures c.wide-g.ensures c.wide-h.ensures c.wide-i.ensures
+returns c = packed_nine _ (search rules) (c.from-a.ensures, search rules) (c.from-b.ensures, search rules) (c.from-c.ensures, search rules) (c.from-d.ensures, search rules) (c.from-e.ensures, search rules) (c.from-f.ensures, search rules) (c.from-g.ensures, search rules) (c.from-h.ensures, search rules) (c.from-i.ensures, search rules)

@@ -1,35 +1,29 @@
 -- `clamp_to` meets its contract: what `clamp` answers lies in 0..top, so the cast keeps it.
-use mathlib.Core.Path.{◌≡◌, ap, ap₂, ◌∙◌}
-use native.Mathlib.Omega.{arith}
-use mir.Syntax.{w32}
-use lib.IntN.{pos, nat_abs}
-use Rattle.numbers.specs.In.{In}
-use Rattle.numbers.specs.Parts.{of_le, ≤ℤ-trans}
-use Rattle.numbers.specs.Hand.{there, any, unsigned, unsigned_asks, answered}
+use Rattle.std.proofs.Common.{◌≡◌, refl, ap, ap₂, ◌∙◌, arith, ℤ, pos, nat_abs, ◌≤ℤ◌, w32}
+use Rattle.std.specs.Int.{int_min, int_max}
+use Rattle.std.specs.Int.Signed.{lt_z}
+use Rattle.numbers.specs.Tests.{cond_at}
+use Rattle.numbers.specs.Parts.{to_le, of_le, of_eq, lt_parts, ≤ℤ-trans}
+use Rattle.numbers.specs.Know.{round}
+use Rattle.numbers.specs.Hand.{there, any, answered, unsigned}
 use Rattle.numbers.specs.Clamp.{clamp_z, up_to}
-use Rattle.numbers.specs.ClampLaws.{clamp_in}
-use Rattle.numbers.proofs.clamp_to.Reads as reads
-use Rattle.numbers.proofs.clamp_to.Lts as lts
-use Rattle.numbers.proofs.clamp.Reads as clamp-reads
+use Rattle.numbers.specs.ClampLaws.{clamp_in, clamp_cases}
 use Rattle.numbers.proofs.clamp_to.Goals as goal
 
--- what `clamp` answered
-abbrev After : Type 0
-After = lts.After-clamp (clamp-reads.Asked, clamp-reads.Learnt) reads.Pre reads.Post
-
-abbrev same : (c : After) → c.clamp.result ≡ clamp_z (pos 0) (pos c.before.args.top) c.before.args.v
-same c =
-    let s = c.before in
-    c.clamp.ensures ∙ ap₂ (clamp_z (pos 0)) (there w32 (unsigned s.ranges.top) tt).eq (any w32 s.ranges.v).eq
-
-inside : (c : After) → In (pos 0) (pos 255) (clamp_z (pos 0) (pos c.before.args.top) c.before.args.v)
-inside c =
-    let i = clamp_in {lo = pos 0} {hi = pos c.before.args.top} (of_le (omega arith)) c.before.args.v in
-    record { low = i.low; high = ≤ℤ-trans i.high (unsigned c.before.ranges.top).high }
-
-pub overflow_cast-result : goal.overflow_cast-result
-overflow_cast-result c = unsigned_asks (answered w32 (same c) (inside c) tt) tt
+-- the library's `clamp`, where the ends are in order
+library : {lo hi : ℤ} → lo ≤ℤ hi → (v : ℤ) → int_max lo (int_min v hi) ≡ clamp_z lo hi v
+library {lo} {hi} l v =
+    clamp_cases lo hi v (λ (z : ℤ). int_max lo (int_min v hi) ≡ z)
+    (λ e. cond_at (lt_z hi v) {x = hi} {y = v} (λ (m : ℤ). int_max lo m ≡ lo) (λ f. absurd (omega (arith, lt_parts v lo e, lt_parts hi v f, to_le l))) (λ f. rw e))
+    (λ e f. rw f (cond_at (lt_z hi lo) {x = lo} {y = hi} (λ (z : ℤ). z ≡ hi) (λ g. of_eq (omega (arith, lt_parts hi lo g, to_le l))) (λ g. refl)))
+    (λ e f. rw (f, e))
 
 pub returns : goal.returns
 unfolding up_to
-returns c = ap nat_abs (answered w32 (same c) (inside c) tt).eq
+returns c =
+    let h : pos 0 ≤ℤ pos c.args.top = of_le (omega arith) in
+    let t = there w32 (unsigned c.ranges.top) tt in
+    let same : c.clamp.result ≡ clamp_z (pos 0) (pos c.args.top) c.args.v =
+    c.clamp.ensures.value ∙ ap₂ (λ (x y : ℤ). int_max (pos 0) (int_min x y)) (any w32 c.ranges.v).eq (ap (round w32) c.from.ensures ∙ t.eq) ∙ library h c.args.v in
+    let i = clamp_in h c.args.v in
+    ap nat_abs (answered w32 same (record { low = i.low; high = ≤ℤ-trans i.high (unsigned c.ranges.top).high }) tt).eq
