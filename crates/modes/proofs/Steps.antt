@@ -12,20 +12,19 @@ use Rattle.wide.specs.declared.wide.Wide.{Wide}
 use Rattle.wide.specs.Wide.{fill_of, wide_bit_of, widen_of, eight_inside, narrow_of}
 use Rattle.wide.specs.WideLaws.{Sim}
 use Rattle.wide.specs.WideRuns.{WideReads, Gave, Going, going_start, going_fill, going_bit, going_done, going_call, going_last, reads_as, reads_then, walking_start, walking_node, walking_leaf, wide_run}
-use Rattle.modes.specs.declared.quick.Coded.{Coded}
 use Rattle.modes.specs.Modes.{Prefix, Modes, seg_tree, tree, segment, skip, prefix, large_mode_of, block_mode_of, mode_above_of, mode_left_of, small_from, zeros, small_modes_of, luma, Macroblock, modes_of, Kinds, macroblock_of}
 use Rattle.modes.specs.ModesLaws.{set_modes, zeros_modes}
 use Rattle.modes.specs.Quick.{last_of}
 
 -- ---- the last symbol of a walk: one of two leaves
 module _ (w : Wide) (prob low high : ℕ) where
-  pub last_high : {q : Bit} → q ≡ wide_bit_of w prob → q.on ≡ true → record { mode = high; next = q.next } ≡ last_of w prob low high
+  pub last_high : {q : Bit} → q ≡ wide_bit_of w prob → q.on ≡ true → ◌≡◌ {A = ℕ × Wide} (high, q.next) (last_of w prob low high)
   last_high e o = rw (← e, o)
 
-  pub last_low : {q : Bit} → q ≡ wide_bit_of w prob → q.on ≡ false → record { mode = low; next = q.next } ≡ last_of w prob low high
+  pub last_low : {q : Bit} → q ≡ wide_bit_of w prob → q.on ≡ false → ◌≡◌ {A = ℕ × Wide} (low, q.next) (last_of w prob low high)
   last_low e o = rw (← e, o)
 
-  pub last_below : (n : ℕ) {q : Coded} → q ≡ last_of w prob low high → low < n → high < n → q.mode < n
+  pub last_below : (n : ℕ) {q : ℕ × Wide} → q ≡ last_of w prob low high → low < n → high < n → q.0 < n
   last_below n e l h = rw e (go (wide_bit_of w prob).on)
     where
       go : (b : Bool) → elim b [ true ↦ high | false ↦ low ] < n
@@ -45,10 +44,10 @@ module _ (s ps : List ℕ) (t : List ℤ) (y : Bytes s) (z : Bytes ps) (k n m i 
     pub walk_leaf : {a : ℕ} → branch_at_of t i b ≡ B.Leaf a → WideReads s (suc k + 7) n (walk (suc m) ps t i) w a q.next
     walk_leaf f r v l g = walking_leaf k m y (z i) refl (walking_start (suc m) i r v l g) e o f refl
 
-  pub walk_last : {low high : ℕ} {q : Coded} → q ≡ last_of w (get_or ps i 0) low high → branch_at_of t i false ≡ B.Leaf low → branch_at_of t i true ≡ B.Leaf high → WideReads s (suc k + 7) n (walk (suc m) ps t i) w q.mode q.next
+  pub walk_last : {low high : ℕ} {q : ℕ × Wide} → q ≡ last_of w (get_or ps i 0) low high → branch_at_of t i false ≡ B.Leaf low → branch_at_of t i true ≡ B.Leaf high → WideReads s (suc k + 7) n (walk (suc m) ps t i) w q.0 q.1
   walk_last {low} {high} {q} e f g = go (wide_bit_of w (get_or ps i 0)).on refl
     where
-      go : (b : Bool) → (wide_bit_of w (get_or ps i 0)).on ≡ b → WideReads s (suc k + 7) n (walk (suc m) ps t i) w q.mode q.next
+      go : (b : Bool) → (wide_bit_of w (get_or ps i 0)).on ≡ b → WideReads s (suc k + 7) n (walk (suc m) ps t i) w q.0 q.1
       go true o r v l b = rw e (walking_leaf k m y (z i) refl (walking_start (suc m) i r v l b) refl o g (ap (λ (c : Bool). elim c [ true ↦ high | false ↦ low ]) o))
       go false o r v l b = rw e (walking_leaf k m y (z i) refl (walking_start (suc m) i r v l b) refl o f (ap (λ (c : Bool). elim c [ true ↦ high | false ↦ low ]) o))
 

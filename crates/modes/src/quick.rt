@@ -13,71 +13,36 @@ use crate::small::{all_probabilities, mode_above, mode_left, place};
 use header::frame::Announced;
 use wide::wide::{Bit, Wide};
 
-// A mode or a segment, and the reader after it.
-#[derive(Clone, Copy)]
-pub(crate) struct Coded {
-    pub mode: u8,
-    pub next: Wide,
-}
-
-// What stands before the modes.
-#[derive(Clone, Copy)]
-pub(crate) struct Begun {
-    pub prefix: Prefix,
-    pub next: Wide,
-}
-
-// The sixteen luma modes.
-#[derive(Clone, Copy)]
-pub(crate) struct Lumas {
-    pub modes: [u8; 16],
-    pub next: Wide,
-}
-
-// All of a macroblock's modes.
-#[derive(Clone, Copy)]
-pub(crate) struct Whole {
-    pub kinds: Kinds,
-    pub modes: [u8; 16],
-    pub next: Wide,
-}
-
 // The last symbol of a walk: one of two leaves.
-fn last(w: Wide, prob: u8, low: u8, high: u8) -> Coded
+fn last(w: Wide, prob: u8, low: u8, high: u8) -> (u8, Wide)
     ensures { result ≡ last_of w prob low high }
 {
     let b = w.even(prob);
-    let x = b.next;
     if b.on {
-        return Coded {
-            mode: high,
-            next: x,
-        };
+        return (high, b.next);
     }
-    Coded { mode: low, next: x }
+    (low, b.next)
 }
 
 // A tree of two nodes below its root, with four leaves.
-fn fork(s: &[u8], w: Wide, probs: &[u8], a: u8, b: u8, c: u8, d: u8) -> Coded
+fn fork(s: &[u8], w: Wide, probs: &[u8], a: u8, b: u8, c: u8, d: u8) -> (u8, Wide)
     requires { length probs.now ≡ 3 }
-    ensures { WideReads s.now 0 4 (tree probs.now (fork_of a b c d)) w result.mode result.next }
+    ensures { WideReads s.now 0 4 (tree probs.now (fork_of a b c d)) w result.0 result.1 }
 {
-    let f = w.fill(s);
-    let g = f.bit(probs[0]);
-    let x = g.next;
+    let g = w.fill(s).bit(probs[0]);
     if g.on {
-        return last(x, probs[2], c, d);
+        return last(g.next, probs[2], c, d);
     }
-    last(x, probs[1], a, b)
+    last(g.next, probs[1], a, b)
 }
 
 // ---- before the modes
 
-fn segment(s: &[u8], w: Wide, a: Announced) -> Coded
-    ensures { WideReads s.now 0 4 (segment a) w result.mode result.next }
+fn segment(s: &[u8], w: Wide, a: Announced) -> (u8, Wide)
+    ensures { WideReads s.now 0 4 (segment a) w result.0 result.1 }
 {
     if !a.map {
-        return Coded { mode: 0, next: w };
+        return (0, w);
     }
     let probs = a.map_probabilities;
     fork(s, w, &probs, 0, 1, 2, 3)
@@ -94,110 +59,92 @@ fn skip(w: Wide, a: Announced) -> Bit
 }
 
 // Filled for each symbol: so the compiler draws all of it in.
-fn head(s: &[u8], w: Wide, a: Announced) -> Begun
-    ensures { WideReads s.now 0 12 (prefix a) w result.prefix result.next }
+fn head(s: &[u8], w: Wide, a: Announced) -> (Prefix, Wide)
+    ensures { WideReads s.now 0 12 (prefix a) w result.0 result.1 }
 {
-    let c = segment(s, w, a);
-    let x = c.next;
-    let y = x.fill(s);
-    let k = skip(y, a);
-    let z = k.next;
-    let f = z.fill(s);
-    let b = f.bit(145);
-    let next = b.next;
-    Begun {
-        prefix: Prefix {
-            segment: c.mode,
-            skip: k.on,
-            small: !b.on,
-        },
-        next,
-    }
+    let (segment, x) = segment(s, w, a);
+    let k = skip(x.fill(s), a);
+    let b = k.next.fill(s).bit(145);
+    let p = Prefix {
+        segment,
+        skip: k.on,
+        small: !b.on,
+    };
+    (p, b.next)
 }
 
 // ---- the modes
 
-fn large(s: &[u8], w: Wide) -> Coded
-    ensures { WideReads s.now 0 4 (large_mode_of false) w result.mode result.next }
+fn large(s: &[u8], w: Wide) -> (u8, Wide)
+    ensures { WideReads s.now 0 4 (large_mode_of false) w result.0 result.1 }
 {
     fork(s, w, &[156u8, 163, 128], 0, 2, 3, 1)
 }
 
-fn chroma(s: &[u8], w: Wide) -> Coded
-    ensures { WideReads s.now 0 4 (large_mode_of true) w result.mode result.next }
+fn chroma(s: &[u8], w: Wide) -> (u8, Wide)
+    ensures { WideReads s.now 0 4 (large_mode_of true) w result.0 result.1 }
 {
-    let f = w.fill(s);
-    let a = f.bit(142);
-    let x = a.next;
+    let a = w.fill(s).bit(142);
     if !a.on {
-        return Coded { mode: 0, next: x };
+        return (0, a.next);
     }
-    let b = x.bit(114);
-    let y = b.next;
+    let b = a.next.bit(114);
     if !b.on {
-        return Coded { mode: 2, next: y };
+        return (2, b.next);
     }
-    last(y, 183, 3, 1)
+    last(b.next, 183, 3, 1)
 }
 
 // The tree of small modes by tests, not by its entries, since there are sixteen walks a macroblock. From node 4, with fifteen bits
 // loaded: HE, RD, VR.
-fn across(w: Wide, probs: &[u8]) -> Coded
+fn across(w: Wide, probs: &[u8]) -> (u8, Wide)
     requires { length probs.now ≡ 9 }
-    ensures { ((s : List ℕ) → Bytes s → WideReads s 15 0 (walk 28 probs.now b_tree 4) w result.mode result.next)
-        × (result.mode < 10) }
+    ensures { ((s : List ℕ) → Bytes s → WideReads s 15 0 (walk 28 probs.now b_tree 4) w result.0 result.1)
+        × (result.0 < 10) }
 {
     let a = w.bit(probs[4]);
-    let x = a.next;
     if !a.on {
-        return Coded { mode: 3, next: x };
+        return (3, a.next);
     }
-    last(x, probs[5], 4, 5)
+    last(a.next, probs[5], 4, 5)
 }
 
 // From node 6, with 22 bits loaded: LD, VL, HD, HU.
-fn slanted(w: Wide, probs: &[u8]) -> Coded
+fn slanted(w: Wide, probs: &[u8]) -> (u8, Wide)
     requires { length probs.now ≡ 9 }
-    ensures { ((s : List ℕ) → Bytes s → WideReads s 22 0 (walk 28 probs.now b_tree 6) w result.mode result.next)
-        × (result.mode < 10) }
+    ensures { ((s : List ℕ) → Bytes s → WideReads s 22 0 (walk 28 probs.now b_tree 6) w result.0 result.1)
+        × (result.0 < 10) }
 {
     let a = w.bit(probs[6]);
-    let x = a.next;
     if !a.on {
-        return Coded { mode: 6, next: x };
+        return (6, a.next);
     }
-    let b = x.bit(probs[7]);
-    let y = b.next;
+    let b = a.next.bit(probs[7]);
     if !b.on {
-        return Coded { mode: 7, next: y };
+        return (7, b.next);
     }
-    last(y, probs[8], 8, 9)
+    last(b.next, probs[8], 8, 9)
 }
 
 // From the root: DC, TM, VE, and on.
-fn small_mode(s: &[u8], w: Wide, probs: &[u8]) -> Coded
+fn small_mode(s: &[u8], w: Wide, probs: &[u8]) -> (u8, Wide)
     requires { length probs.now ≡ 9 }
-    ensures { WideReads s.now 0 8 (walk 32 probs.now b_tree 0) w result.mode result.next × (result.mode < 10) }
+    ensures { WideReads s.now 0 8 (walk 32 probs.now b_tree 0) w result.0 result.1 × (result.0 < 10) }
 {
-    let f = w.fill(s);
-    let a = f.bit(probs[0]);
-    let x = a.next;
+    let a = w.fill(s).bit(probs[0]);
     if !a.on {
-        return Coded { mode: 0, next: x };
+        return (0, a.next);
     }
-    let b = x.bit(probs[1]);
-    let y = b.next;
+    let b = a.next.bit(probs[1]);
     if !b.on {
-        return Coded { mode: 1, next: y };
+        return (1, b.next);
     }
-    let c = y.bit(probs[2]);
-    let z = c.next;
+    let c = b.next.bit(probs[2]);
     if !c.on {
-        return Coded { mode: 2, next: z };
+        return (2, c.next);
     }
-    let d = z.bit(probs[3]);
-    let t = d.next;
-    let u = t.fill(s);
+    let d = c.next.bit(probs[3]);
+    let u = d.next.fill(s);
     if d.on {
         slanted(u, probs)
     } else {
@@ -205,19 +152,19 @@ fn small_mode(s: &[u8], w: Wide, probs: &[u8]) -> Coded
     }
 }
 
-fn block(s: &[u8], w: Wide, top: u8, left: u8, all: &[u8]) -> Coded
+fn block(s: &[u8], w: Wide, top: u8, left: u8, all: &[u8]) -> (u8, Wide)
     requires top_bound { (top < 10) × (left < 10) }
     requires all_value { all.now ≡ renumbered_table }
-    ensures { WideReads s.now 0 8 (block_mode_of top left) w result.mode result.next × (result.mode < 10) }
+    ensures { WideReads s.now 0 8 (block_mode_of top left) w result.0 result.1 × (result.0 < 10) }
 {
     let at = place(top, left);
     let end = at + 9;
     small_mode(s, w, &all[at..end])
 }
 
-fn sixteen(s: &[u8], w: Wide, top: &[u8; 4], left: &[u8; 4]) -> Lumas
+fn sixteen(s: &[u8], w: Wide, top: &[u8; 4], left: &[u8; 4]) -> ([u8; 16], Wide)
     requires { Modes top.now × Modes left.now }
-    ensures { WideReads s.now 0 128 (small_modes_of top.now left.now) w result.modes result.next }
+    ensures { WideReads s.now 0 128 (small_modes_of top.now left.now) w result.0 result.1 }
 {
     let all = all_probabilities();
     let mut modes = [0u8; 16];
@@ -225,49 +172,45 @@ fn sixteen(s: &[u8], w: Wide, top: &[u8; 4], left: &[u8; 4]) -> Lumas
     for i in 0..16 {
         let up = mode_above(top, &modes, i);
         let by = mode_left(left, &modes, i);
-        let m = block(s, next, up, by, &all);
-        modes[i] = m.mode;
-        next = m.next;
+        let (mode, after) = block(s, next, up, by, &all);
+        modes[i] = mode;
+        next = after;
     }
-    Lumas { modes, next }
+    (modes, next)
 }
 
 // Small modes, or a large one sixteen times.
-fn luma(s: &[u8], w: Wide, small: bool, top: &[u8; 4], left: &[u8; 4]) -> Lumas
+fn luma(s: &[u8], w: Wide, small: bool, top: &[u8; 4], left: &[u8; 4]) -> ([u8; 16], Wide)
     requires { Modes top.now × Modes left.now }
-    ensures { WideReads s.now 0 128 (luma small top.now left.now) w result.modes result.next }
+    ensures { WideReads s.now 0 128 (luma small top.now left.now) w result.0 result.1 }
 {
     if small {
         return sixteen(s, w, top, left);
     }
-    let m = large(s, w);
-    let x = m.next;
-    Lumas {
-        modes: [m.mode; 16],
-        next: x,
-    }
+    let (mode, next) = large(s, w);
+    ([mode; 16], next)
 }
 
 // Prefix, luma, chroma.
-pub(crate) fn quick(s: &[u8], a: Announced, w: Wide, top: &[u8; 4], left: &[u8; 4]) -> Whole
+pub(crate) fn quick(
+    s: &[u8],
+    a: Announced,
+    w: Wide,
+    top: &[u8; 4],
+    left: &[u8; 4],
+) -> (Kinds, [u8; 16], Wide)
     requires { Modes top.now × Modes left.now }
     ensures { WideReads s.now 0 144 (modes_of a top.now left.now) w
-        (macroblock_of result.kinds result.modes) result.next }
+        (macroblock_of result.0 result.1) result.2 }
 {
-    let h = head(s, w, a);
-    let p = h.prefix;
-    let l = luma(s, h.next, p.small, top, left);
-    let c = chroma(s, l.next);
-    let modes = l.modes;
-    let next = c.next;
-    Whole {
-        kinds: Kinds {
-            segment: p.segment,
-            skip: p.skip,
-            small: p.small,
-            chroma: c.mode,
-        },
-        modes,
-        next,
-    }
+    let (p, x) = head(s, w, a);
+    let (modes, y) = luma(s, x, p.small, top, left);
+    let (chroma, next) = chroma(s, y);
+    let kinds = Kinds {
+        segment: p.segment,
+        skip: p.skip,
+        small: p.small,
+        chroma,
+    };
+    (kinds, modes, next)
 }

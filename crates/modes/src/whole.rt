@@ -121,17 +121,14 @@ pub fn read_modes(
             reads: 0,
         };
     }
-    let q = quick(s, a, widen(r), &top, &left);
-    let w = q.next;
+    let (kinds, read, w) = quick(s, a, widen(r), &top, &left);
     if !inside(s, w) {
         return stage(s, a, r, &top, &left, modes);
     }
-    let read = q.modes;
     *modes = read;
-    let kinds = q.kinds;
     let reads = modes_read(a, kinds, modes);
     ModesRead {
         answer: Stage::Read(kinds, narrow(s, w)),
-        reads: reads,
+        reads,
     }
 }

@@ -4,5 +4,5 @@ use Rattle.modes.proofs.quick.head.Goals as goal
 
 pub returns : goal.returns
 returns c =
-    let y : Bytes c.args.s.now = (λ i. (c.shared_slice_known-1.given i).fits) in
-    reads_prefix c.args.a c.args.s.now y c.segment-c.ensures c.fill-y.ensures (c.skip-k.ensures c.args.s.now y) c.fill-f.ensures c.bit-b.ensures
+    let y : Bytes c.args.s.now = (λ i. (c.type_inv.s i).fits) in
+    reads_prefix c.args.a c.args.s.now y c.segment-segment.ensures c.fill.ensures (c.skip-k.ensures c.args.s.now y) c.fill-2.ensures c.bit-b.ensures

@@ -5,4 +5,4 @@ pub returns-then-small : goal.returns-then-small
 returns-then-small c = luma_small _ _ _ _ c.if-small.true c.sixteen.ensures
 
 pub returns : goal.returns
-returns c = luma_large _ _ _ _ c.if-small.false c.large-m.ensures
+returns c = luma_large _ _ _ _ c.if-small.false c.large-mode.ensures

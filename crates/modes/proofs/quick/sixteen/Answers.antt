@@ -6,14 +6,14 @@ use Rattle.modes.proofs.quick.sixteen.Goals as goal
 pub loop-i-init : goal.loop-i-init
 loop-i-init c = coding_start _ _ _ _
 
-pub block-m-requires : goal.block-m-requires
-block-m-requires c =
+pub block-mode-requires : goal.block-mode-requires
+block-mode-requires c =
     let u : c.mode_above-up.result < 10 = rw c.mode_above-up.ensures (above_mode _ _ _ c.requires.0 c.loop-i.invariant.each) in
     let v : c.mode_left-by.result < 10 = rw c.mode_left-by.ensures (left_mode _ _ _ c.requires.1 c.loop-i.invariant.each) in
     record { top_bound = (omega arith, omega arith); all_value = c.all_probabilities-all.ensures }
 
 pub loop-i-preserved : goal.loop-i-preserved
-loop-i-preserved c = coding_next _ _ _ _ c.loop-i.invariant c.loop-i-test.true c.mode_above-up.ensures c.mode_left-by.ensures c.block-m.ensures.0 c.block-m.ensures.1
+loop-i-preserved c = coding_next _ _ _ _ c.loop-i.invariant c.loop-i-test.true c.mode_above-up.ensures c.mode_left-by.ensures c.block-mode.ensures.0 c.block-mode.ensures.1
 
 pub returns : goal.returns
 returns c = coding_end _ _ _ _ c.loop-i.invariant c.loop-i-test.false

@@ -6,12 +6,12 @@ use Rattle.modes.proofs.quick.slanted.Goals as goal
 
 pub returns-then-not-a : goal.returns-then-not-a
 returns-then-not-a c =
-    let z : Bytes c.args.probs.now = (λ i. (c.shared_slice_known-1.given i).fits) in
+    let z : Bytes c.args.probs.now = (λ i. (c.type_inv.probs i).fits) in
     (λ s y. walk_leaf s c.args.probs.now b_tree y z 14 0 27 6 c.args.w false c.bit-a.ensures (not-true _ c.if-not-a.true) refl, lit< tt)
 
 pub returns-then-not-b : goal.returns-then-not-b
 returns-then-not-b c =
-    let z : Bytes c.args.probs.now = (λ i. (c.shared_slice_known-1.given i).fits) in (
+    let z : Bytes c.args.probs.now = (λ i. (c.type_inv.probs i).fits) in (
       λ s y.
           walk_node s c.args.probs.now b_tree y z 14 0 27 6 c.args.w true c.bit-a.ensures (not-false _ c.if-not-a.false) refl
           (walk_leaf s c.args.probs.now b_tree y z 7 0 26 7 c.bit-a.result.next false c.bit-b.ensures (not-true _ c.if-not-b.true) refl),
@@ -20,7 +20,7 @@ returns-then-not-b c =
 
 pub returns : goal.returns
 returns c =
-    let z : Bytes c.args.probs.now = (λ i. (c.shared_slice_known-1.given i).fits) in (
+    let z : Bytes c.args.probs.now = (λ i. (c.type_inv.probs i).fits) in (
       λ s y.
           walk_node s c.args.probs.now b_tree y z 14 0 27 6 c.args.w true c.bit-a.ensures (not-false _ c.if-not-a.false) refl
           (walk_node s c.args.probs.now b_tree y z 7 0 26 7 c.bit-a.result.next true c.bit-b.ensures (not-false _ c.if-not-b.false) refl
