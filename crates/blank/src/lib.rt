@@ -1,35 +1,18 @@
 // The lent memory before the first macroblock. Filled first, so that what no macroblock reaches needs no code after the loops.
 #![tactic(auto)]
 
-ghost use Rattle.std.specs.Prelude.{◌≡◌, ◌+◌, ◌≤◌, ◌<◌, length};
-ghost use Rattle.numbers.specs.Runs.{placed};
+ghost use Rattle.std.specs.Prelude.{◌≡◌};
 ghost use Rattle.lent.specs.Memory.{Memory, memory_of, filled, blank_of};
-
-// n places from `at` on.
-fn fill_part(mem: &mut [u8], at: usize, n: usize, value: u8)
-    requires { at + n ≤ length mem.old }
-    ensures { mem.new ≡ placed mem.old at (λ i. value) n }
-{
-    for i in 0..n {
-        mem[at + i] = value;
-    }
-}
-
-// How many of the rest make a part.
-fn piece(rest: usize) -> usize
-    ensures { (result ≤ rest) × (0 < rest → 0 < result) }
-{
-    if rest < 1024 { rest } else { 1024 }
-}
 
 // In parts, since a C library stores a long run of one value byte by byte, and a short one in wide pieces.
 pub fn fill(mem: &mut [u8], value: u8)
     ensures { mem.new ≡ filled mem.old value }
 {
     let mut at = 0;
+    // Stays a while: its step is a part.
     while at < mem.len() {
-        let n = piece(mem.len() - at);
-        fill_part(&mut mem[..], at, n, value);
+        let n = (mem.len() - at).min(1024);
+        mem[at..at + n].fill(value);
         at += n;
     }
 }
