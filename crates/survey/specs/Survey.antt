@@ -1,6 +1,6 @@
 -- The survey over a delivery (request M-110): a record of 37 counts, into which a call folds what its picture call shows. The tables of a
 -- record, by their first place: pictures by answer 0..7 (0); the finished macroblocks by segment (8), by large mode DC, TM, V, H with small as
--- a fifth (12), by chroma mode (17), by skip (21), by inside byte (23); the small ones' sub_blocks_lem by mode (25); the symbols of the first
+-- a fifth (12), by chroma mode (17), by skip (21), by inside byte (23); the small ones' sub-blocks by mode (25); the symbols of the first
 -- partition (35) and of token partitions (36).
 use Rattle.std.specs.Prelude.{◌+◌, ◌<◌, ◌&&◌, ◌∷◌, ◌++◌}
 use Rattle.numbers.specs.Words.{ℕ, zero, suc, Bool, true, false, eqb, leb, bit_of, List, [], length, get_or, build}
@@ -58,7 +58,7 @@ skip_at modes k = bit_of (mode_found modes k).kinds.skip
 abbrev pub inside_at : List ℕ → ℕ → ℕ
 inside_at strengths k = (strength_found strengths k).strength.inside
 
--- a small macroblock's sub_blocks_lem with mode x; a large one counts none
+-- a small macroblock's sub-blocks with mode x; a large one counts none
 unfoldable pub sub_blocks : (small : Bool) → (mode : ℕ → ℕ) → (x : ℕ) → ℕ
 sub_blocks small mode x = elim small [ true ↦ how_many 16 mode x | false ↦ 0 ]
 

@@ -10,7 +10,7 @@ use Rattle.survey.specs.Survey.{luma_of}
 unfoldable pub counted : List ℕ → (table rows x : ℕ) → List ℕ
 counted l table rows x = elim (ltb x rows) [ true ↦ set l (table + x) (get_or l (table + x) 0 + 1) | false ↦ l ]
 
--- the first n sub_blocks_lem
+-- the first n sub-blocks
 unfoldable pub smalls_to : (n : ℕ) → List ℕ → List ℕ → List ℕ
 smalls_to zero modes l = l
 smalls_to (suc n) modes l = counted (smalls_to n modes l) 25 10 (get_or modes n 0)

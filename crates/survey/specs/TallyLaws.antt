@@ -97,7 +97,7 @@ pub luma_large : (small : Bool) (mode : ℕ) → small ≡ false → mode ≡ lu
 unfolding luma_of
 luma_large small mode e = rw (e, luma_of)
 
--- ---- the sub_blocks_lem, as a loop counts them
+-- ---- the sub-blocks, as a loop counts them
 roomy_smalls : (n : ℕ) (modes l : List ℕ) (b : ℕ) → Roomy l b → Roomy (smalls_to n modes l) (b + n)
 unfolding smalls_to
 roomy_smalls zero modes l b r = roomy_more l b (b + 0) r (omega arith)

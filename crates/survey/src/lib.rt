@@ -85,7 +85,7 @@ pub fn survey(
     let told = told(number, full);
     Surveyed {
         number: told,
-        finished: finished,
-        reads: reads,
+        finished,
+        reads,
     }
 }

@@ -13,17 +13,11 @@ fn fits(counts: &[u64], other: &[u64]) -> bool
     requires { (length counts.now ≡ 37) × (length other.now ≡ 37) }
     ensures { result ≡ fits_to counts.now other.now 37 }
 {
-    let mut i: usize = 0;
-    while i < 37 {
+    for i in 0..COUNTS {
         let a = counts[i];
-        let b = other[i];
-        if LIMIT < a {
+        if LIMIT < a || LIMIT - a < other[i] {
             return false;
         }
-        if LIMIT - a < b {
-            return false;
-        }
-        i = i + 1;
     }
     true
 }
@@ -33,10 +27,8 @@ fn sum(counts: &mut [u64], other: &[u64])
     requires other_value { fits_to counts.old other.now 37 ≡ true }
     ensures { counts.new ≡ sum_of counts.old other.now }
 {
-    let mut i: usize = 0;
-    while i < 37 {
-        counts[i] = counts[i] + other[i];
-        i = i + 1;
+    for i in 0..COUNTS {
+        counts[i] += other[i];
     }
 }
 

@@ -1,6 +1,5 @@
 // What one picture counts: its answer, its finished macroblocks by what their mode and strength records say, its symbols.
 ghost use Rattle.std.specs.Prelude.{◌≡◌, ◌+◌, ◌≤◌, replicate};
-ghost use Rattle.numbers.specs.Flags.{bit_of};
 ghost use Rattle.survey.specs.Survey.{luma_of, tallied_of};
 ghost use Rattle.survey.specs.Tally.{Roomy, counted, smalls_to, block_counted, blocks_to};
 
@@ -13,10 +12,10 @@ fn count(counts: &mut [u64], table: usize, rows: usize, x: u8)
     requires rows_bound { table + rows ≤ 37 }
     ensures { counts.new ≡ counted counts.old table rows x }
 {
-    let at = x as usize;
+    let at = usize::from(x);
     if at < rows {
         let p = table + at;
-        counts[p] = counts[p] + 1;
+        counts[p] += 1;
     }
 }
 
@@ -24,16 +23,7 @@ fn count(counts: &mut [u64], table: usize, rows: usize, x: u8)
 fn luma(small: bool, mode: u8) -> u8
     ensures { result ≡ luma_of small mode }
 {
-    if small {
-        return 4;
-    }
-    mode
-}
-
-fn bit(b: bool) -> u8
-    ensures { result ≡ bit_of b }
-{
-    if b { 1 } else { 0 }
+    if small { 4 } else { mode }
 }
 
 // The sub-blocks of a small macroblock.
@@ -41,10 +31,8 @@ fn smalls(counts: &mut [u64], modes: &[u8; 16])
     requires { Roomy counts.old 999999900 }
     ensures { counts.new ≡ smalls_to 16 modes.now counts.old }
 {
-    let mut i: usize = 0;
-    while i < 16 {
-        count(&mut counts[..], 25, 10, modes[i]);
-        i = i + 1;
+    for mode in modes {
+        count(&mut counts[..], 25, 10, *mode);
     }
 }
 
@@ -59,7 +47,7 @@ fn block(counts: &mut [u64], modes: &[u8], strengths: &[u8], k: usize)
     let all = found.modes;
     let strength = told.strength;
     let kind = luma(kinds.small, all[0]);
-    let skip = bit(kinds.skip);
+    let skip = u8::from(kinds.skip);
     count(&mut counts[..], 8, 4, kinds.segment);
     count(&mut counts[..], 12, 5, kind);
     count(&mut counts[..], 17, 4, kinds.chroma);
@@ -76,10 +64,8 @@ fn blocks(counts: &mut [u64], modes: &[u8], strengths: &[u8], n: usize)
     requires n_bound { n ≤ 1048576 }
     ensures { counts.new ≡ blocks_to n modes.now strengths.now counts.old }
 {
-    let mut k: usize = 0;
-    while k < n {
+    for k in 0..n {
         block(&mut counts[..], modes, strengths, k);
-        k = k + 1;
     }
 }
 

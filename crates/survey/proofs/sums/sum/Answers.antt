@@ -1,4 +1,4 @@
-use Rattle.numbers.specs.Words.{◌-◌, arith, refl, sym, ◌∙◌}
+use Rattle.numbers.specs.Words.{arith, refl, sym, ◌∙◌}
 use Rattle.survey.specs.SurveyLaws.{adding_start, adding_next, adding_fits, adding_end}
 use Rattle.survey.proofs.sums.sum.Goals as goal
 

@@ -1,4 +1,4 @@
-use Rattle.numbers.specs.Words.{◌-◌, sym, ◌∙◌}
+use Rattle.numbers.specs.Words.{sym, ◌∙◌}
 use Rattle.survey.specs.TallyLaws.{blocking_start, blocking_room, blocking_next, blocking_end}
 use Rattle.survey.proofs.tally.blocks.Goals as goal
 

@@ -4,5 +4,5 @@ use Rattle.survey.proofs.tally.luma.Goals as goal
 pub returns-then-small : goal.returns-then-small
 returns-then-small c = luma_small _ _ c.if-small.true
 
-pub returns : goal.returns
-returns c = luma_large _ _ c.if-small.false
+pub returns-else-small : goal.returns-else-small
+returns-else-small c = luma_large _ _ c.if-small.false

@@ -1,9 +1,5 @@
-use Rattle.numbers.specs.Words.{◌-◌}
 use Rattle.survey.specs.TallyLaws.{Smalling}
 use Rattle.survey.proofs.tally.smalls.Given as goal
 
-abbrev pub invariant-loop-i : goal.invariant-loop-i
-invariant-loop-i l = Smalling l.modes l.initial.counts l.counts l.i
-
-abbrev pub decreases-loop-i : goal.decreases-loop-i
-decreases-loop-i l = 16 - l.i
+abbrev pub invariant-loop-mode : goal.invariant-loop-mode
+invariant-loop-mode l = Smalling l.modes l.initial.counts l.counts l.mode-index
