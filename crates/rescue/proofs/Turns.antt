@@ -1,5 +1,5 @@
 -- The turns of the loop after the stop, on plain values.
-use Rattle.numbers.specs.Words.{ℕ, zero, suc, ◌+◌, ◌-◌, ◌*◌, ◌≤◌, ◌<◌, arith, ◌≡◌, refl, sym, ◌∙◌, ap, subst, ◌⊎◌, ⊎_elim, [], ◌∷◌, set}
+use Rattle.numbers.specs.Words.{ℕ, zero, suc, ◌+◌, ◌-◌, ◌*◌, ◌≤◌, ◌<◌, arith, ◌≡◌, refl, sym, ◌∙◌, ap, subst, ⊎_elim, [], ◌∷◌, set}
 use types.Run.{OneOf}
 use denote.Enum.Declared.{tag_of}
 use Rattle.reader.specs.Reading.{no_reader_of}

@@ -1,5 +1,5 @@
 -- The laws of the rescue call: one macroblock after the stop, one turn of the recursion, the marks, the call.
-use Rattle.std.specs.Prelude.{◌+◌, ◌-◌, ◌*◌, ◌/◌, ◌%◌, ◌≤◌, ◌<◌, ◌≡◌}
+use Rattle.std.specs.Prelude.{◌+◌, ◌*◌, ◌/◌, ◌%◌, ◌≤◌, ◌<◌, ◌≡◌}
 use Rattle.numbers.specs.Words.{ℕ, zero, suc, arith, refl, sym, ◌∙◌, ap, ap₂, subst, le-ltb, lt-ltb, List, length, get_or, build, length_build, get_or_build}
 use Rattle.reader.specs.declared.boolean.Reader.{Reader}
 use Rattle.reader.specs.Reading.{no_reader_of}
@@ -16,7 +16,6 @@ use Rattle.macroblock.specs.Rebuilt.{rebuilt_of, rebuild_call_of}
 use Rattle.macroblock.specs.DecodeLaws.{ready_legible}
 use Rattle.macroblock.specs.RebuiltLaws.{rebuild_good, rebuilt_never, rebuilt_ends, rebuilt_outside, rebuilt_strength, with_token, rebuilt_token, rebuilt_token_none}
 use Rattle.macroblock.specs.StepLaws.{Elsewhere}
-use Rattle.choices.specs.declared.answer.Decoded.TheVariants as D
 use Rattle.choices.specs.Choices.{Call, values_of, beside_of}
 use Rattle.picture.specs.Picture.{Picture, State, pictured_of, column_of, partition_of, planes_in, place_of, readers_at, around_at, written, next_of, Turned, turned, Room, Shared, Live}
 use Rattle.picture.specs.declared.turn.Task.{Task}

@@ -17,9 +17,7 @@ fn mark_of(whole: usize, saved: usize, i: usize) -> u8
 pub(crate) fn mark(marks: &mut [u8], whole: usize, saved: usize)
     ensures { marks.new ≡ marks_of (length marks.old) whole saved }
 {
-    let mut i = 0;
-    while i < marks.len() {
-        marks[i] = mark_of(whole, saved, i);
-        i = i + 1;
+    for (i, place) in marks.iter_mut().enumerate() {
+        *place = mark_of(whole, saved, i);
     }
 }

@@ -54,8 +54,7 @@ pub(crate) fn rest(
     let mut r = stop.reader;
     let mut readers = stop.readers;
     let mut left = stop.left;
-    let mut k = from;
-    while k < blocks {
+    for k in from..blocks {
         let p = pick(k / wide, tile.count);
         let t = readers[p];
         let m = turn(
@@ -70,13 +69,12 @@ pub(crate) fn rest(
         );
         let finish = m.answer;
         let Finish::Done(after) = finish else {
-            break;
+            return k;
         };
         let token = after.token;
         r = after.first;
         readers[p] = token;
         left = m.left;
-        k = k + 1;
     }
-    k
+    blocks
 }

@@ -36,15 +36,15 @@ pub(crate) fn task_of(readers: Readers, frame: Frame, left: Context, wide: usize
     } }
 {
     Task {
-        readers: readers,
-        frame: frame,
-        left: left,
+        readers,
+        frame,
+        left,
         place: Place {
             column: k % wide,
             row: k / wide,
             width: wide * 16,
         },
-        k: k,
+        k,
     }
 }
 
@@ -79,10 +79,7 @@ pub(crate) fn turn(
         first,
         task.readers,
         task.frame,
-        Around {
-            top: top,
-            left: left,
-        },
+        Around { top, left },
         place,
         y,
         u,
@@ -92,7 +89,7 @@ pub(crate) fn turn(
     let Finish::Done(after) = answer else {
         let before = task.left;
         return RebuiltTurn {
-            answer: answer,
+            answer,
             left: before,
         };
     };

@@ -1,12 +1,9 @@
-use Rattle.numbers.specs.Words.{◌-◌, arith, refl, filled_none, filled_next, filled_all}
+use Rattle.numbers.specs.Words.{arith, refl, filled_none, filled_next, filled_all}
 use Rattle.rescue.specs.RescueLaws.{marks_built}
 use Rattle.rescue.proofs.marks.mark.Goals as goal
 
 pub loop-i-init : goal.loop-i-init
 loop-i-init c = filled_none _ _ _ refl
-
-pub loop-i-smaller : goal.loop-i-smaller
-loop-i-smaller c = omega (arith, c.loop-i-test.true, c.loop-i.invariant.long)
 
 pub loop-i-preserved : goal.loop-i-preserved
 loop-i-preserved c = filled_next _ (omega (arith, c.loop-i-test.true, c.loop-i.invariant.long)) c.mark_of.ensures c.loop-i.invariant
