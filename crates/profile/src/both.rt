@@ -19,14 +19,12 @@ fn both(modes: &[u8], k: usize) -> bool
 fn first_both(modes: &[u8], blocks: usize) -> usize
     ensures { result ≡ first_both_of blocks 0 modes.now }
 {
-    let mut k = 0;
-    while k < blocks {
+    for k in 0..blocks {
         if both(modes, k) {
             return k;
         }
-        k = k + 1;
     }
-    k
+    blocks
 }
 
 // Rule 6 of a whole picture.
