@@ -229,14 +229,16 @@ def leaves(t):
 def fields_of(file, kind):
     """The fields of a struct that the file declares or names in a `use` line."""
     text = file.read_text()
-    if not re.search(rf"^pub struct {kind} \{{", text, re.M):
+    kind = kind.split("<")[0]
+    head = rf"^pub struct {kind}(?:<\w+>)? \{{"
+    if not re.search(head, text, re.M):
         path = rust_uses(text).get(kind)
         if not path:
             raise Fault(f"no struct {kind}")
         crate, *modules = path.split("::")[:-1]
         source = file.parents[len(file.parts) - 1 - file.parts.index("src") - 1] if crate in ("crate", "super") else ROOT / "crates" / crate / "src"
         text = (source / ("/".join(modules or ["lib"]) + ".rt")).read_text()
-    body = re.search(rf"^pub struct {kind} \{{(.*?)^\}}", text, re.M | re.S).group(1)
+    body = re.search(head + r"(.*?)^\}", text, re.M | re.S).group(1)
     return re.findall(r"^\s*(?:pub )?(\w+):", body, re.M)
 
 

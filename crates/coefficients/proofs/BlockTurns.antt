@@ -1,15 +1,13 @@
 -- The turns of `read_block`'s loop, as laws on plain values: whatever is left to read from position n on gives and takes, the whole block gives,
 -- and takes with the symbols read so far.
-use Rattle.numbers.specs.Words.{ℕ, zero, suc, ◌+◌, ◌-◌, ◌*◌, ◌≤◌, ◌<◌, add-zero, zero-add, arith, ◌≡◌, refl, sym, ap, Bool, true, false, List, length, get_or, set, ℤ, round, there, w32}
+use Rattle.numbers.specs.Words.{ℕ, zero, suc, ◌+◌, ◌-◌, ◌*◌, ◌≤◌, ◌<◌, add-zero, zero-add, arith, ◌≡◌, refl, sym, ap, Bool, true, false, List, length, get_or, set, ℤ, round, there, w32, Ok}
 use Rattle.reader.specs.declared.boolean.Reader.{Reader}
-use Rattle.reader.specs.Reading.{Given, given, missing, Reading, run, count}
-use Rattle.reader.specs.ReadingLaws.{Bytes, Valid, ReadTo, run_valid, count_within}
+use Rattle.reader.specs.Reading.{Given, given, missing, ReadOf, Reading, run, count}
+use Rattle.reader.specs.ReadingLaws.{Bytes, Valid, ReadTo, run_valid, count_within, from_read}
 use Rattle.reader.specs.Counts.{Took, token_count}
 use Rattle.reader.specs.CountsLaws.{took_as, token_took}
-use Rattle.reader.specs.declared.token.Token.{Token}
 use Rattle.reader.specs.Token.{token, token_answer}
-use Rattle.reader.specs.TokenLaws.{from_token, token_fits}
-use Rattle.reader.specs.declared.token.Token.TheVariants as T
+use Rattle.reader.specs.TokenLaws.{token_fits}
 use Rattle.coefficients.specs.BlockLaws.{SixteenBits, signed_within}
 use Rattle.coefficients.specs.BlockSteps.{from_signed, SignedRead, signed_took, block_none, block_missing, block_ends, block_zero, block_lost, block_number}
 use Rattle.coefficients.specs.Block.{Signed, signed_value, zigzag, probability_place, probabilities_at, quantizer_at, context_after, Coefficients, block_from, block, to_block_called}
@@ -41,34 +39,34 @@ going_end {s} {table} {kind} {q0} {q1} {whole} {r₀} {n} {ctx} {z} {r} {values}
     rw last at t
 
 -- a turn, once the code has asked its token and had the answer x for k symbols
-pub record Turn (s table : List ℕ) (kind q0 q1 : ℕ) (whole : Reading Coefficients) (r₀ : Reader) (n ctx : ℕ) (z : Bool) (r : Reader) (values : List ℤ) (reads : ℕ) (x : Token) (k : ℕ) : Type 0 where
+pub record Turn (s table : List ℕ) (kind q0 q1 : ℕ) (whole : Reading Coefficients) (r₀ : Reader) (n ctx : ℕ) (z : Bool) (r : Reader) (values : List ℤ) (reads : ℕ) (x : ReadOf ℕ) (k : ℕ) : Type 0 where
   pub left : ℕ
   pub sum : n + 1 + left ≡ 16
   pub on : On s table kind q0 q1 whole r₀ (suc left) n ctx z r values reads
   pub few : reads ≤ 19 * n
-  pub asked : Took (token (probabilities_at table kind n ctx) z) s r (from_token x) k
+  pub asked : Took (token (probabilities_at table kind n ctx) z) s r (from_read x) k
   pub short : k ≤ 7
   pub valid : Valid s r
   pub bytes : Bytes s
   pub probs : Bytes table
 
-pub turn : {s table : List ℕ} {kind q0 q1 : ℕ} {whole : Reading Coefficients} {r₀ : Reader} {n ctx : ℕ} {z : Bool} {r : Reader} {values : List ℤ} {reads : ℕ} {x : Token} {k at : ℕ} → Going s table kind q0 q1 whole r₀ n ctx z r values reads → n < 16 → at ≡ probability_place kind n ctx → at + 11 ≤ length table → (x ≡ token_answer s table at z r) × (k ≡ token_count s table at z r) → Bytes s → Bytes table → Turn s table kind q0 q1 whole r₀ n ctx z r values reads x k
+pub turn : {s table : List ℕ} {kind q0 q1 : ℕ} {whole : Reading Coefficients} {r₀ : Reader} {n ctx : ℕ} {z : Bool} {r : Reader} {values : List ℤ} {reads : ℕ} {x : ReadOf ℕ} {k at : ℕ} → Going s table kind q0 q1 whole r₀ n ctx z r values reads → n < 16 → at ≡ probability_place kind n ctx → at + 11 ≤ length table → (x ≡ token_answer s table at z r) × (k ≡ token_count s table at z r) → Bytes s → Bytes table → Turn s table kind q0 q1 whole r₀ n ctx z r values reads x k
 turn {s} {table} {kind} {q0} {q1} {whole} {r₀} {n} {ctx} {z} {r} {values} {reads} {x} {k} {at} g l e i f y b = go g.more g.sum g.on
   where
-    took : Took (token (probabilities_at table kind n ctx) z) s r (from_token x) k
+    took : Took (token (probabilities_at table kind n ctx) z) s r (from_read x) k
     took = rw (← e) (token_took s table at z r g.valid i f)
 
     go : (m : ℕ) → n + m ≡ 16 → On s table kind q0 q1 whole r₀ m n ctx z r values reads → Turn s table kind q0 q1 whole r₀ n ctx z r values reads x k
     go zero p w = absurd (omega arith)
     go (suc m) p w = record { left = m; sum = omega arith; on = w; few = g.few; asked = took; short = omega (arith, took.took, count_within s r (token_fits table (probability_place kind n ctx) z b)); valid = g.valid; bytes = y; probs = b }
 
-module _ {s table : List ℕ} {kind q0 q1 : ℕ} {whole : Reading Coefficients} {r₀ : Reader} {n ctx : ℕ} {z : Bool} {r : Reader} {values : List ℤ} {reads : ℕ} {x : Token} {k : ℕ} (c : Turn s table kind q0 q1 whole r₀ n ctx z r values reads x k) where
-  pub turn_missing : from_token x ≡ missing → Took whole s r₀ missing (reads + k)
+module _ {s table : List ℕ} {kind q0 q1 : ℕ} {whole : Reading Coefficients} {r₀ : Reader} {n ctx : ℕ} {z : Bool} {r : Reader} {values : List ℤ} {reads : ℕ} {x : ReadOf ℕ} {k : ℕ} (c : Turn s table kind q0 q1 whole r₀ n ctx z r values reads x k) where
+  pub turn_missing : from_read x ≡ missing → Took whole s r₀ missing (reads + k)
   turn_missing h = c.on _ k (block_missing table kind q0 q1 s n ctx z values r c.left (took_as h refl c.asked))
 
-  module _ {t : ℕ} {q : Reader} (h : x ≡ T.Read t q) where
+  module _ {t : ℕ} {q : Reader} (h : x ≡ Ok (t, q)) where
     read : Took (token (probabilities_at table kind n ctx) z) s r (given t q) k
-    read = took_as (ap from_token h) refl c.asked
+    read = took_as (ap from_read h) refl c.asked
 
     pub token_read : ReadTo (λ t. t < 12) s r t q
     token_read = run_valid (token_fits table (probability_place kind n ctx) z c.probs) c.bytes c.valid read.gave

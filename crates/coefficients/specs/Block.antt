@@ -1,13 +1,12 @@
 -- The coefficients of a block (RFC 6386, sections 13, 3350-3370, 13.2, 13.3 and 14.1), as grammars over the tokens of `reader`.
 use Rattle.std.specs.Prelude.{◌+◌, ◌-◌, ◌*◌, ◌&&◌, ◌∷◌}
-use Rattle.numbers.specs.Words.{ℕ, zero, suc, Bool, true, false, eqb, ltb, leb, List, [], length, get_or, set, replicate, build, ℤ, pos, negsuc, neg_ℤ, le_z, In, wrap_z}
+use Rattle.numbers.specs.Words.{ℕ, zero, suc, Bool, true, false, eqb, ltb, leb, List, [], length, get_or, set, replicate, build, ℤ, pos, negsuc, neg_ℤ, le_z, In, wrap_z, Err}
 use Rattle.reader.specs.declared.boolean.Reader.{Reader}
-use Rattle.reader.specs.Reading.{Given, given, missing, valid_of, Reading, done, symbol, run, ◌>>=◌, count}
-use Rattle.reader.specs.declared.extra.Number.{Number}
-use Rattle.reader.specs.Extra.{extra, to_number}
+use Rattle.reader.specs.Reading.{Given, given, missing, ReadOf, to_read, valid_of, Reading, done, symbol, run, ◌>>=◌, count}
+use Rattle.reader.specs.Extra.{extra}
 use Rattle.header.specs.Header.{coefficient_probability, entry_count, probability_count, entry, probability_of}
 use Rattle.reader.specs.Token.{token, eleven_at}
-use Rattle.reader.specs.declared.extra.Number.TheVariants as N
+use Rattle.reader.specs.declared.boolean.Unread.TheVariants as U
 use Rattle.numbers.specs.declared.Checked.TheVariants as H
 use Rattle.coefficients.specs.declared.block.Block.{Block}
 use Rattle.coefficients.specs.declared.block.Block.TheVariants as B
@@ -118,8 +117,8 @@ to_signed (given v r) = S.Value v r
 to_signed missing = S.Missing
 
 -- a token's number, read from a partition
-unfoldable pub magnitude_of : List ℕ → ℕ → Reader → Number
-magnitude_of s t r = to_number (run (magnitude t) s r)
+unfoldable pub magnitude_of : List ℕ → ℕ → Reader → ReadOf ℕ
+magnitude_of s t r = to_read (run (magnitude t) s r)
 
 -- the same with its sign, times a quantizer
 unfoldable pub signed_of : List ℕ → ℕ → ℕ → Reader → Signed
@@ -130,8 +129,8 @@ abbrev pub numeric_of : ℕ → Bool
 numeric_of t = leb 2 t && leb t 11
 
 -- what `number` answers
-unfoldable pub number_answer : List ℕ → ℕ → Reader → Number
-number_answer s t r = elim (valid_of s r && numeric_of t) [ true ↦ magnitude_of s t r | false ↦ N.Refused ]
+unfoldable pub number_answer : List ℕ → ℕ → Reader → ReadOf ℕ
+number_answer s t r = elim (valid_of s r && numeric_of t) [ true ↦ magnitude_of s t r | false ↦ Err U.Refused ]
 
 -- what `dequant` answers
 unfoldable pub signed_answer : List ℕ → ℕ → ℕ → Reader → Signed

@@ -1,17 +1,16 @@
 -- One step of the code at a time: laws that this crate's proofs cite, and `table_done`, which callers of `probabilities` cite. What else
 -- another crate cites stands in TokenLaws.
 use Rattle.std.specs.Prelude.{◌+◌, ◌-◌, ◌*◌, ◌≤◌, ◌<◌, ◌≡◌, ◌&&◌}
-use Rattle.numbers.specs.Words.{ℕ, suc, add-one, arith, refl, sym, ◌∙◌, ap, Bool, true, false, eqb, ltb, leb, both_left, both_right, eq-eqb, eqb-true, leb-true, lt-ltb, ltb-true, ne_eqb, List, length, get_or, set, replicate, all_of_any, ℤ, pos, negsuc, le_z, wrap_z}
+use Rattle.numbers.specs.Words.{ℕ, suc, add-one, arith, refl, sym, ◌∙◌, ap, Bool, true, false, eqb, ltb, leb, both_left, both_right, eq-eqb, eqb-true, leb-true, lt-ltb, ltb-true, ne_eqb, List, length, get_or, set, replicate, all_of_any, ℤ, pos, negsuc, le_z, wrap_z, Ok, Err}
 use Rattle.header.specs.Header.{entry_count, probability_count}
 use Rattle.reader.specs.declared.boolean.Reader.{Reader}
-use Rattle.reader.specs.Reading.{Given, given, missing, valid_of, done, symbol, run, count}
+use Rattle.reader.specs.Reading.{Given, given, missing, ReadOf, to_read, valid_of, done, symbol, run, count}
 use Rattle.reader.specs.Counts.{Took}
 use Rattle.reader.specs.CountsLaws.{took_as, took_is, took_done, took_got, took_missing, took_stops, took_then, took_ends}
-use Rattle.reader.specs.declared.extra.Number.{Number}
-use Rattle.reader.specs.Extra.{extra, to_number}
-use Rattle.reader.specs.ExtraLaws.{from_number, from_number_lem}
+use Rattle.reader.specs.Extra.{extra}
+use Rattle.reader.specs.ReadingLaws.{from_read, from_read_lem}
 use Rattle.reader.specs.Token.{token}
-use Rattle.reader.specs.declared.extra.Number.TheVariants as N
+use Rattle.reader.specs.declared.boolean.Unread.TheVariants as U
 use Rattle.coefficients.specs.Block.{Signed, category, magnitude, sign_of, signed_value, bands, zigzag, quantizer_at, context_after, to_signed, magnitude_of, signed_of, numeric_of, number_answer, signed_answer, header_table, probabilities_at, probability_place, Coefficients, block_from, refused_block, block, block_of, sixteen_bits, block_arguments, block_call_of, block_by_header_of, table_of, block_reads, block_by_header_reads}
 use Rattle.coefficients.specs.declared.block.Block.TheVariants as B
 use Rattle.coefficients.specs.declared.block.BlockRead.{BlockRead}
@@ -48,12 +47,12 @@ unfolding context_after
 context_more t h = rw (ne_eqb t 2 h, context_after)
 
 -- ---- the number of a token, and its sign
-module _ (s ps : List ℕ) (base : ℕ) (r : Reader) (x : Number) {n : ℕ} (b : Took (extra ps) s r (from_number x) n) where
-  pub category_missing : from_number x ≡ missing → (N.Missing ≡ to_number (run (category base ps) s r)) × (n ≡ count (category base ps) s r)
-  category_missing e = took_is to_number (took_stops (λ v. done (base + v)) (extra ps) (took_as e refl b))
+module _ (s ps : List ℕ) (base : ℕ) (r : Reader) (x : ReadOf ℕ) {n : ℕ} (b : Took (extra ps) s r (from_read x) n) where
+  pub category_missing : from_read x ≡ missing → (Err U.Missing ≡ to_read (run (category base ps) s r)) × (n ≡ count (category base ps) s r)
+  category_missing e = took_is to_read (took_stops (λ v. done (base + v)) (extra ps) (took_as e refl b))
 
-  pub category_got : {v : ℕ} {q : Reader} → x ≡ N.Value v q → (N.Value (base + v) q ≡ to_number (run (category base ps) s r)) × (n ≡ count (category base ps) s r)
-  category_got {v} {q} e = took_is to_number (took_ends (λ v. done (base + v)) (extra ps) (took_as (ap from_number e) refl b) (took_done (base + v) s q))
+  pub category_got : {v : ℕ} {q : Reader} → x ≡ Ok (v, q) → (Ok (base + v, q) ≡ to_read (run (category base ps) s r)) × (n ≡ count (category base ps) s r)
+  category_got {v} {q} e = took_is to_read (took_ends (λ v. done (base + v)) (extra ps) (took_as (ap from_read e) refl b) (took_done (base + v) s q))
 
 abbrev pub from_signed : Signed → Given ℤ
 from_signed (G.Value v r) = given v r
@@ -61,34 +60,34 @@ from_signed G.Missing = missing
 from_signed G.Refused = missing
 
 -- what is promised of a token's number, and of it with its sign, n symbols read
-abbrev pub Numbered : List ℕ → ℕ → Reader → Number → ℕ → Type 0
+abbrev pub Numbered : List ℕ → ℕ → Reader → ReadOf ℕ → ℕ → Type 0
 Numbered s t r x n = (x ≡ magnitude_of s t r) × (n ≡ count (magnitude t) s r)
 
 abbrev pub SignedRead : List ℕ → ℕ → ℕ → Reader → Signed → ℕ → Type 0
 SignedRead s t q r x n = (x ≡ signed_of s t q r) × (n ≡ count (signed_value t q) s r)
 
-pub magnitude_few : (s : List ℕ) (t : ℕ) (r : Reader) → t < 6 → Numbered s t r (N.Value (t - 1) r) 0
+pub magnitude_few : (s : List ℕ) (t : ℕ) (r : Reader) → t < 6 → Numbered s t r (Ok (t - 1, r)) 0
 unfolding magnitude_of magnitude
 magnitude_few s t r h =
     let e : magnitude t ≡ done (t - 1) = rw (lt-ltb t 6 h, magnitude) in
     let k : Took (magnitude t) s r (given (t - 1) r) 0 = rw e (took_done (t - 1) s r) in
-    took_is to_number k
+    took_is to_read k
 
-pub magnitude_at : (s : List ℕ) {t k : ℕ} (r : Reader) → t ≡ k → {x : Number} {n : ℕ} → Numbered s k r x n → Numbered s t r x n
+pub magnitude_at : (s : List ℕ) {t k : ℕ} (r : Reader) → t ≡ k → {x : ReadOf ℕ} {n : ℕ} → Numbered s k r x n → Numbered s t r x n
 magnitude_at s r e p = rw e p
 
-module _ (s : List ℕ) (t q : ℕ) (r : Reader) {x : Number} {n : ℕ} (p : Numbered s t r x n) where
-  pub number_took : Took (magnitude t) s r (from_number x) n
+module _ (s : List ℕ) (t q : ℕ) (r : Reader) {x : ReadOf ℕ} {n : ℕ} (p : Numbered s t r x n) where
+  pub number_took : Took (magnitude t) s r (from_read x) n
   unfolding magnitude_of
-  number_took = record { gave = from_number_lem (run (magnitude t) s r) ∙ ap from_number (sym p.0); took = p.1 }
+  number_took = record { gave = from_read_lem (run (magnitude t) s r) ∙ ap from_read (sym p.0); took = p.1 }
 
-  pub signed_lost : from_number x ≡ missing → SignedRead s t q r G.Missing n
+  pub signed_lost : from_read x ≡ missing → SignedRead s t q r G.Missing n
   unfolding signed_of signed_value
   signed_lost e = took_is to_signed (took_stops _ (magnitude t) (took_as e refl number_took))
 
-  module _ {v : ℕ} {r2 : Reader} (e : x ≡ N.Value v r2) where
+  module _ {v : ℕ} {r2 : Reader} (e : x ≡ Ok (v, r2)) where
     got : Took (magnitude t) s r (given v r2) n
-    got = took_as (ap from_number e) refl number_took
+    got = took_as (ap from_read e) refl number_took
 
     pub signed_missing : run (symbol 128) s r2 ≡ missing → SignedRead s t q r G.Missing n
     unfolding signed_of signed_value
@@ -146,7 +145,7 @@ pub numeric_fact : (t : ℕ) → numeric_of t ≡ true → (2 ≤ t) × (t ≤ 1
 numeric_fact t e = (leb-true _ _ (both_left _ _ e), leb-true _ _ (both_right (leb 2 t) _ e))
 
 module _ (s : List ℕ) (t : ℕ) (r : Reader) where
-  pub number_refused : valid_of s r && numeric_of t ≡ false → N.Refused ≡ number_answer s t r
+  pub number_refused : valid_of s r && numeric_of t ≡ false → Err U.Refused ≡ number_answer s t r
   unfolding number_answer
   number_refused e = rw (e, number_answer)
 

@@ -4,15 +4,14 @@ ghost use Rattle.std.specs.Prelude.{◌≡◌, ℕ, ◌+◌, ◌*◌, ◌<◌, �
 ghost use Rattle.header.specs.Header.{probability_count};
 ghost use Rattle.numbers.specs.In.{In};
 ghost use Rattle.numbers.specs.Wrap.{wrap_z};
-ghost use Rattle.reader.specs.Reading.{Valid, run, count};
-ghost use Rattle.reader.specs.Extra.{to_number};
+ghost use Rattle.reader.specs.Reading.{to_read, Valid, run, count};
 ghost use Rattle.coefficients.specs.Block.{category, magnitude, sign_of, bands, probability_place, quantizer_at, context_after, magnitude_of, signed_value, signed_of, numeric_of, number_answer, signed_answer, block_of, sixteen_bits, block_arguments, block_call_of, block_by_header_of, table_of, block, block_reads, block_by_header_reads};
 
 use header::entries::{COEFFICIENT_PROBABILITY, ENTRY_COUNT, PROBABILITY_COUNT, probability};
 use numbers::{Checked, Wrapped, wrap16};
-use reader::boolean::{Reader, Symbol, valid};
-use reader::extra::{Number, NumberRead, extra_bits};
-use reader::token::{Token, walk_token};
+use reader::boolean::{Counted, Read, Reader, Unread, valid};
+use reader::extra::extra_bits;
+use reader::token::walk_token;
 
 // The band of a position, and where its number stands in the block.
 pub const BANDS: [u8; 16] = [0, 1, 2, 3, 6, 4, 5, 6, 6, 6, 6, 6, 6, 6, 6, 7];
@@ -72,35 +71,34 @@ pub struct Table {
 // ---- the number of a token
 
 // A category's least number and what its extra bits add.
-fn extended(s: &[u8], r: Reader, probs: &[u8], base: u32) -> NumberRead
+fn extended(s: &[u8], r: Reader, probs: &[u8], base: u32) -> Counted<u32>
     requires valid { Valid s.now r }
     requires probs_len_bound { (length probs.now ≤ 16) × (base < 256) }
-    ensures { (result.answer ≡ to_number (run (category base probs.now) s.now r))
+    ensures { (result.answer ≡ to_read (run (category base probs.now) s.now r))
         × (result.reads ≡ count (category base probs.now) s.now r) }
 {
     let bits = extra_bits(s, r, probs);
     let reads = bits.reads;
-    let answer = bits.answer;
-    let Number::Value(v, next) = answer else {
-        return NumberRead {
-            answer: Number::Missing,
+    let Ok((v, next)) = bits.answer else {
+        return Counted {
+            answer: Err(Unread::Missing),
             reads,
         };
     };
-    NumberRead {
-        answer: Number::Value(base + v, next),
+    Counted {
+        answer: Ok((base + v, next)),
         reads,
     }
 }
 
-fn read_number(s: &[u8], r: Reader, token: u8) -> NumberRead
+fn read_number(s: &[u8], r: Reader, token: u8) -> Counted<u32>
     requires valid { Valid s.now r }
     requires le_token { (2 ≤ token) × (token ≤ 11) }
     ensures { (result.answer ≡ magnitude_of s.now token r) × (result.reads ≡ count (magnitude token) s.now r) }
 {
     if token < 6 {
-        return NumberRead {
-            answer: Number::Value(token as u32 - 1, r),
+        return Counted {
+            answer: Ok((u32::from(token) - 1, r)),
             reads: 0,
         };
     }
@@ -140,14 +138,13 @@ fn read_signed(s: &[u8], r: Reader, token: u8, q: u16) -> SignedRead
 {
     let number = read_number(s, r, token);
     let reads = number.reads;
-    let answer = number.answer;
-    let Number::Value(v, next) = answer else {
+    let Ok((v, next)) = number.answer else {
         return SignedRead {
             answer: Signed::Missing,
             reads,
         };
     };
-    let Symbol::Got(negative, after) = next.symbol(s, 128) else {
+    let Ok((negative, after)) = next.symbol(s, 128) else {
         return SignedRead {
             answer: Signed::Missing,
             reads,
@@ -218,9 +215,8 @@ fn read_block(
     let mut reads: u64 = 0;
     for n in first..16 {
         let t = walk_token(s, next, table, place(&BANDS, kind, n, near), zero);
-        let answer = t.answer;
         reads += t.reads;
-        let Token::Read(token, after) = answer else {
+        let Ok((token, after)) = t.answer else {
             return BlockRead {
                 answer: Block::Missing,
                 reads,
@@ -275,14 +271,13 @@ fn numeric(token: u8) -> bool
 }
 
 // The magnitude of a token 2..11.
-pub fn number(s: &[u8], r: Reader, token: u8) -> Number
+pub fn number(s: &[u8], r: Reader, token: u8) -> Read<u32>
     ensures { result ≡ number_answer s.now token r }
 {
     if !(valid(s, r) & numeric(token)) {
-        return Number::Refused;
+        return Err(Unread::Refused);
     }
-    let number = read_number(s, r, token);
-    number.answer
+    read_number(s, r, token).answer
 }
 
 // The coefficient of a token 2..11: magnitude, sign and quantizer.

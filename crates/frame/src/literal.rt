@@ -6,7 +6,7 @@ ghost use Rattle.reader.specs.Reads.{Reads};
 
 use crate::fields::{CodedNumber, Four, GotFour, GotNumber, GotSigned};
 use reader::boolean::Reader;
-use reader::extra::{Number, extra_bits};
+use reader::extra::extra_bits;
 
 // No reader: what stands for a byte that was missing.
 pub(crate) fn nowhere() -> Reader
@@ -26,18 +26,13 @@ pub(crate) fn literal(s: &[u8], r: Reader, n: usize) -> GotNumber
     ensures { Reads (literal n) s.now r result.value result.next }
 {
     let halves = [128u8; 8];
-    let bits = extra_bits(s, r, &halves[..n]);
-    let answer = bits.answer;
-    let Number::Value(value, next) = answer else {
+    let Ok((value, next)) = extra_bits(s, r, &halves[..n]).answer else {
         return GotNumber {
             value: 0,
             next: nowhere(),
         };
     };
-    GotNumber {
-        value: value,
-        next: next,
-    }
+    GotNumber { value, next }
 }
 
 // A flag; where it is set, n bits and a sign.

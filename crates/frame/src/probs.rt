@@ -6,12 +6,12 @@ use crate::fields::{GotNumber, GotProbs};
 use crate::literal::{literal, nowhere};
 use crate::tables::{defaults, updates};
 use header::entries::PROBABILITY_COUNT;
-use reader::boolean::{Reader, Symbol};
+use reader::boolean::Reader;
 
 fn prob(s: &[u8], r: Reader, p: u8, old: u32) -> GotNumber
     ensures { Reads (prob p old) s.now r result.value result.next }
 {
-    let Symbol::Got(given, next) = r.symbol(s, p) else {
+    let Ok((given, next)) = r.symbol(s, p) else {
         return GotNumber {
             value: old,
             next: nowhere(),

@@ -1,21 +1,19 @@
 -- The careful way, on plain values: what a grammar gives and how many symbols it reads, one part after the other.
-use Rattle.numbers.specs.Words.{ℕ, zero, suc, ◌+◌, ◌*◌, ◌≤◌, ◌<◌, arith, ◌≡◌, refl, sym, ◌∙◌, ap, Bool, true, not, ◌⊎◌, List, set}
+use Rattle.numbers.specs.Words.{ℕ, zero, suc, ◌+◌, ◌*◌, ◌≤◌, ◌<◌, arith, ◌≡◌, refl, sym, ◌∙◌, ap, Bool, true, not, ◌⊎◌, List, set, Ok, Err}
 use denote.Enum.Declared.{tag_of}
 use Rattle.header.specs.declared.frame.Announced.{Announced}
-use Rattle.reader.specs.declared.boolean.Symbol.TheVariants as S
 use Rattle.reader.specs.declared.boolean.Reader.{Reader}
-use Rattle.reader.specs.declared.boolean.Symbol.{Symbol}
-use Rattle.reader.specs.Reading.{Given, given, missing, to_symbol, Reading, done, ◌>>=◌, symbol, run, Within, count}
-use Rattle.reader.specs.ReadingLaws.{Bytes, Valid, ReadTo, run_valid, from_symbol, count_within}
+use Rattle.reader.specs.declared.boolean.Unread.{Unread}
+use Rattle.reader.specs.Reading.{Given, given, missing, ReadOf, to_read, Reading, done, ◌>>=◌, symbol, run, Within, count}
+use Rattle.reader.specs.ReadingLaws.{Bytes, Valid, ReadTo, run_valid, from_read, count_within}
 use Rattle.reader.specs.Counts.{Took}
 use Rattle.reader.specs.CountsLaws.{took_as, took_done, took_then, took_stops, took_ends}
-use Rattle.reader.specs.contracts.boolean.Symbol as symbol-type
 use Rattle.modes.specs.declared.answers.Mode.{Mode}
 use Rattle.modes.specs.declared.answers.Mode.TheVariants as M
 use Rattle.modes.specs.Modes.{Modes, segment, skip, prefix, large_mode_of, block_mode_of, mode_above_of, mode_left_of, small_from, zeros, small_modes_of, luma, modes_of, to_mode, Told}
 use Rattle.modes.specs.ModesLaws.{block_within, set_modes, zeros_modes}
 use Rattle.modes.specs.AnswersLaws.{from_mode, moded, flagged}
-use Rattle.modes.proofs.Others.{not_got, not_mode}
+use Rattle.modes.proofs.Others.{not_mode}
 use Rattle.modes.specs.contracts.answers.Mode as mode-type
 
 -- ---- of what a call told, and to it
@@ -39,12 +37,12 @@ module _ {k : ℕ} {s : List ℕ} {r : Reader} {n : ℕ} where
     pub mode_missing : (tag_of mode-type.the_type x ≡ 1) ⊎ (tag_of mode-type.the_type x ≡ 2) → Took m s r missing n
     mode_missing e = took_told to_mode t (moded (run m s r) t.0 ∙ not_mode x e)
 
-  module _ {m : Reading Bool} {x : Symbol} (t : Told to_symbol k m s r x n) where
-    pub symbol_gave : {b : Bool} {q : Reader} → x ≡ S.Got b q → Took m s r (given b q) n
-    symbol_gave e = took_told to_symbol t (flagged (run m s r) t.0 ∙ ap from_symbol e)
+  module _ {m : Reading Bool} {x : ReadOf Bool} (t : Told to_read k m s r x n) where
+    pub symbol_gave : {b : Bool} {q : Reader} → x ≡ Ok (b, q) → Took m s r (given b q) n
+    symbol_gave e = took_told to_read t (flagged (run m s r) t.0 ∙ ap from_read e)
 
-    pub symbol_missing : (tag_of symbol-type.the_type x ≡ 1) ⊎ (tag_of symbol-type.the_type x ≡ 2) → Took m s r missing n
-    symbol_missing e = took_told to_symbol t (flagged (run m s r) t.0 ∙ not_got x e)
+    pub symbol_missing : {u : Unread} → x ≡ Err u → Took m s r missing n
+    symbol_missing e = took_told to_read t (flagged (run m s r) t.0 ∙ ap from_read e)
 
 -- ---- one part after the other
 pub took_equal : {A : Type 0} {m o : Reading A} {s : List ℕ} {r : Reader} {x : Given A} {n : ℕ} → m ≡ o → Took m s r x n → Took o s r x n

@@ -6,9 +6,8 @@ use Rattle.header.specs.declared.frame.Announced.{Announced}
 use Rattle.header.specs.Frame.{announced_of}
 use Rattle.header.specs.FrameLaws.{Probabilities}
 use Rattle.reader.specs.declared.boolean.Reader.{Reader}
-use Rattle.reader.specs.declared.boolean.Symbol.{Symbol}
-use Rattle.reader.specs.Reading.{Given, given, missing, valid_of, to_symbol, run}
-use Rattle.reader.specs.ReadingLaws.{Bytes, Valid, valid_test, from_symbol, ReadTo, run_valid}
+use Rattle.reader.specs.Reading.{Given, given, missing, valid_of, ReadOf, to_read, run}
+use Rattle.reader.specs.ReadingLaws.{Bytes, Valid, valid_test, from_read, ReadTo, run_valid}
 use Rattle.modes.specs.declared.answers.Mode.{Mode}
 use Rattle.modes.specs.declared.answers.Headed.{Headed}
 use Rattle.modes.specs.declared.answers.Next.{Next}
@@ -66,9 +65,9 @@ pub staged : (old : List ℕ) (g : Given Macroblock) {x : Staged} → x ≡ to_s
 staged old (given m r) e = ap from_staged (sym e)
 staged old missing e = ap from_staged (sym e)
 
-pub flagged : (g : Given Bool) {x : Symbol} → x ≡ to_symbol g → g ≡ from_symbol x
-flagged (given b r) e = ap from_symbol (sym e)
-flagged missing e = ap from_symbol (sym e)
+pub flagged : (g : Given Bool) {x : ReadOf Bool} → x ≡ to_read g → g ≡ from_read x
+flagged (given b r) e = ap from_read (sym e)
+flagged missing e = ap from_read (sym e)
 
 -- ---- `prefix`
 module _ (s : List ℕ) (r : Reader) (h : List ℤ) where

@@ -1,6 +1,6 @@
 // What the calls that read modes answer. Missing: a byte was. Refused: an argument is out of range. What ends in Read says beside it how
 // many symbols were read; where one is missing, those before it.
-use reader::boolean::{Reader, Symbol};
+use reader::boolean::Reader;
 
 // What stands before a macroblock's modes; small where its luma modes are sixteen small ones.
 #[derive(Clone, Copy, Debug, PartialEq, Eq)]
@@ -63,12 +63,6 @@ pub struct Staged {
 #[derive(Clone, Copy)]
 pub struct ModesRead {
     pub answer: Stage,
-    pub reads: u64,
-}
-
-#[derive(Clone, Copy)]
-pub(crate) struct SymbolRead {
-    pub answer: Symbol,
     pub reads: u64,
 }
 

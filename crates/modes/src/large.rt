@@ -6,7 +6,7 @@ ghost use Rattle.modes.specs.Modes.{tree, large_mode_of, to_mode, main_answer, T
 
 use crate::answers::{Mode, ModeRead};
 use reader::boolean::{Reader, valid};
-use reader::trees::{Walked, walk_tree};
+use reader::trees::walk_tree;
 
 pub(crate) const SEG_TREE: [i16; 6] = [1, 2, 0, -1, -2, -3];
 
@@ -22,17 +22,16 @@ pub(crate) fn coded(s: &[u8], r: Reader, probs: &[u8], t: &[i16]) -> ModeRead
     ensures { Told to_mode 32 (tree probs.now t.now) s.now r result.answer result.reads }
 {
     let w = walk_tree(s, r, probs, t, 0);
-    let answer = w.answer;
-    let Walked::Leaf(v, next) = answer else {
+    let reads = w.reads;
+    let Ok((v, next)) = w.answer else {
         return ModeRead {
             answer: Mode::Missing,
-            reads: w.reads,
+            reads,
         };
     };
-    let mode = v as u8;
     ModeRead {
-        answer: Mode::Read(mode, next),
-        reads: w.reads,
+        answer: Mode::Read(v as u8, next),
+        reads,
     }
 }
 

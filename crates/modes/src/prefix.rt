@@ -1,29 +1,29 @@
 // What stands before a macroblock's modes (RFC 6386, section 19.3): its segment, its skip flag, whether its modes are small.
 ghost use Rattle.std.specs.Prelude.{◌≡◌};
 ghost use Rattle.header.specs.Frame.{Probabilities};
-ghost use Rattle.reader.specs.Reading.{to_symbol, Valid, symbol};
+ghost use Rattle.reader.specs.Reading.{to_read, Valid, symbol};
 ghost use Rattle.modes.specs.Modes.{segment, skip, prefix, to_mode, to_headed, prefix_answer, Told};
 
-use crate::answers::{Headed, Mode, ModeRead, Prefix, PrefixRead, SymbolRead};
+use crate::answers::{Headed, Mode, ModeRead, Prefix, PrefixRead};
 use crate::large::{SEG_TREE, coded};
 use header::entries::ENTRY_COUNT;
 use header::frame::{Announced, announced_by};
-use reader::boolean::{Reader, Symbol, valid};
+use reader::boolean::{Counted, Reader, valid};
 
 // One symbol.
-fn ask(s: &[u8], r: Reader, prob: u8) -> SymbolRead
+fn ask(s: &[u8], r: Reader, prob: u8) -> Counted<bool>
     requires { Valid s.now r }
-    ensures { Told to_symbol 1 (symbol prob) s.now r result.answer result.reads }
+    ensures { Told to_read 1 (symbol prob) s.now r result.answer result.reads }
 {
-    let Symbol::Got(bit, next) = r.symbol(s, prob) else {
-        return SymbolRead {
-            answer: Symbol::Missing,
+    match r.symbol(s, prob) {
+        Ok(read) => Counted {
+            answer: Ok(read),
+            reads: 1,
+        },
+        Err(why) => Counted {
+            answer: Err(why),
             reads: 0,
-        };
-    };
-    SymbolRead {
-        answer: Symbol::Got(bit, next),
-        reads: 1,
+        },
     }
 }
 
@@ -44,16 +44,16 @@ fn segment(s: &[u8], r: Reader, a: Announced) -> ModeRead
 }
 
 // The skip flag where the frame has them, else false.
-fn skip(s: &[u8], r: Reader, a: Announced) -> SymbolRead
+fn skip(s: &[u8], r: Reader, a: Announced) -> Counted<bool>
     requires valid { Valid s.now r }
     requires probabilities { Probabilities a }
-    ensures { Told to_symbol 1 (skip a) s.now r result.answer result.reads }
+    ensures { Told to_read 1 (skip a) s.now r result.answer result.reads }
 {
     if a.skips {
         return ask(s, r, a.skip_probability);
     }
-    SymbolRead {
-        answer: Symbol::Got(false, r),
+    Counted {
+        answer: Ok((false, r)),
         reads: 0,
     }
 }
@@ -73,26 +73,24 @@ pub(crate) fn head(s: &[u8], r: Reader, a: Announced) -> PrefixRead
         };
     };
     let k = skip(s, t, a);
-    let second = k.answer;
     let two = c.reads + k.reads;
-    let Symbol::Got(skip, u) = second else {
+    let Ok((skip, u)) = k.answer else {
         return PrefixRead {
             answer: Headed::Missing,
             reads: two,
         };
     };
     let l = ask(s, u, 145);
-    let third = l.answer;
     let three = two + l.reads;
-    let Symbol::Got(large, next) = third else {
+    let Ok((large, next)) = l.answer else {
         return PrefixRead {
             answer: Headed::Missing,
             reads: three,
         };
     };
     let p = Prefix {
-        segment: segment,
-        skip: skip,
+        segment,
+        skip,
         small: !large,
     };
     PrefixRead {

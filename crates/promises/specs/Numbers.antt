@@ -2,17 +2,14 @@
 -- a byte is missing that is nothing or zeros, and what is lent is as it was. `numbers_bind`, in NumbersLaws, proves all of it. The picture call
 -- and the deblocking call have more of their own, in Refusals, Stops and Deblocked.
 use Rattle.std.specs.Prelude.{◌+◌, ◌*◌, ◌≤◌, ◌<◌, ◌≡◌, ◌&&◌}
-use Rattle.numbers.specs.Words.{ℕ, Bool, true, false, eqb, ltb, leb, List, length, get_or, replicate, ℤ, pos, negsuc, le_z, wrap_z, wrap16_of, wrap16_number_of, checked_number_of}
+use Rattle.numbers.specs.Words.{ℕ, Bool, true, false, eqb, ltb, leb, List, length, get_or, replicate, ℤ, pos, negsuc, le_z, wrap_z, wrap16_of, wrap16_number_of, checked_number_of, Err}
 use Rattle.numbers.specs.declared.Wrapped.TheVariants as Wrapped
 use Rattle.reader.specs.declared.boolean.Reader.{Reader}
-use Rattle.reader.specs.Reading.{Given, given, missing, valid_of, symbol_of, to_symbol, symbol_answer, symbol_number_of, run}
-use Rattle.reader.specs.Trees.{tree_of, walk, to_walked, walk_answer, walked_number_of}
-use Rattle.reader.specs.Extra.{extra, to_number, extra_answer, number_number_of}
-use Rattle.reader.specs.Token.{token, eleven_at, to_token, token_answer, token_number_of}
-use Rattle.reader.specs.declared.boolean.Symbol.TheVariants as Symbol
-use Rattle.reader.specs.declared.trees.Walked.TheVariants as Walked
-use Rattle.reader.specs.declared.extra.Number.TheVariants as Number
-use Rattle.reader.specs.declared.token.Token.TheVariants as Token
+use Rattle.reader.specs.Reading.{Given, given, missing, valid_of, symbol_of, to_read, symbol_answer, read_number_of, run}
+use Rattle.reader.specs.Trees.{tree_of, walk, walk_answer}
+use Rattle.reader.specs.Extra.{extra, extra_answer}
+use Rattle.reader.specs.Token.{token, eleven_at, token_answer}
+use Rattle.reader.specs.declared.boolean.Unread.TheVariants as Unread
 use Rattle.header.specs.Header.{entry_count, header_of}
 use Rattle.header.specs.Quantizers.{factors_of_of, quantizers_of, quantizers_number_of}
 use Rattle.header.specs.declared.quantizers.Quantizers.TheVariants as Quantizers
@@ -133,16 +130,16 @@ pub record Numbers : Type 0 where
   -- ---- reader: a missing byte is whatever number the layer above gives it
   -- reader::boolean::Reader::symbol
   pub symbol : (short : ℕ) (s : List ℕ) (r : Reader) (prob : ℕ)
-      → Answered short (valid_of s r) (symbol_of s r prob) (symbol_answer s r prob) (symbol_number_of short) to_symbol Symbol.Refused
+      → Answered short (valid_of s r) (symbol_of s r prob) (symbol_answer s r prob) (read_number_of short) to_read (Err Unread.Refused)
   -- reader::trees::walk_tree
   pub walk_tree_lem : (short : ℕ) (s probs : List ℕ) (tree : List ℤ) (start : ℕ) (r : Reader)
-      → Answered short (valid_of s r && tree_of probs tree start) (run (walk 32 probs tree start) s r) (walk_answer s probs tree start r) (walked_number_of short) to_walked Walked.Refused
+      → Answered short (valid_of s r && tree_of probs tree start) (run (walk 32 probs tree start) s r) (walk_answer s probs tree start r) (read_number_of short) to_read (Err Unread.Refused)
   -- reader::extra::extra_bits
   pub extra_bits_lem : (short : ℕ) (s probs : List ℕ) (r : Reader)
-      → Answered short (valid_of s r && leb (length probs) 16) (run (extra probs) s r) (extra_answer s probs r) (number_number_of short) to_number Number.Refused
+      → Answered short (valid_of s r && leb (length probs) 16) (run (extra probs) s r) (extra_answer s probs r) (read_number_of short) to_read (Err Unread.Refused)
   -- reader::token::walk_token
   pub walk_token_lem : (short : ℕ) (s table : List ℕ) (at : ℕ) (z : Bool) (r : Reader)
-      → Answered short (valid_of s r && leb (at + 11) (length table)) (run (token (eleven_at table at) z) s r) (token_answer s table at z r) (token_number_of short) to_token Token.Refused
+      → Answered short (valid_of s r && leb (at + 11) (length table)) (run (token (eleven_at table at) z) s r) (token_answer s table at z r) (read_number_of short) to_read (Err Unread.Refused)
   -- ---- header: 9
   -- header::quantizers::for_segment
   pub for_segment_lem : (h : List ℤ) (segment : ℕ) → RefusedOr 9 (header_of h && ltb segment 4) (quantizers_number_of (quantizers_of h segment)) (quantizers_of h segment) Quantizers.Refused (Quantizers.Ready (factors_of_of h segment))
@@ -153,7 +150,7 @@ pub record Numbers : Type 0 where
   -- ---- coefficients: a missing byte is 7
   -- coefficients::block::number
   pub number : (s : List ℕ) (token : ℕ) (r : Reader)
-      → Answered 7 (valid_of s r && numeric_of token) (run (magnitude token) s r) (number_answer s token r) (number_number_of 7) to_number Number.Refused
+      → Answered 7 (valid_of s r && numeric_of token) (run (magnitude token) s r) (number_answer s token r) (read_number_of 7) to_read (Err Unread.Refused)
   -- coefficients::block::dequant
   pub dequant : (s : List ℕ) (token q : ℕ) (r : Reader)
       → Answered 7 (valid_of s r && numeric_of token) (run (signed_value token q) s r) (signed_answer s token q r) signed_number_of to_signed Signed.Refused

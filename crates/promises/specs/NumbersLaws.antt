@@ -2,10 +2,10 @@
 use Rattle.std.specs.Prelude.{◌≡◌, ◌&&◌}
 use Rattle.numbers.specs.Words.{ℕ, arith, refl, sym, ◌∙◌, ap, Bool, true, false, cond, ⊎_elim, eqb, ltb, leb, eq_or, never, List, length, ℤ, wrap16_of, wrap16_number_of, checked_number_of}
 use Rattle.reader.specs.declared.boolean.Reader.{Reader}
-use Rattle.reader.specs.Reading.{Given, given, missing, valid_of, symbol_of, to_symbol, symbol_answer, symbol_number_of, run}
-use Rattle.reader.specs.Trees.{walk, walk_of, to_walked, walk_answer, walked_number_of}
-use Rattle.reader.specs.Extra.{extra, extra_of, to_number, extra_answer, number_number_of}
-use Rattle.reader.specs.Token.{token, eleven_at, token_of, to_token, token_answer, token_number_of}
+use Rattle.reader.specs.Reading.{Given, given, missing, valid_of, symbol_of, to_read, symbol_answer, read_number_of, run}
+use Rattle.reader.specs.Trees.{walk, walk_of, walk_answer}
+use Rattle.reader.specs.Extra.{extra, extra_of, extra_answer}
+use Rattle.reader.specs.Token.{token, eleven_at, token_of, token_answer}
 use Rattle.header.specs.Header.{entry_count, header_of}
 use Rattle.header.specs.Quantizers.{factors_of_of, quantizers_of, quantizers_number_of}
 use Rattle.header.specs.Levels.{level_answer, level_number_of}
@@ -185,14 +185,14 @@ pub numbers_bind : Numbers
 unfolding wrap16_of symbol_answer walk_of walk_answer extra_of extra_answer token_of token_answer quantizers_of level_answer framed_of magnitude_of number_answer signed_of signed_answer Tokens.block_of Tokens.block_call_of Tokens.block_by_header_of table_of transform_of pixel_of strength_answer prefix_answer main_answer block_answer small_answer modes_answer Residual.residual_answer Residual.residual_call_of Residual.residual_by_header_of paint_of record_written record_found digits_of Macroblock.macroblock_call_of Macroblock.step_of ran_of into_of filtered_of explain_called_of frame_called_of rescue_called_of profile_called_of survey_called_of show_called_of recode_called_of rebuild_call_of rebuilt_of deblock_called_of webp_found_of webp_wrapped_of
 numbers_bind = record {
   wrap16 = λ v. checked_cond _ wrap16_number_of (λ x. x) refl refl refl refl;
-  symbol = λ short s r prob. reads _ (symbol_of s r prob) (symbol_number_of short) to_symbol refl refl (λ b q. refl);
-  walk_tree_lem = λ short s probs tree start r. reads _ (run (walk 32 probs tree start) s r) (walked_number_of short) to_walked refl refl (λ v q. refl);
-  extra_bits_lem = λ short s probs r. reads _ (run (extra probs) s r) (number_number_of short) to_number refl refl (λ v q. refl);
-  walk_token_lem = λ short s table at z r. reads _ (run (token (eleven_at table at) z) s r) (token_number_of short) to_token refl refl (λ t q. refl);
+  symbol = λ short s r prob. reads _ (symbol_of s r prob) (read_number_of short) to_read refl refl (λ b q. refl);
+  walk_tree_lem = λ short s probs tree start r. reads _ (run (walk 32 probs tree start) s r) (read_number_of short) to_read refl refl (λ v q. refl);
+  extra_bits_lem = λ short s probs r. reads _ (run (extra probs) s r) (read_number_of short) to_read refl refl (λ v q. refl);
+  walk_token_lem = λ short s table at z r. reads _ (run (token (eleven_at table at) z) s r) (read_number_of short) to_read refl refl (λ t q. refl);
   for_segment_lem = λ h segment. checked _ quantizers_number_of (λ x. x) refl refl refl refl;
   for_macroblock_lem = λ h segment small. checked _ level_number_of (λ x. x) refl refl refl refl;
   header_take = λ h. checked _ (λ (f : Framed). checked_number_of f.answer) (λ (f : Framed). f.frame) refl refl refl refl;
-  number = λ s token r. reads _ (run (magnitude token) s r) (number_number_of 7) to_number refl refl (λ v q. refl);
+  number = λ s token r. reads _ (run (magnitude token) s r) (read_number_of 7) to_read refl refl (λ v q. refl);
   dequant = λ s token q r. reads _ (run (signed_value token q) s r) signed_number_of to_signed refl refl (λ v p. refl);
   block_decode = λ s r table kind ctx first q0 q1 old. reads _ (run (block table kind q0 q1 ctx first old) s r) (λ c. block_number_of c.answer) (Tokens.to_block_called old) refl refl (λ x q. refl);
   block_decode_header = λ s r h kind ctx first q0 q1 old. reads_both (eqb (length h) entry_count) (valid_of s r && (Tokens.block_arguments (header_table h) kind ctx first && sixteen_bits old 16)) (run (block (header_table h) kind q0 q1 ctx first old) s r) (λ c. block_number_of c.answer) (Tokens.to_block_called old) {refusal = Tokens.refused_block old} refl refl (λ x q. refl);

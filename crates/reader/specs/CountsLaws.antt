@@ -1,19 +1,17 @@
 -- The laws of counts: what a proof of counting code cites, and its callers. A walk that comes to a leaf has read as many symbols as the
 -- leaf is deep, whatever they were; a number has read as many as it has bits.
 use Rattle.std.specs.Prelude.{◌+◌, ◌-◌, ◌≤◌, ◌<◌, ◌≡◌, ◌&&◌, ◌∷◌}
-use Rattle.numbers.specs.Words.{ℕ, zero, suc, add-suc, add-zero, suc-add, zero-add, arith, refl, sym, ◌∙◌, ap, Bool, true, false, eqb, leb, never, both_left, both_right, both_true, eqb-true, le-leb, bit_of, List, [], length, get_or, take, drop, drop_of_length-le, ℤ}
+use Rattle.numbers.specs.Words.{ℕ, zero, suc, add-suc, add-zero, suc-add, zero-add, arith, refl, sym, ◌∙◌, ap, Bool, true, false, eqb, leb, never, both_left, both_right, both_true, eqb-true, le-leb, bit_of, List, [], length, get_or, take, drop, drop_of_length-le, ℤ, Err}
 use Rattle.reader.specs.declared.trees.Branch.TheVariants as B
-use Rattle.reader.specs.Reading.{Reader, Given, given, missing, symbol_of, valid_of, Reading, done, ask, ◌>>=◌, symbol, run, count}
-use Rattle.reader.specs.ReadingLaws.{Valid, valid_test, never_both, run_done, run_missing, run_got, run_then, run_stops, count_done, count_missing, count_got, count_then, count_stops}
-use Rattle.reader.specs.declared.trees.Walked.TheVariants as W
-use Rattle.reader.specs.declared.token.Token.TheVariants as T
-use Rattle.reader.specs.declared.extra.Number.TheVariants as N
-use Rattle.reader.specs.Trees.{Branch, Walked, branch_at_of, step, follow, walk, tree_of, walk_of, walk_answer}
-use Rattle.reader.specs.TreesLaws.{passes, from_walked, walk_gives}
-use Rattle.reader.specs.Token.{Token, token_tree, token_start, token, eleven_at, to_token, token_of, token_answer}
-use Rattle.reader.specs.TokenLaws.{eleven_part, from_token, tokened}
-use Rattle.reader.specs.Extra.{Number, extra_from, extra, extra_of, extra_answer}
-use Rattle.reader.specs.ExtraLaws.{extra_asks, from_number, numbered}
+use Rattle.reader.specs.Reading.{Reader, Given, given, missing, ReadOf, symbol_of, valid_of, Reading, done, ask, ◌>>=◌, symbol, run, count}
+use Rattle.reader.specs.ReadingLaws.{Valid, valid_test, never_both, run_done, run_missing, run_got, run_then, run_stops, count_done, count_missing, count_got, count_then, count_stops, from_read}
+use Rattle.reader.specs.declared.boolean.Unread.TheVariants as U
+use Rattle.reader.specs.Trees.{Branch, branch_at_of, step, follow, walk, tree_of, walk_of, walk_answer}
+use Rattle.reader.specs.TreesLaws.{passes}
+use Rattle.reader.specs.Token.{token_tree, token_start, token, eleven_at, token_of, token_answer}
+use Rattle.reader.specs.TokenLaws.{eleven_part, tokened}
+use Rattle.reader.specs.Extra.{extra_from, extra, extra_of, extra_answer}
+use Rattle.reader.specs.ExtraLaws.{extra_asks, numbered}
 use Rattle.reader.specs.Counts.{Took, Costs, ends, asks, tree_count, token_count, extra_count}
 
 -- ---- one symbol
@@ -165,33 +163,34 @@ module _ (s ps : List ℕ) (v i : ℕ) (r : Reader) where
 
 -- ---- the calls' tests, as the code makes them: where they fail all is refused, and behind them nothing is
 module _ (s ps : List ℕ) (t : List ℤ) (i : ℕ) (r : Reader) {a b : Bool} (v : a ≡ valid_of s r) (e : b ≡ tree_of ps t i) where
-  pub walk_refused : a && b ≡ false → (W.Refused ≡ walk_answer s ps t i r) × (0 ≡ tree_count s ps t i r)
+  pub walk_refused : a && b ≡ false → (Err U.Refused ≡ walk_answer s ps t i r) × (0 ≡ tree_count s ps t i r)
   unfolding walk_answer tree_count
   walk_refused f = let g : valid_of s r && tree_of ps t i ≡ false = rw (v, e) at f in (rw (g, walk_answer), rw (g, tree_count))
 
-  pub walk_made : a && b ≡ true → {x : Walked} {n : ℕ} → (x ≡ walk_of 32 s ps t i r) × (n ≡ count (walk 32 ps t i) s r) → (x ≡ walk_answer s ps t i r) × (n ≡ tree_count s ps t i r)
+  pub walk_made : a && b ≡ true → {x : ReadOf ℕ} {n : ℕ} → (x ≡ walk_of 32 s ps t i r) × (n ≡ count (walk 32 ps t i) s r) → (x ≡ walk_answer s ps t i r) × (n ≡ tree_count s ps t i r)
   unfolding walk_answer tree_count
   walk_made f p = let g : valid_of s r && tree_of ps t i ≡ true = rw (v, e) at f in (rw (g, walk_answer) p.0, rw (g, tree_count) p.1)
 
 module _ (s table : List ℕ) (at : ℕ) (z : Bool) (r : Reader) {a b : Bool} (v : a ≡ valid_of s r) (e : b ≡ leb (at + 11) (length table)) where
-  pub token_refused : a && b ≡ false → (T.Refused ≡ token_answer s table at z r) × (0 ≡ token_count s table at z r)
+  pub token_refused : a && b ≡ false → (Err U.Refused ≡ token_answer s table at z r) × (0 ≡ token_count s table at z r)
   unfolding token_answer token_count
   token_refused f = let g : valid_of s r && leb (at + 11) (length table) ≡ false = rw (v, e) at f in (rw (g, token_answer), rw (g, token_count))
 
-  pub token_made : a && b ≡ true → {x : Given ℕ} {n : ℕ} → run (token (eleven_at table at) z) s r ≡ x → n ≡ count (token (eleven_at table at) z) s r → (to_token x ≡ token_answer s table at z r) × (n ≡ token_count s table at z r)
-  unfolding token_answer token_count token_of
-  token_made f p q = let g : valid_of s r && leb (at + 11) (length table) ≡ true = rw (v, e) at f in (rw (g, token_answer) (ap to_token (sym p)), rw (g, token_count) q)
+  pub token_made : a && b ≡ true → {x : ReadOf ℕ} {n : ℕ} → x ≡ token_of s (eleven_at table at) z r → n ≡ count (token (eleven_at table at) z) s r → (x ≡ token_answer s table at z r) × (n ≡ token_count s table at z r)
+  unfolding token_answer token_count
+  token_made f p q = let g : valid_of s r && leb (at + 11) (length table) ≡ true = rw (v, e) at f in (rw (g, token_answer) p, rw (g, token_count) q)
 
 -- its walk, with the eleven as a part of the table, from `at` up to m
-pub token_walked : (s table : List ℕ) (at : ℕ) (z : Bool) (r : Reader) {m i : ℕ} {x : Walked} {n : ℕ} → m ≡ at + 11 → i ≡ token_start z → (x ≡ walk_of 32 s (take (m - at) (drop at table)) token_tree i r) × (n ≡ count (walk 32 (take (m - at) (drop at table)) token_tree i) s r) → (run (token (eleven_at table at) z) s r ≡ from_walked x) × (n ≡ count (token (eleven_at table at) z) s r)
-token_walked s table at z r {m} h j p = (walk_gives s (eleven_at table at) token_tree 32 (token_start z) r (rw (eleven_part table at m h, j) at p.0), rw (eleven_part table at m h, j) at p.1)
+pub token_walked : (s table : List ℕ) (at : ℕ) (z : Bool) (r : Reader) {m i : ℕ} {x : ReadOf ℕ} {n : ℕ} → m ≡ at + 11 → i ≡ token_start z → (x ≡ walk_of 32 s (take (m - at) (drop at table)) token_tree i r) × (n ≡ count (walk 32 (take (m - at) (drop at table)) token_tree i) s r) → (x ≡ token_of s (eleven_at table at) z r) × (n ≡ count (token (eleven_at table at) z) s r)
+unfolding walk_of token_of
+token_walked s table at z r {m} h j p = (rw (eleven_part table at m h, j) at p.0, rw (eleven_part table at m h, j) at p.1)
 
 module _ (s ps : List ℕ) (r : Reader) {a : Bool} (v : a ≡ valid_of s r) where
-  pub extra_refused : a && leb (length ps) 16 ≡ false → (N.Refused ≡ extra_answer s ps r) × (0 ≡ extra_count s ps r)
+  pub extra_refused : a && leb (length ps) 16 ≡ false → (Err U.Refused ≡ extra_answer s ps r) × (0 ≡ extra_count s ps r)
   unfolding extra_answer extra_count
   extra_refused f = let g : valid_of s r && leb (length ps) 16 ≡ false = rw v at f in (rw (g, extra_answer), rw (g, extra_count))
 
-  pub extra_made : a && leb (length ps) 16 ≡ true → {x : Number} {n : ℕ} → (x ≡ extra_of s ps r) × (n ≡ count (extra ps) s r) → (x ≡ extra_answer s ps r) × (n ≡ extra_count s ps r)
+  pub extra_made : a && leb (length ps) 16 ≡ true → {x : ReadOf ℕ} {n : ℕ} → (x ≡ extra_of s ps r) × (n ≡ count (extra ps) s r) → (x ≡ extra_answer s ps r) × (n ≡ extra_count s ps r)
   unfolding extra_answer extra_count
   extra_made f p = let g : valid_of s r && leb (length ps) 16 ≡ true = rw v at f in (rw (g, extra_answer) p.0, rw (g, extra_count) p.1)
 
@@ -200,13 +199,13 @@ pub tree_count_good : (s ps : List ℕ) (t : List ℤ) (i : ℕ) (r : Reader) �
 unfolding tree_count
 tree_count_good s ps t i r v e = rw (both_true (valid_test s r v) e, tree_count)
 
-pub token_took : (s table : List ℕ) (at : ℕ) (z : Bool) (r : Reader) → Valid s r → at + 11 ≤ length table → {x : Token} {n : ℕ} → (x ≡ token_answer s table at z r) × (n ≡ token_count s table at z r) → Took (token (eleven_at table at) z) s r (from_token x) n
+pub token_took : (s table : List ℕ) (at : ℕ) (z : Bool) (r : Reader) → Valid s r → at + 11 ≤ length table → {x : ReadOf ℕ} {n : ℕ} → (x ≡ token_answer s table at z r) × (n ≡ token_count s table at z r) → Took (token (eleven_at table at) z) s r (from_read x) n
 unfolding token_count
 token_took s table at z r v l p =
     let e : token_count s table at z r ≡ count (token (eleven_at table at) z) s r = rw (both_true (valid_test s r v) (le-leb _ _ l), token_count) in
     record { gave = tokened s table at z r v l p.0; took = p.1 ∙ e }
 
-pub extra_took : (s ps : List ℕ) (r : Reader) → Valid s r → length ps ≤ 16 → {x : Number} {n : ℕ} → (x ≡ extra_answer s ps r) × (n ≡ extra_count s ps r) → Took (extra ps) s r (from_number x) n
+pub extra_took : (s ps : List ℕ) (r : Reader) → Valid s r → length ps ≤ 16 → {x : ReadOf ℕ} {n : ℕ} → (x ≡ extra_answer s ps r) × (n ≡ extra_count s ps r) → Took (extra ps) s r (from_read x) n
 unfolding extra_count
 extra_took s ps r v h p =
     let e : extra_count s ps r ≡ count (extra ps) s r = rw (both_true (valid_test s r v) (le-leb _ _ h), extra_count) in

@@ -1,10 +1,10 @@
 -- The laws of extra bits: what code and callers cite.
 use Rattle.std.specs.Prelude.{◌+◌, ◌*◌, ◌^◌, ◌≤◌, ◌<◌, ◌≡◌, ◌∷◌}
-use Rattle.numbers.specs.Words.{ℕ, suc, add-one, mul-one, one-mul, arith, pow_mono, twice, refl, sym, ◌∙◌, ap, Bool, false, both_true, le-leb, bit_of, bit_small, List, [], length, get_or, drop, drop_of_length-le, drop-cons}
-use Rattle.reader.specs.declared.extra.Number.TheVariants as N
-use Rattle.reader.specs.Reading.{Reader, Given, given, missing, valid_of, done, ◌>>=◌, symbol, run, Within, ends, asks}
-use Rattle.reader.specs.ReadingLaws.{Bytes, Valid, valid_test, run_done, run_then, run_stops, within_weaken}
-use Rattle.reader.specs.Extra.{Number, extra_from, extra, to_number, extra_of, extra_answer}
+use Rattle.numbers.specs.Words.{ℕ, suc, add-one, mul-one, one-mul, arith, pow_mono, twice, sym, ◌∙◌, ap, Bool, false, both_true, le-leb, bit_of, bit_small, List, [], length, get_or, drop, drop_of_length-le, drop-cons, Err}
+use Rattle.reader.specs.declared.boolean.Unread.TheVariants as U
+use Rattle.reader.specs.Reading.{Reader, given, missing, ReadOf, valid_of, done, ◌>>=◌, symbol, run, Within, ends, asks}
+use Rattle.reader.specs.ReadingLaws.{Bytes, Valid, valid_test, run_done, run_then, run_stops, within_weaken, from_read, from_read_lem}
+use Rattle.reader.specs.Extra.{extra_from, extra, extra_of, extra_answer}
 
 -- ---- one bit at a time, at index i
 module _ (ps : List ℕ) (v i : ℕ) where
@@ -38,29 +38,19 @@ pub extra_within : (ps : List ℕ) → Bytes ps → Within (λ x. x < 2 ^ length
 extra_within ps y = within_weaken (λ x l. rw (one-mul (2 ^ length ps)) at l) (extra_from_within ps 0 1 y (omega arith))
 
 -- ---- the public call
--- what its answer says of the grammar; where the arguments are good it is never Refused
-abbrev pub from_number : Number → Given ℕ
-from_number (N.Value v r) = given v r
-from_number N.Missing = missing
-from_number N.Refused = missing
-
-pub from_number_lem : (x : Given ℕ) → x ≡ from_number (to_number x)
-from_number_lem (given v r) = refl
-from_number_lem missing = refl
-
 module _ (s ps : List ℕ) (r : Reader) where
   pub extra_good : Valid s r → length ps ≤ 16 → extra_answer s ps r ≡ extra_of s ps r
   unfolding extra_answer
   extra_good v h = rw (both_true (valid_test s r v) (le-leb _ _ h), extra_answer)
 
-  pub extra_reader : valid_of s r ≡ false → N.Refused ≡ extra_answer s ps r
+  pub extra_reader : valid_of s r ≡ false → Err U.Refused ≡ extra_answer s ps r
   unfolding extra_answer
   extra_reader e = rw (e, extra_answer)
 
   -- THE LAW for callers of `extra_bits`
-  pub numbered : Valid s r → length ps ≤ 16 → {x : Number} → x ≡ extra_answer s ps r → run (extra ps) s r ≡ from_number x
+  pub numbered : Valid s r → length ps ≤ 16 → {x : ReadOf ℕ} → x ≡ extra_answer s ps r → run (extra ps) s r ≡ from_read x
   unfolding extra_of
-  numbered v h f = from_number_lem (run (extra ps) s r) ∙ ap from_number (sym (f ∙ extra_good v h))
+  numbered v h f = from_read_lem (run (extra ps) s r) ∙ ap from_read (sym (f ∙ extra_good v h))
 
 -- a number of few bits is small
 pub bits_small : {v i n : ℕ} → v < 2 ^ i → i ≤ n → n ≤ 16 → v < 65536

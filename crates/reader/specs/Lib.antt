@@ -11,4 +11,3 @@ pub mod Token
 pub mod TokenLaws
 pub mod Counts
 pub mod CountsLaws
-pub mod AnswersLaws

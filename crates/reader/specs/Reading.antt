@@ -1,10 +1,10 @@
 -- The boolean decoder, the grammars that are run over it, and the symbols that a run reads.
 use Rattle.std.specs.Prelude.{◌+◌, ◌-◌, ◌*◌, ◌/◌, ◌%◌, ◌^◌, ◌≤◌, ◌<◌, ◌≡◌, ◌&&◌, ◌∷◌}
-use Rattle.numbers.specs.Words.{ℕ, zero, suc, Bool, true, false, eqb, ltb, leb, List, length, get_or, []}
+use Rattle.numbers.specs.Words.{ℕ, zero, suc, Bool, true, false, eqb, ltb, leb, List, length, get_or, [], Result, Ok, Err}
 pub use Rattle.numbers.specs.Lists.{Bytes}
 pub use Rattle.reader.specs.declared.boolean.Reader.{Reader}
-pub use Rattle.reader.specs.declared.boolean.Symbol.{Symbol}
-use Rattle.reader.specs.declared.boolean.Symbol.TheVariants as S
+pub use Rattle.reader.specs.declared.boolean.Unread.{Unread}
+use Rattle.reader.specs.declared.boolean.Unread.TheVariants as U
 
 -- ==== The boolean decoder (RFC 6386, section 7.3, 1239-1313; in words 7.2, 1071-1097): what a symbol is, where a byte is missing, which readers
 -- are in range.
@@ -73,14 +73,17 @@ valid_of s r =
     && (ltb r.range 256
     && (ltb r.shifts 8 && (ltb r.window 65536 && eqb (r.window % 2 ^ r.shifts) 0)))))
 
--- ---- the calls' answers
-abbrev pub to_symbol : Given Bool → Symbol
-to_symbol (given b r) = S.Got b r
-to_symbol missing = S.Missing
+-- ---- the calls' answers: a value and the reader after it, or why there is none
+abbrev pub ReadOf : Type 0 → Type 0
+ReadOf A = Result (A × Reader) Unread
+
+abbrev pub to_read : {A : Type 0} → Given A → ReadOf A
+to_read (given a r) = Ok (a, r)
+to_read missing = Err U.Missing
 
 -- `symbol`: refused where the reader is out of range
-unfoldable pub symbol_answer : List ℕ → Reader → ℕ → Symbol
-symbol_answer s r prob = elim (valid_of s r) [ true ↦ to_symbol (symbol_of s r prob) | false ↦ S.Refused ]
+unfoldable pub symbol_answer : List ℕ → Reader → ℕ → ReadOf Bool
+symbol_answer s r prob = elim (valid_of s r) [ true ↦ to_read (symbol_of s r prob) | false ↦ Err U.Refused ]
 
 -- what stands for a reader where there is none
 abbrev pub no_reader_of : Reader
@@ -88,10 +91,10 @@ no_reader_of = record { at = 0; range = 0; shifts = 0; window = 0 }
 
 -- ---- the answer's number. Reading calls say only that a byte is missing: `short` is the number that the layer above gives that, 6 where
 -- modes and 7 where tokens run out.
-abbrev pub symbol_number_of : ℕ → Symbol → ℕ
-symbol_number_of short (S.Got b r) = 0
-symbol_number_of short S.Missing = short
-symbol_number_of short S.Refused = 9
+abbrev pub read_number_of : {A : Type 0} → ℕ → ReadOf A → ℕ
+read_number_of short (Ok x) = 0
+read_number_of short (Err U.Missing) = short
+read_number_of short (Err U.Refused) = 9
 
 -- ---- as facts
 -- a reader over s from a range of at least `low`: after the split 1, between symbols 128

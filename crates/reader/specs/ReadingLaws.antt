@@ -1,10 +1,10 @@
 -- The laws of the boolean decoder, of grammars and of traces.
-use Rattle.std.specs.Prelude.{◌+◌, ◌-◌, ◌*◌, ◌/◌, ◌%◌, ◌^◌, ◌≤◌, ◌<◌, ◌≡◌, ◌⊎◌, ◌∷◌, ◌++◌}
-use Rattle.numbers.specs.Words.{ℕ, zero, suc, div-lt_iff_lt-mul, mul-lt-mul_of_pos_left, mul-one, arith, twice, cases8, refl, sym, ◌∙◌, Bool, true, false, ⊎_elim, eqb, ltb, leb, lit<, lt_or, eq_or, not_so, both_left, both_right, eq-eqb, eqb-true, le-leb, le-ltb, leb-true, lt-leb, lt-ltb, ltb-true, ne_eqb, List, length, get_or, suc-add, ap, [], length-append}
-use Rattle.reader.specs.declared.boolean.Symbol.TheVariants as S
+use Rattle.std.specs.Prelude.{◌+◌, ◌-◌, ◌*◌, ◌/◌, ◌%◌, ◌^◌, ◌≤◌, ◌<◌, ◌≡◌, ◌∷◌, ◌++◌}
+use Rattle.numbers.specs.Words.{ℕ, zero, suc, div-lt_iff_lt-mul, mul-lt-mul_of_pos_left, mul-one, arith, twice, cases8, refl, sym, ◌∙◌, Bool, true, false, ⊎_elim, eqb, ltb, leb, lit<, lt_or, eq_or, not_so, both_left, both_right, eq-eqb, eqb-true, le-leb, le-ltb, leb-true, lt-leb, lt-ltb, ltb-true, ne_eqb, List, length, get_or, suc-add, ap, [], length-append, Ok, Err}
+use Rattle.reader.specs.declared.boolean.Unread.TheVariants as U
 pub use Rattle.numbers.specs.Lists.{Bytes}
 pub use Rattle.reader.specs.Reading.{From, Valid}
-use Rattle.reader.specs.Reading.{Reader, Given, given, missing, split_of, chosen_of, shifted, loaded, grow, decided_of, symbol_of, first_reader, valid_of, to_symbol, symbol_answer, Symbol, Reading, done, ask, ◌>>=◌, symbol, run, Within, ends, asks, CodedSymbol, trace, count, Follows, stop, take, Answers, none, more}
+use Rattle.reader.specs.Reading.{Reader, Unread, Given, given, missing, split_of, chosen_of, shifted, loaded, grow, decided_of, symbol_of, first_reader, valid_of, ReadOf, to_read, symbol_answer, Reading, done, ask, ◌>>=◌, symbol, run, Within, ends, asks, CodedSymbol, trace, count, Follows, stop, take, Answers, none, more}
 
 -- ==== The laws of the boolean decoder that callers cite: one turn of the doubling, and that a reader in range stays in range.
 
@@ -209,11 +209,11 @@ module _ (s : List ℕ) (r : Reader) where
   unfolding valid_of
   valid_even a b c d e f = rw (le-leb _ _ a, le-leb _ _ b, le-leb _ _ c, lt-ltb _ _ d, lt-ltb _ _ e, lt-ltb _ _ f)
 
-  pub symbol_good : (p : ℕ) → Valid s r → symbol_answer s r p ≡ to_symbol (symbol_of s r p)
+  pub symbol_good : (p : ℕ) → Valid s r → symbol_answer s r p ≡ to_read (symbol_of s r p)
   unfolding symbol_answer
   symbol_good p v = rw (valid_test v, symbol_answer)
 
-  pub symbol_refused : (p : ℕ) → valid_of s r ≡ false → S.Refused ≡ symbol_answer s r p
+  pub symbol_refused : (p : ℕ) → valid_of s r ≡ false → Err U.Refused ≡ symbol_answer s r p
   unfolding symbol_answer
   symbol_refused p e = rw (e, symbol_answer)
 
@@ -299,27 +299,38 @@ run_valid {P} {s} {r} {a} {r2} (asks {n} {p} {k} h f) y v e = go (λ b q. run_va
         let w : ReadTo P s q a r2 = ih b q z.0 (sym (run_got p k s r b q g) ∙ e) in
         record { value = w.value; valid = w.valid; later = omega arith }
 
--- ---- what the answer of the code's `symbol` says of the grammar. A refusal cannot happen from a reader in range, so it may be
--- sent anywhere: callers then treat every answer but a bit alike.
-abbrev pub from_symbol : Symbol → Given Bool
-from_symbol (S.Got b r) = given b r
-from_symbol S.Missing = missing
-from_symbol S.Refused = missing
+-- ---- what a call's answer says of the grammar. A refusal cannot happen where the arguments are good, so it may be sent anywhere:
+-- callers then treat every answer but a value alike.
+abbrev pub from_read : {A : Type 0} → ReadOf A → Given A
+from_read (Ok x) = given x.0 x.1
+from_read (Err u) = missing
 
-from_to : (x : Given Bool) → x ≡ from_symbol (to_symbol x)
-from_to (given b r) = refl
-from_to missing = refl
+pub from_read_lem : {A : Type 0} (g : Given A) → g ≡ from_read (to_read g)
+from_read_lem (given a r) = refl
+from_read_lem missing = refl
+
+-- why a run gave nothing
+pub unread_missing : {A : Type 0} {u : Unread} (g : Given A) → Err u ≡ to_read g → u ≡ U.Missing
+unread_missing (given a r) e = cc
+unread_missing missing e = cc
 
 -- THE LAW for callers of `symbol`, and the same of the inner call that asks a reader in range
 module _ (s : List ℕ) (r : Reader) (p : ℕ) where
-  pub answered : {x : Symbol} → x ≡ to_symbol (symbol_of s r p) → run (symbol p) s r ≡ from_symbol x
-  answered e = one (symbol_of s r p) refl ∙ from_to (symbol_of s r p) ∙ ap from_symbol (sym e)
+  run_symbol : run (symbol p) s r ≡ symbol_of s r p
+  run_symbol = one (symbol_of s r p) refl
     where
       one : (x : Given Bool) → symbol_of s r p ≡ x → run (symbol p) s r ≡ symbol_of s r p
       one (given b q) g = run_got p done s r b q g ∙ run_done b s q ∙ sym g
       one missing g = run_missing p done s r g ∙ sym g
 
-  pub symboled : Valid s r → {x : Symbol} → x ≡ symbol_answer s r p → run (symbol p) s r ≡ from_symbol x
+  pub answered : {x : ReadOf Bool} → x ≡ to_read (symbol_of s r p) → run (symbol p) s r ≡ from_read x
+  answered e = run_symbol ∙ from_read_lem (symbol_of s r p) ∙ ap from_read (sym e)
+
+  -- from a reader in range it answers what the grammar's run gives
+  pub symbol_told : Valid s r → {x : ReadOf Bool} → x ≡ symbol_answer s r p → x ≡ to_read (run (symbol p) s r)
+  symbol_told v e = e ∙ symbol_good s r p v ∙ ap to_read (sym run_symbol)
+
+  pub symboled : Valid s r → {x : ReadOf Bool} → x ≡ symbol_answer s r p → run (symbol p) s r ≡ from_read x
   symboled v e = answered (e ∙ symbol_good s r p v)
 
 -- ==== The laws of traces: what M-103 (the count is a trace's length) and M-112 (a list that answers alike gives the same value) cite.

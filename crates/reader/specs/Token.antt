@@ -1,10 +1,9 @@
 -- One token of a block (RFC 6386, section 13.2, 3393-3446): coeff_tree and its walk.
 use Rattle.std.specs.Prelude.{◌+◌, ◌&&◌, ◌∷◌}
-use Rattle.numbers.specs.Words.{ℕ, Bool, true, false, leb, List, [], length, take, drop, ℤ}
-use Rattle.reader.specs.Reading.{Reader, Given, given, missing, valid_of, Reading, run}
+use Rattle.numbers.specs.Words.{ℕ, Bool, true, false, leb, List, [], length, take, drop, ℤ, Err}
+use Rattle.reader.specs.Reading.{Reader, ReadOf, to_read, valid_of, Reading, run}
 use Rattle.reader.specs.Trees.{node, leaf, walk}
-pub use Rattle.reader.specs.declared.token.Token.{Token}
-use Rattle.reader.specs.declared.token.Token.TheVariants as T
+use Rattle.reader.specs.declared.boolean.Unread.TheVariants as U
 
 -- 0 ends the block, 1 is a zero, 2..5 are one to four, 6..11 the six categories: the RFC's numbers (3397-3410: DCT_0 is 0, dct_eob 11) are
 -- one less, but for the end. Its coeff_tree (3423-3439), two entries a node: positive names a node, zero or less a token.
@@ -36,21 +35,10 @@ token ps z = walk 32 ps token_tree (token_start z)
 unfoldable pub eleven_at : List ℕ → ℕ → List ℕ
 eleven_at table at = take 11 (drop at table)
 
--- the token that a run gives
-abbrev pub to_token : Given ℕ → Token
-to_token (given t r) = T.Read t r
-to_token missing = T.Missing
-
 -- one token, read from a partition
-unfoldable pub token_of : List ℕ → List ℕ → Bool → Reader → Token
-token_of s ps z r = to_token (run (token ps z) s r)
+unfoldable pub token_of : List ℕ → List ℕ → Bool → Reader → ReadOf ℕ
+token_of s ps z r = to_read (run (token ps z) s r)
 
 -- `walk_token`: refused where the reader is out of range or the table has not eleven probabilities from `at` on
-unfoldable pub token_answer : List ℕ → List ℕ → ℕ → Bool → Reader → Token
-token_answer s table at z r = elim (valid_of s r && leb (at + 11) (length table)) [ true ↦ token_of s (eleven_at table at) z r | false ↦ T.Refused ]
-
--- the answer's number; `short` is the number that the layer above gives a missing byte
-abbrev pub token_number_of : ℕ → Token → ℕ
-token_number_of short (T.Read t r) = 0
-token_number_of short T.Missing = short
-token_number_of short T.Refused = 9
+unfoldable pub token_answer : List ℕ → List ℕ → ℕ → Bool → Reader → ReadOf ℕ
+token_answer s table at z r = elim (valid_of s r && leb (at + 11) (length table)) [ true ↦ token_of s (eleven_at table at) z r | false ↦ Err U.Refused ]

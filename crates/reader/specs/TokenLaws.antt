@@ -1,12 +1,11 @@
 -- The laws of the walk of coeff_tree: what the code and the callers of `walk_token` cite.
 use Rattle.std.specs.Prelude.{◌+◌, ◌-◌, ◌≤◌, ◌<◌, ◌≡◌}
 use Rattle.numbers.specs.Words.{ℕ, arith, refl, sym, ◌∙◌, ap, Bool, true, false, ⊎_elim, ltb, lit<, lit≤, lt_or, both_true, le-leb, List, length, get_or, take, drop, get_or-eq_default, length-drop, length-take, get_or-drop, get_or-take, length-take-le}
-use Rattle.reader.specs.Reading.{Reader, Given, given, missing, run, Within}
-use Rattle.reader.specs.ReadingLaws.{Bytes, Valid, valid_test}
-use Rattle.reader.specs.Token.{Token, token_tree, token_start, token, eleven_at, to_token, token_of, token_answer}
+use Rattle.reader.specs.Reading.{Reader, ReadOf, run, Within}
+use Rattle.reader.specs.ReadingLaws.{Bytes, Valid, valid_test, from_read, from_read_lem}
+use Rattle.reader.specs.Token.{token_tree, token_start, token, eleven_at, token_of, token_answer}
 use Rattle.reader.specs.Trees.{tree_of}
 use Rattle.reader.specs.TreesLaws.{leaves_reached, tree_fixed, walk_below}
-use Rattle.reader.specs.declared.token.Token.TheVariants as T
 
 pub eleven_at_lem : (table : List ℕ) (at i : ℕ) → i < 11 → get_or (eleven_at table at) i 0 ≡ get_or table (at + i) 0
 unfolding eleven_at
@@ -46,11 +45,9 @@ pub token_fits : (table : List ℕ) (at : ℕ) (z : Bool) → Bytes table → Wi
 token_fits table at z y = token_within (eleven_at table at) z (eleven_bytes table at y)
 
 -- ---- the public call
--- what its answer says of the grammar
-abbrev pub from_token : Token → Given ℕ
-from_token (T.Read t r) = given t r
-from_token T.Missing = missing
-from_token T.Refused = missing
+pub token_gives : (s ps : List ℕ) (z : Bool) (r : Reader) {x : ReadOf ℕ} → x ≡ token_of s ps z r → run (token ps z) s r ≡ from_read x
+unfolding token_of
+token_gives s ps z r e = from_read_lem (run (token ps z) s r) ∙ ap from_read (sym e)
 
 module _ (s table : List ℕ) (at : ℕ) (z : Bool) (r : Reader) where
   pub token_good : Valid s r → at + 11 ≤ length table → token_answer s table at z r ≡ token_of s (eleven_at table at) z r
@@ -58,10 +55,5 @@ module _ (s table : List ℕ) (at : ℕ) (z : Bool) (r : Reader) where
   token_good v l = rw (both_true (valid_test s r v) (le-leb _ _ l), token_answer)
 
   -- THE LAW for callers of `walk_token`
-  pub tokened : Valid s r → at + 11 ≤ length table → {x : Token} → x ≡ token_answer s table at z r → run (token (eleven_at table at) z) s r ≡ from_token x
-  unfolding token_of
-  tokened v l e = from (run (token (eleven_at table at) z) s r) ∙ ap from_token (sym (e ∙ token_good v l))
-    where
-      from : (g : Given ℕ) → g ≡ from_token (to_token g)
-      from (given t q) = refl
-      from missing = refl
+  pub tokened : Valid s r → at + 11 ≤ length table → {x : ReadOf ℕ} → x ≡ token_answer s table at z r → run (token (eleven_at table at) z) s r ≡ from_read x
+  tokened v l e = token_gives s (eleven_at table at) z r (e ∙ token_good v l)

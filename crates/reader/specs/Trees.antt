@@ -1,13 +1,10 @@
 -- Trees of symbols (RFC 6386, section 8.1, 1482-1494), as grammars.
 use Rattle.std.specs.Prelude.{◌+◌, ◌/◌, ◌≤◌, ◌<◌, ◌≡◌, ◌&&◌}
-use Rattle.numbers.specs.Words.{ℕ, zero, suc, Bool, true, false, eqb, ltb, leb, List, length, get_or, ℤ, pos, negsuc}
-pub use Rattle.reader.specs.declared.trees.Walked.{Walked}
-use Rattle.reader.specs.declared.trees.Walked.TheVariants as W
+use Rattle.numbers.specs.Words.{ℕ, zero, suc, Bool, true, false, eqb, ltb, leb, List, length, get_or, ℤ, pos, negsuc, Err}
+use Rattle.reader.specs.declared.boolean.Unread.TheVariants as U
 pub use Rattle.reader.specs.declared.trees.Branch.{Branch}
 use Rattle.reader.specs.declared.trees.Branch.TheVariants as B
-use Rattle.reader.specs.declared.trees.Step.{Step}
-use Rattle.reader.specs.declared.trees.Step.TheVariants as S
-use Rattle.reader.specs.Reading.{Reader, Given, given, missing, valid_of, Reading, done, symbol, run, ◌>>=◌}
+use Rattle.reader.specs.Reading.{Reader, ReadOf, to_read, valid_of, Reading, done, symbol, run, ◌>>=◌}
 
 -- an entry: positive names a node, zero or less a leaf
 abbrev pub node : ℕ → ℤ
@@ -74,33 +71,18 @@ tree_of ps t start =
     && (leb (nodes_of t) (length ps) && (ltb start (nodes_of t) && tree_entries (nodes_of t) t (nodes_of t + nodes_of t))))
 
 -- ---- the calls' answers
-abbrev pub to_step : Given Branch → Step
-to_step (given (B.Leaf v) r) = S.Leaf v r
-to_step (given (B.Node j) r) = S.Node j r
-to_step missing = S.Missing
-
--- the leaf that a run gives
-abbrev pub to_walked : Given ℕ → Walked
-to_walked (given v r) = W.Leaf v r
-to_walked missing = W.Missing
-
-unfoldable pub tree_step_of : List ℕ → List ℕ → List ℤ → ℕ → Reader → Step
-tree_step_of s ps t i r = to_step (run (step ps t i) s r)
+-- one step from node i
+unfoldable pub tree_step_of : List ℕ → List ℕ → List ℤ → ℕ → Reader → ReadOf Branch
+tree_step_of s ps t i r = to_read (run (step ps t i) s r)
 
 -- a walk from node i, read from a partition
-unfoldable pub walk_of : ℕ → List ℕ → List ℕ → List ℤ → ℕ → Reader → Walked
-walk_of n s ps t i r = to_walked (run (walk n ps t i) s r)
+unfoldable pub walk_of : ℕ → List ℕ → List ℕ → List ℤ → ℕ → Reader → ReadOf ℕ
+walk_of n s ps t i r = to_read (run (walk n ps t i) s r)
 
 -- `walk_tree`: refused where the reader or the tree is out of range
-unfoldable pub walk_answer : List ℕ → List ℕ → List ℤ → ℕ → Reader → Walked
+unfoldable pub walk_answer : List ℕ → List ℕ → List ℤ → ℕ → Reader → ReadOf ℕ
 walk_answer s ps t start r =
-    elim (valid_of s r && tree_of ps t start) [ true ↦ walk_of 32 s ps t start r | false ↦ W.Refused ]
-
--- the answer's number; `short` is the number that the layer above gives a missing byte
-abbrev pub walked_number_of : ℕ → Walked → ℕ
-walked_number_of short (W.Leaf v r) = 0
-walked_number_of short W.Missing = short
-walked_number_of short W.Refused = 9
+    elim (valid_of s r && tree_of ps t start) [ true ↦ walk_of 32 s ps t start r | false ↦ Err U.Refused ]
 
 -- ---- a tree as facts, which the inner functions require
 abbrev pub Leads : ℕ → ℕ → Branch → Type 0

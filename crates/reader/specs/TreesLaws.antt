@@ -1,13 +1,11 @@
 -- The laws of tree walks: what code and callers cite.
 use Rattle.std.specs.Prelude.{◌+◌, ◌/◌, ◌≤◌, ◌<◌, ◌≡◌, ◌&&◌}
-use Rattle.numbers.specs.Words.{ℕ, zero, suc, add-one, add-suc, arith, refl, sym, ◌∙◌, ap, Bool, true, false, ⊎_elim, eqb, ltb, leb, lt_or, never, not_so, both_left, both_right, both_true, eq-eqb, eqb-true, le-leb, leb-true, lt-ltb, ltb-true, List, length, get_or, all_at, all_at_lem, ℤ, pos}
-use Rattle.reader.specs.declared.trees.Walked.TheVariants as W
+use Rattle.numbers.specs.Words.{ℕ, zero, suc, add-one, add-suc, arith, refl, sym, ◌∙◌, ap, Bool, true, false, ⊎_elim, eqb, ltb, leb, lt_or, never, not_so, both_left, both_right, both_true, eq-eqb, eqb-true, le-leb, leb-true, lt-ltb, ltb-true, List, length, get_or, all_at, all_at_lem, ℤ, pos, Err}
+use Rattle.reader.specs.declared.boolean.Unread.TheVariants as U
 use Rattle.reader.specs.declared.trees.Branch.TheVariants as B
-use Rattle.reader.specs.declared.trees.Step.{Step}
-use Rattle.reader.specs.declared.trees.Step.TheVariants as S
-use Rattle.reader.specs.Reading.{Reader, Given, given, missing, done, ask, symbol, run, Within, ends, asks}
-use Rattle.reader.specs.ReadingLaws.{Bytes, Valid, valid_test, run_done, run_then, run_stops, within_weaken}
-use Rattle.reader.specs.Trees.{Walked, Branch, branch_of, at_of, branch_at_of, nodes_of, step, follow, walk, leads_of, tree_entries, tree_of, to_step, to_walked, tree_step_of, walk_of, walk_answer, Leads, Tree}
+use Rattle.reader.specs.Reading.{Reader, Unread, Given, given, missing, ReadOf, to_read, done, ask, symbol, run, Within, ends, asks}
+use Rattle.reader.specs.ReadingLaws.{Bytes, Valid, valid_test, run_done, run_then, run_stops, within_weaken, from_read, from_read_lem, unread_missing}
+use Rattle.reader.specs.Trees.{Branch, branch_of, at_of, branch_at_of, nodes_of, step, follow, walk, leads_of, tree_entries, tree_of, tree_step_of, walk_of, walk_answer, Leads, Tree}
 pub use Rattle.reader.specs.Trees.{passes, leaves_reached}
 
 -- ---- a walk of a known tree, one node at a time: an `if` chain over `symbol` equals the walk by these three. In a constant
@@ -42,29 +40,24 @@ module _ (s ps : List ℕ) (t : List ℤ) (i : ℕ) (r : Reader) where
       chain_node g e = walk_then (step_got e) ∙ ap (λ (x : Branch). run (follow (walk n ps t) x) s q) g
 
 -- ---- one step of the code
-abbrev from_step : Step → Given Branch
-from_step (S.Leaf v r) = given (B.Leaf v) r
-from_step (S.Node j r) = given (B.Node j) r
-from_step S.Missing = missing
-
-from_to : (x : Given Branch) → x ≡ from_step (to_step x)
-from_to (given (B.Leaf v) r) = refl
-from_to (given (B.Node j) r) = refl
-from_to missing = refl
-
 module _ (s ps : List ℕ) (t : List ℤ) (i : ℕ) (r : Reader) where
-  pub down_missing : run (symbol (get_or ps i 0)) s r ≡ missing → S.Missing ≡ tree_step_of s ps t i r
+  pub down_missing : {u : Unread} → run (symbol (get_or ps i 0)) s r ≡ missing → u ≡ U.Missing → Err u ≡ tree_step_of s ps t i r
   unfolding tree_step_of
-  down_missing e = sym (ap to_step (step_missing s ps t i r e))
+  down_missing e f = rw f (sym (ap to_read (step_missing s ps t i r e)))
 
-  pub down_got : {b : Bool} {q : Reader} → run (symbol (get_or ps i 0)) s r ≡ given b q → {k : ℕ} → k ≡ at_of i b → {x : Branch} → x ≡ branch_of (get_or t k (pos 0)) → to_step (given x q) ≡ tree_step_of s ps t i r
+  pub down_got : {b : Bool} {q : Reader} → run (symbol (get_or ps i 0)) s r ≡ given b q → {k : ℕ} → k ≡ at_of i b → {x : Branch} → x ≡ branch_of (get_or t k (pos 0)) → to_read (given x q) ≡ tree_step_of s ps t i r
   unfolding tree_step_of
-  down_got {b} {q} e {k} h {x} g = let f : x ≡ branch_at_of t i b = rw h at g in rw f (sym (ap to_step (step_got s ps t i r e)))
+  down_got {b} {q} e {k} h {x} g = let f : x ≡ branch_at_of t i b = rw h at g in rw f (sym (ap to_read (step_got s ps t i r e)))
 
   -- what the code's step says of the grammar
-  pub stepped : {x : Step} → x ≡ tree_step_of s ps t i r → run (step ps t i) s r ≡ from_step x
+  pub stepped : {x : ReadOf Branch} → x ≡ tree_step_of s ps t i r → run (step ps t i) s r ≡ from_read x
   unfolding tree_step_of
-  stepped e = from_to (run (step ps t i) s r) ∙ ap from_step (sym e)
+  stepped e = from_read_lem (run (step ps t i) s r) ∙ ap from_read (sym e)
+
+  -- where it gave nothing, a byte was missing
+  pub step_unread : {u : Unread} → Err u ≡ tree_step_of s ps t i r → u ≡ U.Missing
+  unfolding tree_step_of
+  step_unread e = unread_missing (run (step ps t i) s r) e
 
 pub step_within : (ps : List ℕ) (t : List ℤ) (i : ℕ) → Tree ps t → Bytes ps → i < nodes_of t → Within (Leads (nodes_of t) i) 1 (step ps t i)
 unfolding step
@@ -75,29 +68,19 @@ at_inside n i true h = omega arith
 at_inside n i false h = omega arith
 
 -- ---- a walk of the code
--- what its answer says of the grammar; where the arguments are good it is never Refused
-abbrev pub from_walked : Walked → Given ℕ
-from_walked (W.Leaf v r) = given v r
-from_walked W.Missing = missing
-from_walked W.Refused = missing
-
-from_walked_lem : (x : Given ℕ) → x ≡ from_walked (to_walked x)
-from_walked_lem (given v r) = refl
-from_walked_lem missing = refl
-
 module _ (s ps : List ℕ) (t : List ℤ) where
   -- it is the grammar's run
-  pub walk_is : (n i : ℕ) (r : Reader) {x : Given ℕ} → run (walk n ps t i) s r ≡ x → to_walked x ≡ walk_of n s ps t i r
+  pub walk_is : (n i : ℕ) (r : Reader) {x : Given ℕ} → run (walk n ps t i) s r ≡ x → to_read x ≡ walk_of n s ps t i r
   unfolding walk_of
-  walk_is n i r e = ap to_walked (sym e)
+  walk_is n i r e = ap to_read (sym e)
 
   pub walk_on : (n i j : ℕ) (r q : Reader) → run (walk (suc n) ps t i) s r ≡ run (walk n ps t j) s q → walk_of n s ps t j q ≡ walk_of (suc n) s ps t i r
   unfolding walk_of
-  walk_on n i j r q e = ap to_walked (sym e)
+  walk_on n i j r q e = ap to_read (sym e)
 
-  pub walk_gives : (n i : ℕ) (r : Reader) {x : Walked} → x ≡ walk_of n s ps t i r → run (walk n ps t i) s r ≡ from_walked x
+  pub walk_gives : (n i : ℕ) (r : Reader) {x : ReadOf ℕ} → x ≡ walk_of n s ps t i r → run (walk n ps t i) s r ≡ from_read x
   unfolding walk_of
-  walk_gives n i r e = from_walked_lem (run (walk n ps t i) s r) ∙ ap from_walked (sym e)
+  walk_gives n i r e = from_read_lem (run (walk n ps t i) s r) ∙ ap from_read (sym e)
 
 -- ---- the test of a tree
 pub entries_none : (n : ℕ) (t : List ℤ) → tree_entries n t 0 ≡ true
@@ -180,7 +163,7 @@ module _ (s ps : List ℕ) (t : List ℤ) (i : ℕ) (r : Reader) where
   walk_good v e = rw (both_true (valid_test s r v) e, walk_answer)
 
   -- THE LAW for callers of `walk_tree`
-  pub walked : Valid s r → tree_of ps t i ≡ true → {x : Walked} → x ≡ walk_answer s ps t i r → run (walk 32 ps t i) s r ≡ from_walked x
+  pub walked : Valid s r → tree_of ps t i ≡ true → {x : ReadOf ℕ} → x ≡ walk_answer s ps t i r → run (walk 32 ps t i) s r ≡ from_read x
   walked v e f = walk_gives s ps t 32 i r (f ∙ walk_good v e)
 
 -- ---- constant trees: two tests that compute, so that `refl` answers them, and the laws that turn them into facts

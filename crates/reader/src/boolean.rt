@@ -1,6 +1,6 @@
 // The boolean decoder (RFC 6386, section 7.3). A reader is four numbers by value; the partition's bytes stand beside it.
 ghost use Rattle.std.specs.Prelude.{◌≡◌, ◌<◌, ◌≤◌, ◌*◌, ◌%◌, ◌^◌, eqb, leb, length, get_or};
-ghost use Rattle.reader.specs.Reading.{given, split_of, chosen_of, grow, decided_of, symbol_of, to_symbol, valid_of, symbol_answer, first_reader, From, Valid};
+ghost use Rattle.reader.specs.Reading.{given, split_of, chosen_of, grow, decided_of, symbol_of, to_read, valid_of, symbol_answer, first_reader, From, Valid};
 
 use numbers::byte_or_zero;
 
@@ -13,19 +13,21 @@ pub struct Reader {
     pub window: u32,
 }
 
-// The bit and the reader after it; Missing where one of the eight bits that decide it lies past the end; Refused where the reader is out
-// of range.
-#[derive(Clone, Copy)]
-pub enum Symbol {
-    Got(bool, Reader),
+// Why nothing was read: one of the eight bits that decide a symbol lies past the end; or the reader, or another argument, is out of range.
+#[derive(Clone, Copy, Debug, PartialEq, Eq)]
+pub enum Unread {
     Missing,
     Refused,
 }
 
-fn wide(x: u8) -> u32
-    ensures { (result ≡ x) × (result < 256) }
-{
-    x as u32
+// A value and the reader after it.
+pub type Read<T> = Result<(T, Reader), Unread>;
+
+// What was read, and by how many symbols; where one is missing, those before it.
+#[derive(Clone, Copy)]
+pub struct Counted<T> {
+    pub answer: Read<T>,
+    pub reads: u64,
 }
 
 // Where a range is split at a probability: strictly inside it.
@@ -33,7 +35,7 @@ fn split(range: u32, prob: u8) -> u32
     requires { (2 ≤ range) × (range < 256) }
     ensures { (result ≡ split_of range prob) × (1 ≤ result) × (result < range) }
 {
-    1 + (range - 1) * wide(prob) / 256
+    1 + (range - 1) * u32::from(prob) / 256
 }
 
 // How often a range is doubled until it is at least 128.
@@ -56,7 +58,7 @@ fn times(x: u32, k: u32) -> u32
 fn byte_at(s: &[u8], at: usize) -> u32
     ensures { (result ≡ get_or s.now at 0) × (result < 256) }
 {
-    wide(byte_or_zero(s, at))
+    u32::from(byte_or_zero(s, at))
 }
 
 // Whether the eight bits that decide a symbol lie in s, for a reader whose place is past the end: only right after the first load that
@@ -71,24 +73,26 @@ fn decided(s: &[u8], r: Reader) -> bool
 
 // All the doublings at once, with at most one load. Where there are none, nothing is counted: that is every other symbol.
 // Both ways make the reader field by field, and the load leaves its three numbers beside it: so the compiler keeps it out of memory.
-fn grown(s: &[u8], bit: bool, r: Reader) -> Symbol
+fn grown(s: &[u8], bit: bool, r: Reader) -> Read<bool>
     requires { From 1 s.now r }
-    ensures { result ≡ to_symbol (given bit (grow 7 s.now r)) }
+    ensures { result ≡ to_read (given bit (grow 7 s.now r)) }
 {
-    let at = r.at;
-    let range = r.range;
-    let shifts = r.shifts;
-    let window = r.window;
+    let Reader {
+        at,
+        range,
+        shifts,
+        window,
+    } = r;
     if 128 <= range {
-        return Symbol::Got(
+        return Ok((
             bit,
             Reader {
-                at: at,
-                range: range,
-                shifts: shifts,
-                window: window,
+                at,
+                range,
+                shifts,
+                window,
             },
-        );
+        ));
     }
     let k = doublings(range);
     let wider = times(range, k);
@@ -102,7 +106,7 @@ fn grown(s: &[u8], bit: bool, r: Reader) -> Symbol
         left = n - 8;
         full = moved + times(byte_at(s, at), n - 8);
     }
-    Symbol::Got(
+    Ok((
         bit,
         Reader {
             at: place,
@@ -110,7 +114,7 @@ fn grown(s: &[u8], bit: bool, r: Reader) -> Symbol
             shifts: left,
             window: full % 65536,
         },
-    )
+    ))
 }
 
 // The part of the range that the bit chooses.
@@ -176,21 +180,21 @@ pub fn open(s: &[u8]) -> Reader
         at: 2,
         range: 255,
         shifts: 0,
-        window: window,
+        window,
     }
 }
 
 impl Reader {
     // One symbol of a reader that is in range.
-    pub(crate) fn read(self, s: &[u8], prob: u8) -> Symbol
+    pub(crate) fn read(self, s: &[u8], prob: u8) -> Read<bool>
         requires { Valid s.now self }
-        ensures { result ≡ to_symbol (symbol_of s.now self prob) }
+        ensures { result ≡ to_read (symbol_of s.now self prob) }
     {
         let range = self.range;
         let window = self.window;
         if s.len() < self.at {
             if !decided(s, self) {
-                return Symbol::Missing;
+                return Err(Unread::Missing);
             }
         }
         let x = split(range, prob);
@@ -199,11 +203,11 @@ impl Reader {
     }
 
     // One symbol of probability prob / 256 for a 0, and the reader after it.
-    pub fn symbol(self, s: &[u8], prob: u8) -> Symbol
+    pub fn symbol(self, s: &[u8], prob: u8) -> Read<bool>
         ensures { result ≡ symbol_answer s.now self prob }
     {
         if !valid(s, self) {
-            return Symbol::Refused;
+            return Err(Unread::Refused);
         }
         self.read(s, prob)
     }

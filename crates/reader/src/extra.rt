@@ -6,31 +6,9 @@ ghost use Rattle.numbers.specs.Flags.{bit_of};
 ghost use Rattle.reader.specs.Extra.{extra, extra_of, extra_answer};
 ghost use Rattle.reader.specs.Counts.{extra_count};
 
-use crate::boolean::{Reader, Symbol, valid};
+use crate::boolean::{Counted, Reader, Unread, valid};
 
-// The number and the reader after it; Missing where a byte was; Refused where the reader is out of range or there are over
-// sixteen bits.
-#[derive(Clone, Copy)]
-pub enum Number {
-    Value(u32, Reader),
-    Missing,
-    Refused,
-}
-
-// The answer, and how many symbols were read; where one is missing, those before it.
-#[derive(Clone, Copy)]
-pub struct NumberRead {
-    pub answer: Number,
-    pub reads: u64,
-}
-
-fn bit_value(bit: bool) -> u32
-    ensures { (result ≡ bit_of bit) × (result < 2) }
-{
-    if bit { 1 } else { 0 }
-}
-
-fn read_extra(s: &[u8], r: Reader, probs: &[u8]) -> NumberRead
+fn read_extra(s: &[u8], r: Reader, probs: &[u8]) -> Counted<u32>
     requires valid { Valid s.now r }
     requires probs_len_bound { length probs.now ≤ 16 }
     ensures { (result.answer ≡ extra_of s.now probs.now r)
@@ -38,32 +16,34 @@ fn read_extra(s: &[u8], r: Reader, probs: &[u8]) -> NumberRead
 {
     let mut next = r;
     let mut value: u32 = 0;
-    let mut i = 0;
-    while i < probs.len() {
-        let Symbol::Got(bit, after) = next.read(s, probs[i]) else {
-            return NumberRead {
-                answer: Number::Missing,
-                reads: i as u64,
-            };
-        };
-        value = value + value + bit_value(bit);
-        next = after;
-        i = i + 1;
+    for (i, prob) in probs.iter().enumerate() {
+        match next.read(s, *prob) {
+            Ok((bit, after)) => {
+                value = value + value + u32::from(bit);
+                next = after;
+            }
+            Err(why) => {
+                return Counted {
+                    answer: Err(why),
+                    reads: i as u64,
+                };
+            }
+        }
     }
-    NumberRead {
-        answer: Number::Value(value, next),
-        reads: i as u64,
+    Counted {
+        answer: Ok((value, next)),
+        reads: probs.len() as u64,
     }
 }
 
-// A number of as many bits as there are probabilities, at most sixteen.
-pub fn extra_bits(s: &[u8], r: Reader, probs: &[u8]) -> NumberRead
+// A number of as many bits as there are probabilities; refused where the reader is out of range or there are over sixteen bits.
+pub fn extra_bits(s: &[u8], r: Reader, probs: &[u8]) -> Counted<u32>
     ensures { (result.answer ≡ extra_answer s.now probs.now r)
         × (result.reads ≡ extra_count s.now probs.now r) }
 {
     if !(valid(s, r) & (probs.len() <= 16)) {
-        return NumberRead {
-            answer: Number::Refused,
+        return Counted {
+            answer: Err(Unread::Refused),
             reads: 0,
         };
     }

@@ -3,24 +3,8 @@ ghost use Rattle.std.specs.Prelude.{◌≡◌, ◌<◌, ◌+◌, leb, length};
 ghost use Rattle.reader.specs.Token.{token_start, token_answer};
 ghost use Rattle.reader.specs.Counts.{token_count};
 
-use crate::boolean::{Reader, valid};
-use crate::trees::{Walked, walk};
-
-// A token and the reader after it; Missing where a byte was; Refused where the reader is out of range or the table has not eleven
-// probabilities there.
-#[derive(Clone, Copy)]
-pub enum Token {
-    Read(u8, Reader),
-    Missing,
-    Refused,
-}
-
-// The answer, and how many symbols were read; where one is missing, those before it.
-#[derive(Clone, Copy)]
-pub struct TokenRead {
-    pub answer: Token,
-    pub reads: u64,
-}
+use crate::boolean::{Counted, Reader, Unread, valid};
+use crate::trees::walk;
 
 // The RFC's coeff_tree.
 const TOKEN_TREE: [i16; 22] = [
@@ -47,14 +31,15 @@ fn first_node(zero: bool) -> usize
     if zero { 1 } else { 0 }
 }
 
-// One token, its eleven probabilities from `at` on in the table; after a zero (token 1) the block does not end.
-pub fn walk_token(s: &[u8], r: Reader, table: &[u8], at: usize, zero: bool) -> TokenRead
+// One token, its eleven probabilities from `at` on in the table; after a zero (token 1) the block does not end. Refused where the reader
+// is out of range or the table has not eleven probabilities there.
+pub fn walk_token(s: &[u8], r: Reader, table: &[u8], at: usize, zero: bool) -> Counted<u8>
     ensures { (result.answer ≡ token_answer s.now table.now at zero r)
         × (result.reads ≡ token_count s.now table.now at zero r) }
 {
     if !(valid(s, r) & has_eleven(table, at)) {
-        return TokenRead {
-            answer: Token::Refused,
+        return Counted {
+            answer: Err(Unread::Refused),
             reads: 0,
         };
     }
@@ -62,15 +47,14 @@ pub fn walk_token(s: &[u8], r: Reader, table: &[u8], at: usize, zero: bool) -> T
     let start = first_node(zero);
     let t = walk(s, r, &table[at..end], &TOKEN_TREE, start);
     let reads = t.reads;
-    let answer = t.answer;
-    let Walked::Leaf(token, next) = answer else {
-        return TokenRead {
-            answer: Token::Missing,
-            reads: reads,
-        };
-    };
-    TokenRead {
-        answer: Token::Read(token as u8, next),
-        reads: reads,
+    match t.answer {
+        Ok((token, next)) => Counted {
+            answer: Ok((token as u8, next)),
+            reads,
+        },
+        Err(why) => Counted {
+            answer: Err(why),
+            reads,
+        },
     }
 }

@@ -4,22 +4,7 @@ ghost use Rattle.reader.specs.Reading.{Valid, count};
 ghost use Rattle.reader.specs.Trees.{branch_of, at_of, nodes_of, tree_step_of, walk, walk_of, leads_of, tree_of, walk_answer, Tree};
 ghost use Rattle.reader.specs.Counts.{tree_count};
 
-use crate::boolean::{Reader, Symbol, valid};
-
-// The leaf and the reader after it; Missing where a byte was; Refused where the reader or the tree is out of range.
-#[derive(Clone, Copy)]
-pub enum Walked {
-    Leaf(u16, Reader),
-    Missing,
-    Refused,
-}
-
-// The answer, and how many symbols were read; where one is missing, those before it.
-#[derive(Clone, Copy)]
-pub struct TreeRead {
-    pub answer: Walked,
-    pub reads: u64,
-}
+use crate::boolean::{Counted, Read, Reader, Unread, valid};
 
 // What an entry is. Public so that the laws on walks of a known tree can be stated of it elsewhere.
 #[derive(Clone, Copy)]
@@ -28,19 +13,11 @@ pub enum Branch {
     Node(usize),
 }
 
-// What one symbol leads to.
-#[derive(Clone, Copy)]
-enum Step {
-    Leaf(u16, Reader),
-    Node(usize, Reader),
-    Missing,
-}
-
 fn at(i: usize, bit: bool) -> usize
     requires { i < 65536 }
     ensures { result ≡ at_of i bit }
 {
-    if bit { i + i + 1 } else { i + i }
+    i + i + usize::from(bit)
 }
 
 // The entry at k. The one place where a signed entry is read.
@@ -56,23 +33,18 @@ fn branch_at(tree: &[i16], k: usize) -> Branch
 }
 
 // One step down from node i.
-fn down(s: &[u8], r: Reader, probs: &[u8], tree: &[i16], i: usize) -> Step
+fn down(s: &[u8], r: Reader, probs: &[u8], tree: &[i16], i: usize) -> Read<Branch>
     requires valid { Valid s.now r }
     requires tree { Tree probs.now tree.now }
     requires i_bound { i < nodes_of tree.now }
     ensures { result ≡ tree_step_of s.now probs.now tree.now i r }
 {
-    let Symbol::Got(bit, next) = r.read(s, probs[i]) else {
-        return Step::Missing;
-    };
-    match branch_at(tree, at(i, bit)) {
-        Branch::Leaf(v) => Step::Leaf(v, next),
-        Branch::Node(j) => Step::Node(j, next),
-    }
+    let (bit, next) = r.read(s, probs[i])?;
+    Ok((branch_at(tree, at(i, bit)), next))
 }
 
 // Walks from node i and counts. In a tree it ends before the limit, which only bounds the loop.
-pub(crate) fn walk(s: &[u8], r: Reader, probs: &[u8], tree: &[i16], i: usize) -> TreeRead
+pub(crate) fn walk(s: &[u8], r: Reader, probs: &[u8], tree: &[i16], i: usize) -> Counted<u16>
     requires valid { Valid s.now r }
     requires tree { Tree probs.now tree.now }
     requires i_bound { i < nodes_of tree.now }
@@ -81,31 +53,29 @@ pub(crate) fn walk(s: &[u8], r: Reader, probs: &[u8], tree: &[i16], i: usize) ->
 {
     let mut next = r;
     let mut node = i;
-    let mut reads: u64 = 0;
-    while reads < 32 {
+    for reads in 0..32 {
         match down(s, next, probs, tree, node) {
-            Step::Leaf(v, after) => {
-                return TreeRead {
-                    answer: Walked::Leaf(v, after),
+            Ok((Branch::Leaf(v), after)) => {
+                return Counted {
+                    answer: Ok((v, after)),
                     reads: reads + 1,
                 };
             }
-            Step::Missing => {
-                return TreeRead {
-                    answer: Walked::Missing,
-                    reads: reads,
-                };
-            }
-            Step::Node(j, after) => {
+            Ok((Branch::Node(j), after)) => {
                 node = j;
                 next = after;
-                reads = reads + 1;
+            }
+            Err(why) => {
+                return Counted {
+                    answer: Err(why),
+                    reads,
+                };
             }
         }
     }
-    TreeRead {
-        answer: Walked::Leaf(0, next),
-        reads: reads,
+    Counted {
+        answer: Ok((0, next)),
+        reads: 32,
     }
 }
 
@@ -137,24 +107,22 @@ fn tree_fine(probs: &[u8], tree: &[i16], start: usize) -> bool
     if n <= start {
         return false;
     }
-    let mut k = 0;
-    while k < n + n {
+    for k in 0..n + n {
         if !leads(tree, n, k) {
             return false;
         }
-        k = k + 1;
     }
     true
 }
 
-// Walks down a tree from a node to a leaf.
-pub fn walk_tree(s: &[u8], r: Reader, probs: &[u8], tree: &[i16], start: usize) -> TreeRead
+// Walks down a tree from a node to a leaf. Refused where the reader or the tree is out of range.
+pub fn walk_tree(s: &[u8], r: Reader, probs: &[u8], tree: &[i16], start: usize) -> Counted<u16>
     ensures { (result.answer ≡ walk_answer s.now probs.now tree.now start r)
         × (result.reads ≡ tree_count s.now probs.now tree.now start r) }
 {
     if !(valid(s, r) & tree_fine(probs, tree, start)) {
-        return TreeRead {
-            answer: Walked::Refused,
+        return Counted {
+            answer: Err(Unread::Refused),
             reads: 0,
         };
     }

@@ -8,8 +8,9 @@ ghost use Rattle.reader.specs.Reading.{Valid, symbol, run};
 ghost use Rattle.reader.specs.Trees.{walk_of};
 ghost use Rattle.try_counted.specs.Segment.{segment_tree, last_of};
 
-use reader::boolean::{Reader, Symbol, open};
-use reader::trees::{Walked, walk_tree};
+use reader::boolean;
+use reader::boolean::{Reader, open};
+use reader::trees::walk_tree;
 use std::io;
 use std::io::Read;
 
@@ -20,89 +21,71 @@ const TREE: [i16; 6] = [1, 2, 0, -1, -2, -3];
 const PROBS: [u8; 3] = [120, 100, 180];
 
 // A node with two leaves.
-fn last(s: &[u8], r: Reader, prob: u8, low: u16, high: u16) -> Walked
+fn last(s: &[u8], r: Reader, prob: u8, low: u16, high: u16) -> boolean::Read<u16>
     requires { Valid s.now r }
     ensures { result ≡ last_of low high (run (symbol prob) s.now r) }
 {
-    let Symbol::Got(bit, next) = r.symbol(s, prob) else {
-        return Walked::Missing;
-    };
-    if bit {
-        return Walked::Leaf(high, next);
-    }
-    Walked::Leaf(low, next)
+    let (bit, next) = r.symbol(s, prob)?;
+    Ok((if bit { high } else { low }, next))
 }
 
 // A walk of the segment tree, node by node.
-fn chain(s: &[u8], r: Reader, probs: &[u8]) -> Walked
+fn chain(s: &[u8], r: Reader, probs: &[u8]) -> boolean::Read<u16>
     requires valid { Valid s.now r }
     requires probs_len { length probs.now ≡ 3 }
     ensures { result ≡ walk_of 32 s.now probs.now segment_tree 0 r }
 {
-    let Symbol::Got(high, next) = r.symbol(s, probs[0]) else {
-        return Walked::Missing;
-    };
+    let (high, next) = r.symbol(s, probs[0])?;
     if high {
-        return last(s, next, probs[2], 2, 3);
+        last(s, next, probs[2], 2, 3)
+    } else {
+        last(s, next, probs[1], 0, 1)
     }
-    last(s, next, probs[1], 0, 1)
 }
 
 fn symbols(s: &[u8], r: Reader) -> usize {
     let mut next = r;
-    let mut n = 0;
-    while n < 1000000 {
-        let Symbol::Got(_, after) = next.symbol(s, 120) else {
+    for n in 0..1000000 {
+        let Ok((_, after)) = next.symbol(s, 120) else {
             return n;
         };
         next = after;
-        n = n + 1;
     }
-    n
+    1000000
 }
 
 fn leaves(s: &[u8], r: Reader) -> usize
     requires { Valid s.now r }
 {
     let mut next = r;
-    let mut n = 0;
-    while n < 1000000 {
-        let Walked::Leaf(_, after) = chain(s, next, &PROBS) else {
+    for n in 0..1000000 {
+        let Ok((_, after)) = chain(s, next, &PROBS) else {
             return n;
         };
         next = after;
-        n = n + 1;
     }
-    n
+    1000000
 }
 
 fn walks(s: &[u8], r: Reader) -> usize {
     let mut next = r;
-    let mut n = 0;
-    while n < 1000000 {
-        let t = walk_tree(s, next, &PROBS, &TREE, 0);
-        let answer = t.answer;
-        let Walked::Leaf(_, after) = answer else {
+    for n in 0..1000000 {
+        let Ok((_, after)) = walk_tree(s, next, &PROBS, &TREE, 0).answer else {
             return n;
         };
         next = after;
-        n = n + 1;
     }
-    n
+    1000000
 }
 
 fn counted(how: u8, s: &[u8]) -> usize {
     let r = open(s);
-    if how == 1 {
-        return symbols(s, r);
+    match how {
+        1 => symbols(s, r),
+        2 => leaves(s, r),
+        3 => walks(s, r),
+        _ => 0,
     }
-    if how == 2 {
-        return leaves(s, r);
-    }
-    if how == 3 {
-        return walks(s, r);
-    }
-    0
 }
 
 // Standard input's first 65536 bytes.

@@ -3,11 +3,11 @@
 // (tests/model/symbols.py, which also made the expected lines, says how).
 #![tactic(auto)]
 
-ghost use Rattle.std.specs.Prelude.{◌≡◌, ◌≤◌, length};
+ghost use Rattle.std.specs.Prelude.{◌≡◌, length};
 
-use reader::boolean::{Reader, Symbol, open};
-use reader::extra::{Number, extra_bits};
-use reader::trees::{Walked, walk_tree};
+use reader::boolean::{Reader, Unread, open};
+use reader::extra::extra_bits;
+use reader::trees::walk_tree;
 use std::io;
 use std::io::Read;
 
@@ -15,21 +15,6 @@ use std::io::Read;
 const TREE: [i16; 22] = [
     0, 1, -1, 2, -2, 3, 4, 6, -3, 5, -4, -5, 7, 8, -6, -7, 9, 10, -8, -9, -10, -11,
 ];
-
-fn wide(x: u8) -> u32
-    ensures { result ≤ 255 }
-{
-    x as u32
-}
-
-fn least(x: u8, most: usize) -> usize
-    ensures { result ≤ most }
-{
-    if most < x as usize {
-        return most;
-    }
-    x as usize
-}
 
 fn show(rt: &impl Print, n: u32) -> io::Result<()> {
     print!(rt; " {n}")
@@ -42,11 +27,10 @@ fn show_reader(rt: &impl Print, r: Reader) -> io::Result<()> {
     show(rt, r.window)
 }
 
-fn show_bit(rt: &impl Print, bit: bool) -> io::Result<()> {
-    if bit {
-        print!(rt; "1")
-    } else {
-        print!(rt; "0")
+fn show_unread(rt: &impl Print, why: Unread) -> io::Result<()> {
+    match why {
+        Unread::Missing => print!(rt; "m"),
+        Unread::Refused => print!(rt; "9"),
     }
 }
 
@@ -55,40 +39,33 @@ fn bits(rt: &impl Print, s: &[u8], r: Reader, probs: &[u8]) -> io::Result<()> {
     let mut next = r;
     for prob in probs {
         match next.symbol(s, *prob) {
-            Symbol::Got(bit, after) => {
-                show_bit(rt, bit)?;
+            Ok((bit, after)) => {
+                print!(rt; "{}", u8::from(bit))?;
                 next = after;
             }
-            Symbol::Missing => return print!(rt; "m"),
-            Symbol::Refused => return print!(rt; "9"),
+            Err(why) => return show_unread(rt, why),
         }
     }
     show_reader(rt, next)
 }
 
 fn number(rt: &impl Print, s: &[u8], r: Reader, probs: &[u8]) -> io::Result<()> {
-    let bits = extra_bits(s, r, probs);
-    let answer = bits.answer;
-    match answer {
-        Number::Value(v, after) => {
+    match extra_bits(s, r, probs).answer {
+        Ok((v, after)) => {
             print!(rt; "{v}")?;
             show_reader(rt, after)
         }
-        Number::Missing => print!(rt; "m"),
-        Number::Refused => print!(rt; "9"),
+        Err(why) => show_unread(rt, why),
     }
 }
 
 fn leaf(rt: &impl Print, s: &[u8], r: Reader, probs: &[u8], start: usize) -> io::Result<()> {
-    let t = walk_tree(s, r, probs, &TREE, start);
-    let answer = t.answer;
-    match answer {
-        Walked::Leaf(v, after) => {
+    match walk_tree(s, r, probs, &TREE, start).answer {
+        Ok((v, after)) => {
             print!(rt; "{v}")?;
             show_reader(rt, after)
         }
-        Walked::Missing => print!(rt; "m"),
-        Walked::Refused => print!(rt; "9"),
+        Err(why) => show_unread(rt, why),
     }
 }
 
@@ -97,10 +74,10 @@ fn given(case: &[u8]) -> Reader
     requires { length case.now ≡ 64 }
 {
     Reader {
-        at: least(case[50], 255),
-        range: wide(case[51]) * 256 + wide(case[52]),
-        shifts: wide(case[53]),
-        window: (wide(case[54]) * 256 + wide(case[55])) * 256 + wide(case[56]),
+        at: usize::from(case[50]),
+        range: u32::from(case[51]) * 256 + u32::from(case[52]),
+        shifts: u32::from(case[53]),
+        window: (u32::from(case[54]) * 256 + u32::from(case[55])) * 256 + u32::from(case[56]),
     }
 }
 
@@ -108,8 +85,8 @@ fn run(rt: &impl Print, case: &[u8]) -> io::Result<()>
     requires { length case.now ≡ 64 }
 {
     let kind = case[0];
-    let size = least(case[1], 30);
-    let count = least(case[32], 17);
+    let size = usize::from(case[1]).min(30);
+    let count = usize::from(case[32]).min(17);
     let end = 2 + size;
     let past = 33 + count;
     let s = &case[2..end];
@@ -123,17 +100,14 @@ fn run(rt: &impl Print, case: &[u8]) -> io::Result<()>
     } else if kind == 1 {
         number(rt, s, r, probs)
     } else {
-        leaf(rt, s, r, probs, least(case[57], 255))
+        leaf(rt, s, r, probs, usize::from(case[57]))
     }
 }
 
 fn all(rt: &impl Print, list: &[u8]) -> io::Result<()> {
-    let mut at = 0;
-    while 64 <= list.len() - at {
-        let end = at + 64;
-        run(rt, &list[at..end])?;
+    for case in list.chunks_exact(64) {
+        run(rt, case)?;
         print!(rt; "\n")?;
-        at = end;
     }
     Ok(())
 }

@@ -1,17 +1,17 @@
 -- `number` meets its contract: what passes the test is what the inner call asks.
-use Rattle.numbers.specs.Words.{◌∙◌, both_left, both_right, not-false, not-true}
+use Rattle.numbers.specs.Words.{◌∙◌, both_left, both_right}
 use Rattle.reader.specs.Reading.{valid_of}
 use Rattle.reader.specs.ReadingLaws.{valid_fact}
 use Rattle.coefficients.specs.BlockSteps.{tests_two, number_refused, number_good, numeric_fact}
 use Rattle.coefficients.proofs.block.number.Goals as goal
 
 pub returns-then-not-valid-numeric : goal.returns-then-not-valid-numeric
-returns-then-not-valid-numeric c = number_refused _ _ _ (tests_two c.valid.ensures c.numeric.ensures (not-true _ c.if-not-valid-numeric.true-raw))
+returns-then-not-valid-numeric c = number_refused _ _ _ (tests_two c.valid.ensures c.numeric.ensures (c.if-not-valid-numeric.true))
 
-pub read_number-number-requires : goal.read_number-number-requires
-read_number-number-requires c =
-    let e = tests_two c.valid.ensures c.numeric.ensures (not-false _ c.if-not-valid-numeric.false-raw) in
+pub read_number-requires : goal.read_number-requires
+read_number-requires c =
+    let e = tests_two c.valid.ensures c.numeric.ensures (c.if-not-valid-numeric.false) in
     record { valid = valid_fact _ _ (both_left _ _ e); le_token = numeric_fact _ (both_right (valid_of c.args.s.now c.args.r) _ e) }
 
 pub returns : goal.returns
-returns c = c.read_number-number.ensures.0 ∙ number_good _ _ _ (tests_two c.valid.ensures c.numeric.ensures (not-false _ c.if-not-valid-numeric.false-raw))
+returns c = c.read_number.ensures.0 ∙ number_good _ _ _ (tests_two c.valid.ensures c.numeric.ensures (c.if-not-valid-numeric.false))

@@ -1,7 +1,8 @@
 -- `read_block` meets its contract. The loop's invariant: what is left to read gives what the whole block gives, and `out` is untouched.
-use Rattle.numbers.specs.Words.{arith, refl, eq-eqb, ne_eqb}
+use Rattle.numbers.specs.Words.{arith, refl, ap, eq-eqb, ne_eqb}
+use Rattle.reader.specs.ReadingLaws.{from_read}
 use Rattle.coefficients.specs.Block.{bands, zigzag, block_of, block}
-use Rattle.coefficients.proofs.BlockAnswers.{not_token, not_signed}
+use Rattle.coefficients.proofs.BlockAnswers.{not_signed}
 use Rattle.coefficients.proofs.BlockTurns.{going_start, going_end, Turn, turn, turn_missing, token_read, turn_ended, turn_zero, number_short, turn_lost, turn_number, called_missing, called_ended}
 use Rattle.coefficients.proofs.block.read_block.Goals as goal
 use Rattle.coefficients.proofs.block.read_block.Goals.{After-walk_token-t, then-zero, else-zero+in-Value}
@@ -26,28 +27,28 @@ pub returns-in_default : goal.returns-in_default
 unfolding block_of
 returns-in_default c =
     let t = turn_at (goal.at.returns-in_default c).After-walk_token-t in
-    called_missing _ _ _ _ c.loop-n.invariant.kept (turn_missing t (not_token c.walk_token-t.result.answer c.in_default.not-Read))
+    called_missing _ _ _ _ c.loop-n.invariant.kept (turn_missing t (ap from_read c.in_default.is))
 
 pub returns-then-token-eq0 : goal.returns-then-token-eq0
 unfolding block_of
 returns-then-token-eq0 c =
     let t = turn_at (goal.at.returns-then-token-eq0 c).After-walk_token-t in
-    called_ended _ _ _ _ (turn_ended t c.in-Read.is c.if-token-eq0.true)
+    called_ended _ _ _ _ (turn_ended t c.in-Ok.is c.if-token-eq0.true)
 
 pub read_signed-number-requires-clause-valid : goal.read_signed-number-requires-clause-valid
 read_signed-number-requires-clause-valid c =
     let t = turn_at (goal.at.read_signed-number-requires-clause-valid c).After-walk_token-t in
-    (token_read t c.in-Read.is).valid
+    (token_read t c.in-Ok.is).valid
 
 pub read_signed-number-requires-clause-le_token : goal.read_signed-number-requires-clause-le_token
 read_signed-number-requires-clause-le_token c =
     let t = turn_at (goal.at.read_signed-number-requires-clause-le_token c).After-walk_token-t in
-    (omega (arith, c.if-token-eq0.false, c.if-zero.false), omega (arith, (token_read t c.in-Read.is).value))
+    (omega (arith, c.if-token-eq0.false, c.if-zero.false), omega (arith, (token_read t c.in-Ok.is).value))
 
 pub overflow_add-reads-else-zero : goal.overflow_add-reads-else-zero
 overflow_add-reads-else-zero c =
     let t = turn_at (goal.at.overflow_add-reads-else-zero c).After-walk_token-t in
-    let n = number_short t c.in-Read.is (omega (arith, c.if-token-eq0.false, c.if-zero.false)) c.quantizer.ensures c.read_signed-number.ensures in
+    let n = number_short t c.in-Ok.is (omega (arith, c.if-token-eq0.false, c.if-zero.false)) c.quantizer.ensures c.read_signed-number.ensures in
     omega (arith, t.few, t.short, t.sum, n)
 
 pub returns-in_default-signed : goal.returns-in_default-signed
@@ -55,7 +56,7 @@ unfolding block_of
 returns-in_default-signed c =
     let t = turn_at (goal.at.returns-in_default-signed c).After-walk_token-t in
     called_missing _ _ _ _ c.loop-n.invariant.kept
-    (turn_lost t c.in-Read.is (omega (arith, c.if-token-eq0.false, c.if-zero.false)) c.quantizer.ensures c.read_signed-number.ensures (not_signed c.read_signed-number.result.answer c.in_default-signed.not-Value))
+    (turn_lost t c.in-Ok.is (omega (arith, c.if-token-eq0.false, c.if-zero.false)) c.quantizer.ensures c.read_signed-number.ensures (not_signed c.read_signed-number.result.answer c.in_default-signed.not-Value))
 
 pub loop-n-preserved : goal.loop-n-preserved
 unfolding zigzag
@@ -63,10 +64,10 @@ loop-n-preserved c =
     let t = turn_at (goal.at.loop-n-preserved c).After-walk_token-t in
     record {
       going = elim c.if-zero.branch [
-        | then-zero w ↦ rw (w.values-is, w.next-is, w.near-is, w.reads-is, eq-eqb _ 1 w.if-zero.true) (turn_zero t c.in-Read.is w.if-zero.true)
+        | then-zero w ↦ rw (w.values-is, w.next-is, w.near-is, w.reads-is, eq-eqb _ 1 w.if-zero.true) (turn_zero t c.in-Ok.is w.if-zero.true)
         | else-zero+in-Value w ↦
             rw (w.values-is, w.next-is, w.near-is, w.reads-is, ne_eqb _ 1 w.if-zero.false)
-            (turn_number t c.in-Read.is (omega (arith, c.if-token-eq0.false, w.if-zero.false)) w.quantizer.ensures w.read_signed-number.ensures w.in-Value.is w.context-near.ensures w.entry.ensures.0)
+            (turn_number t c.in-Ok.is (omega (arith, c.if-token-eq0.false, w.if-zero.false)) w.quantizer.ensures w.read_signed-number.ensures w.in-Value.is w.context-near.ensures w.entry.ensures.0)
       ];
       kept = c.loop-n.invariant.kept;
     }

@@ -6,7 +6,7 @@ use Rattle.coefficients.proofs.BlockAnswers.{last}
 use Rattle.coefficients.proofs.block.read_number.Goals as goal
 
 pub returns-then-token-lt6 : goal.returns-then-token-lt6
-returns-then-token-lt6 c = magnitude_few _ _ _ (omega arith)
+returns-then-token-lt6 c = rw c.from.ensures (magnitude_few _ _ _ (omega arith))
 
 pub returns-in-6 : goal.returns-in-6
 unfolding magnitude_of magnitude categories bases

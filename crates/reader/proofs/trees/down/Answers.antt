@@ -1,18 +1,13 @@
-use Rattle.numbers.specs.Words.{sym, ◌∙◌, ap}
-use Rattle.reader.specs.ReadingLaws.{answered, from_symbol}
+use Rattle.numbers.specs.Words.{sym, ◌∙◌, ap, Err, rules, ◌≡◌}
+use Rattle.reader.specs.ReadingLaws.{answered, from_read, unread_missing}
 use Rattle.reader.specs.TreesLaws.{down_missing, down_got, at_inside}
-use Rattle.reader.proofs.Answers.{not_got}
-use borrow.Enum.Refused.{opened}
 use Rattle.reader.proofs.trees.down.Goals as goal
 
-pub returns-in_default : goal.returns-in_default
-returns-in_default c = down_missing _ _ _ _ _ (answered _ _ _ c.read.ensures ∙ not_got c.read.result (opened c.in_default.in_default-own.keys2))
+pub returns-in_err-bit : goal.returns-in_err-bit
+returns-in_err-bit c = let h : c.from_residual.result ≡ Err c.in_err-bit.field-0.0 = search rules in h ∙ down_missing _ _ _ _ _ (answered _ _ _ c.read.ensures ∙ ap from_read c.in_err-bit.was) (unread_missing _ (sym c.in_err-bit.was ∙ c.read.ensures))
 
 pub branch_at-requires : goal.branch_at-requires
-branch_at-requires c = rw (c.at.ensures, c.requires.tree.size) (at_inside _ _ c.in-Got.bit c.requires.i_bound)
+branch_at-requires c = rw (c.at.ensures, c.requires.tree.size) (at_inside _ _ c.in_ok-bit.bit c.requires.i_bound)
 
-pub returns-in-Leaf : goal.returns-in-Leaf
-returns-in-Leaf c = down_got _ _ _ _ _ (answered _ _ _ c.read.ensures ∙ ap from_symbol c.in-Got.is) c.at.ensures (sym c.in-Leaf.is ∙ c.branch_at.ensures)
-
-pub returns-in-Node : goal.returns-in-Node
-returns-in-Node c = down_got _ _ _ _ _ (answered _ _ _ c.read.ensures ∙ ap from_symbol c.in-Got.is) c.at.ensures (sym c.in-Node.is ∙ c.branch_at.ensures)
+pub returns : goal.returns
+returns c = down_got _ _ _ _ _ (answered _ _ _ c.read.ensures ∙ ap from_read c.in_ok-bit.was) c.at.ensures c.branch_at.ensures

@@ -1,4 +1,4 @@
-use Rattle.numbers.specs.Words.{◌-◌, arith, sym, ◌∙◌, true, not-false, not-true}
+use Rattle.numbers.specs.Words.{arith, sym, ◌∙◌}
 use Rattle.reader.specs.TreesLaws.{tree_not, tree_entry, tree_fact, tree_start, entries_none, entries_next, tree_all}
 use Rattle.reader.proofs.trees.tree_fine.Goals as goal
 
@@ -15,13 +15,13 @@ pub returns-then-n-start : goal.returns-then-n-start
 returns-then-n-start c = tree_not _ _ _ (λ e. omega (arith, tree_start _ _ _ e))
 
 pub loop-k-init : goal.loop-k-init
-loop-k-init c = (omega arith, entries_none _ _)
+loop-k-init c = entries_none _ _
 
 pub returns-then-not-leads : goal.returns-then-not-leads
-returns-then-not-leads c = tree_not _ _ _ (tree_entry _ _ _ _ (omega arith) (sym c.leads.ensures ∙ not-true _ c.if-not-leads.true-raw))
+returns-then-not-leads c = tree_not _ _ _ (tree_entry _ _ _ _ (omega arith) (sym c.leads.ensures ∙ c.if-not-leads.true))
 
 pub loop-k-preserved : goal.loop-k-preserved
-loop-k-preserved c = (omega arith, entries_next _ _ _ c.loop-k.invariant.1 (sym c.leads.ensures ∙ not-false _ c.if-not-leads.false-raw))
+loop-k-preserved c = entries_next _ _ _ c.loop-k.invariant (sym c.leads.ensures ∙ c.if-not-leads.false)
 
 pub returns : goal.returns
-returns c = tree_all _ _ _ _ (omega arith) (omega arith) (omega arith) (omega arith) (omega arith) c.loop-k.invariant.1
+returns c = tree_all _ _ _ _ (omega arith) (omega arith) (omega arith) (omega arith) (omega arith) c.loop-k.invariant

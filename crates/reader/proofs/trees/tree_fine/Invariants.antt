@@ -1,9 +1,6 @@
-use Rattle.numbers.specs.Words.{◌+◌, ◌-◌, ◌≤◌, ◌≡◌, true}
+use Rattle.numbers.specs.Words.{◌≡◌, true}
 use Rattle.reader.specs.Trees.{tree_entries}
 use Rattle.reader.proofs.trees.tree_fine.Given as goal
 
 abbrev pub invariant-loop-k : goal.invariant-loop-k
-invariant-loop-k l = (l.k ≤ l.n + l.n) × (tree_entries l.n l.tree l.k ≡ true)
-
-abbrev pub decreases-loop-k : goal.decreases-loop-k
-decreases-loop-k l = l.n + l.n - l.k
+invariant-loop-k l = tree_entries l.n l.tree l.k ≡ true

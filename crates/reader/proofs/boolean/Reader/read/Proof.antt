@@ -1,20 +1,14 @@
 use Rattle.numbers.specs.Words.{◌*◌, arith, ◌≡◌, refl, sym, ◌∙◌, ap, true, ⊎_elim, leb, not-false, not-true, rules}
-use Rattle.reader.specs.Reading.{given, to_symbol, grow, decided_of}
+use Rattle.reader.specs.Reading.{given, to_read, grow, decided_of}
 use Rattle.reader.specs.ReadingLaws.{symbol_missing, symbol_is, from_part, decided_inside}
 use Rattle.reader.proofs.boolean.Reader.read.Statement.{statement}
 use Rattle.reader.proofs.boolean.Reader.read.Tie as tie
-use Rattle.reader.proofs.boolean.Reader.read.Reads as reads
-use Rattle.reader.proofs.boolean.Reader.read.Lts as lts
-use Rattle.reader.proofs.boolean.decided.Reads as decided-reads
-use Rattle.reader.proofs.boolean.grown.Reads as grown-reads
-use Rattle.reader.proofs.boolean.part.Reads as part-reads
-use Rattle.reader.proofs.boolean.split.Reads as split-reads
 
 decided-requires : tie.Need-decided-requires
 decided-requires c κs = search rules
 
 returns : tie.Need-returns-then-not-decided
-returns c = sym (ap to_symbol (symbol_missing _ _ _ (sym c.decided.ensures ∙ not-true _ c.if-not-decided.true-raw)))
+returns c = sym (ap to_read (symbol_missing _ _ _ (sym c.decided.ensures ∙ not-true _ c.if-not-decided.true-raw)))
 
 -- past the test the symbol is decided: the place is inside, or `decided` said so
 decided_here : (c : tie.Joined-s-self) → (decided_of c.args.s.now c.args.self ≡ true)
@@ -39,7 +33,7 @@ grown-requires c κs = rw c.part.ensures (from_part c.args.s.now c.args.self c.s
 returns-2 : tie.Need-returns
 returns-2 c =
     c.grown.ensures
-    ∙ ap to_symbol
+    ∙ ap to_read
     (ap (λ q. given (leb (256 * c.split-x.result) c.args.self.window) (grow 7 c.args.s.now q)) c.part.ensures
     ∙ sym (symbol_is c.args.s.now c.args.self c.args.prob _ (decided_here c.before.before.before) c.split-x.ensures.0 _ refl))
 
