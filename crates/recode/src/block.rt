@@ -39,7 +39,7 @@ fn band(table: &[u8; 16], n: usize) -> usize
     requires n_bound { n < 16 }
     ensures { (result ≡ get_or bands n 0) × (result < 8) }
 {
-    table[n] as usize
+    usize::from(table[n])
 }
 
 // Where the eleven probabilities of a position stand in the table.
@@ -81,10 +81,9 @@ fn copy_block(
     let bands = BANDS;
     let leads = LEADS;
     let mut next = p;
-    let mut n = first;
     let mut context = ctx;
     let mut zero = false;
-    while n < 16 {
+    for n in first..16 {
         let at = place(&bands, kind, n, context);
         let t = copy_token(s, next, out, table, &leads, at, zero);
         let token = t.token;
@@ -95,9 +94,8 @@ fn copy_block(
         next = copy_rest(s, q, out, token);
         context = near(token);
         zero = token == 1;
-        n = n + 1;
     }
-    BlockCopied { end: n, next: next }
+    BlockCopied { end: 16, next }
 }
 
 // Part 0 is the second-order block, part i + 1 is block i: the kind of its probabilities,
@@ -135,18 +133,12 @@ fn flags_of(j: usize) -> FlagPlace
     }
 }
 
-fn on(flag: u8) -> usize
-    ensures { (flag ≤ 1 → result ≡ flag) × (result < 2) }
-{
-    if flag == 0 { 0 } else { 1 }
-}
-
 // The context of a block: how many of its two flags are 1.
 fn context_at(top: [u8; 9], left: [u8; 9], x: usize, y: usize) -> usize
     requires { (x < 9) × (y < 9) }
     ensures { (get_or top x 0 ≤ 1 → get_or left y 0 ≤ 1 → result ≡ get_or top x 0 + get_or left y 0) × (result < 3) }
 {
-    on(top[x]) + on(left[y])
+    usize::from(top[x] != 0) + usize::from(left[y] != 0)
 }
 
 // The flags with one of them set or cleared.
@@ -155,7 +147,7 @@ fn flagged(flags: [u8; 9], x: usize, on: bool) -> [u8; 9]
     ensures { result ≡ set flags x (bit_of on) }
 {
     let mut next = flags;
-    next[x] = on as u8;
+    next[x] = u8::from(on);
     next
 }
 
@@ -165,11 +157,9 @@ fn copy_part(s: &[u8], m: Flow, out: &mut [u8], table: &[u8], small: bool, j: us
     requires j_bound { j < 25 }
     ensures { PartCopies table.now small j s.now m out.old result out.new }
 {
-    let p = flags_of(j);
-    let x = p.x;
-    let y = p.y;
+    let FlagPlace { x, y } = flags_of(j);
     let kind = kind_of(small, j);
-    let first = (kind == 0) as usize;
+    let first = usize::from(kind == 0);
     let top = m.top;
     let left = m.left;
     let b = copy_block(
@@ -198,10 +188,8 @@ fn copy_parts(s: &[u8], start: Flow, out: &mut [u8], table: &[u8], small: bool) 
     ensures { ResidualCopies table.now small false s.now start out.old result out.new }
 {
     let mut m = start;
-    let mut j = small as usize;
-    while j < 25 {
+    for j in usize::from(small)..25 {
         m = copy_part(s, m, out, table, small, j);
-        j = j + 1;
     }
     m
 }
@@ -225,7 +213,7 @@ pub(crate) fn copy_residual(
         let above = cleared(top, small);
         let beside = cleared(left, small);
         return Flow {
-            pipe: pipe,
+            pipe,
             top: above,
             left: beside,
         };

@@ -32,7 +32,7 @@ fn refused(number: u32) -> Recoded
     ensures { result ≡ recoded_refused number }
 {
     Recoded {
-        number: number,
+        number,
         tile: Tile {
             first: Span { start: 0, len: 0 },
             tokens: [Span { start: 0, len: 0 }; 8],
@@ -58,22 +58,12 @@ fn one_tile(tile: Tile, n: usize, k: usize) -> Tile
     let reader = tile.reader;
     Tile {
         first: Span { start: 0, len: n },
-        tokens: tokens,
-        reader: reader,
+        tokens,
+        reader,
         count: 1,
         width: tile.width,
         height: tile.height,
     }
-}
-
-// The lesser of two.
-fn least(a: usize, b: usize) -> usize
-    ensures { (result ≤ a) × (result ≤ b) × (result < b → result ≡ a) }
-{
-    if a < b {
-        return a;
-    }
-    b
 }
 
 // The picture call, then its tile with one token partition, at the start of `out`; what lies behind it in `out` is left alone.
@@ -98,7 +88,7 @@ pub fn recode(
 {
     let first = part(bytes, tile.first);
     let n = first.len();
-    let at = least(n, out.len());
+    let at = n.min(out.len());
     let written = recode_tokens(
         bytes,
         tile,

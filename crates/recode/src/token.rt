@@ -27,7 +27,7 @@ fn lead(tree: &[u8; 22], node: usize, bit: bool) -> usize
     requires node_bound { node < 11 }
     ensures { (result ≡ led_to node bit) × (node < result) × (result < 23) }
 {
-    tree[node + node + bit as usize] as usize
+    usize::from(tree[node + node + usize::from(bit)])
 }
 
 // A number's token, from node 2 on.
@@ -46,6 +46,7 @@ fn copy_number(
 {
     let mut next = p;
     let mut i = 2;
+    // Stays a while: i goes down the tree, not by one.
     while i < 11 {
         let a = ask(s, next, out, table[at + i]);
         i = lead(tree, i, a.bit);
@@ -53,7 +54,7 @@ fn copy_number(
     }
     TokenCopied {
         token: (i - 11) as u8,
-        next: next,
+        next,
     }
 }
 
@@ -111,11 +112,9 @@ fn copy_extra(s: &[u8], p: Pipe, out: &mut [u8], probs: &[u8]) -> Pipe
     ensures { Copies nothing (extra probs.now) s.now p out.old tt result out.new }
 {
     let mut next = p;
-    let mut i = 0;
-    while i < probs.len() {
-        let a = ask(s, next, out, probs[i]);
+    for prob in probs {
+        let a = ask(s, next, out, *prob);
         next = a.next;
-        i = i + 1;
     }
     next
 }

@@ -114,10 +114,7 @@ pub fn recode_tokens(
     let reads = read.reads;
     let number = answer.number();
     if number != 0 {
-        return TokensRecoded {
-            number: number,
-            len: 0,
-        };
+        return TokensRecoded { number, len: 0 };
     }
     rewrite(bytes, tile, header, reads.tokens, columns, out)
 }

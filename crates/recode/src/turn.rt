@@ -59,10 +59,7 @@ fn tokens_copied(
     let reader = widen(task.token);
     let writer = task.writer;
     let start = Flow {
-        pipe: Pipe {
-            reader: reader,
-            writer: writer,
-        },
+        pipe: Pipe { reader, writer },
         top: above,
         left: aside,
     };
@@ -101,7 +98,7 @@ fn tokens_turned(
     let token = narrow(tokens, after);
     Turned {
         first: next,
-        token: token,
+        token,
         writer: written,
         left: Context {
             modes: rightmost,
@@ -139,15 +136,12 @@ pub(crate) fn turn(
         let writer = task.writer;
         return Turned {
             first: r,
-            token: token,
-            writer: writer,
-            left: left,
+            token,
+            writer,
+            left,
         };
     };
-    let around = Around {
-        top: top,
-        left: left,
-    };
+    let around = Around { top, left };
     tokens_turned(
         tokens,
         table,

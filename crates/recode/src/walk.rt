@@ -31,8 +31,7 @@ pub(crate) fn walk(
     let mut r = tile.reader;
     let mut left = Context::empty();
     let mut w = Writer::fresh();
-    let mut k: usize = 0;
-    while k < blocks {
+    for k in 0..blocks {
         let p = pick(k / wide, tile.count);
         let t = readers[p];
         let m = turn(
@@ -43,8 +42,8 @@ pub(crate) fn walk(
                 first: r,
                 token: t,
                 writer: w,
-                frame: frame,
-                left: left,
+                frame,
+                left,
                 column: k % wide,
             },
             &mut columns[..],
@@ -55,7 +54,6 @@ pub(crate) fn walk(
         readers[p] = after;
         w = m.writer;
         left = m.left;
-        k = k + 1;
     }
     w
 }

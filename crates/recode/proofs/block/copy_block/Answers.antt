@@ -1,4 +1,4 @@
-use Rattle.numbers.specs.Words.{◌-◌, arith, refl, ◌∙◌}
+use Rattle.numbers.specs.Words.{arith, ◌≡◌, refl, ◌∙◌}
 use Rattle.coefficients.specs.Block.{bands}
 use Rattle.recode.specs.BlockCopies.{blocking_start, blocking_next, blocking_over, blocking_end}
 use Rattle.recode.proofs.block.copy_block.Goals as goal
@@ -22,12 +22,6 @@ returns-then-token-eq0 c = blocking_over c.loop-n.invariant c.loop-n-test.true c
 pub copy_rest-next-requires : goal.copy_rest-next-requires
 copy_rest-next-requires c = omega (arith, c.if-token-eq0.false, c.copy_token-t.ensures.1)
 
-pub overflow_add-n : goal.overflow_add-n
-overflow_add-n c = omega (arith, c.loop-n-test.true)
-
-pub loop-n-smaller : goal.loop-n-smaller
-loop-n-smaller c = omega (arith, c.loop-n-test.true)
-
 pub loop-n-preserved : goal.loop-n-preserved
 loop-n-preserved c = blocking_next c.loop-n.invariant c.loop-n-test.true c.place-at.ensures.0 c.copy_token-t.ensures.0 c.if-token-eq0.false c.copy_rest-next.ensures c.near-context.ensures.0 c.near-context.ensures.1 refl c.copy_token-t.auto.out c.copy_rest-next.auto.out
 
@@ -35,4 +29,4 @@ pub shape_of-out : goal.shape_of-out
 shape_of-out c = c.loop-n.invariant.long
 
 pub returns : goal.returns
-returns c = blocking_end c.loop-n.invariant c.loop-n-test.false
+returns c = let e : c.loop-n.n ≡ 16 = omega (arith, c.loop-n.invariant.most, c.loop-n-test.false) in rw e at (blocking_end c.loop-n.invariant c.loop-n-test.false)

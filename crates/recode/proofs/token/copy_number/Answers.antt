@@ -1,4 +1,4 @@
-use Rattle.numbers.specs.Words.{◌-◌, arith, sym}
+use Rattle.numbers.specs.Words.{arith, sym}
 use Rattle.reader.specs.TokenLaws.{eleven_at_lem}
 use Rattle.recode.specs.Copies.{ask_copies}
 use Rattle.recode.specs.TokenCopies.{walking_start, walking_next, walking_end}

@@ -1,4 +1,4 @@
-use Rattle.numbers.specs.Words.{◌-◌, arith, refl}
+use Rattle.numbers.specs.Words.{arith, refl}
 use Rattle.recode.specs.WalkCopies.{walking_start, walking_next, walking_end, pick_eight, blocks_most, some_wide}
 use Rattle.recode.proofs.walk.walk.Goals as goal
 
@@ -28,12 +28,6 @@ offset_bounds-readers-p-in-loop-k c = omega (arith, pick_eight _ _ c.pick-p.ensu
 
 pub bounds-readers-p-in-loop-k : goal.bounds-readers-p-in-loop-k
 bounds-readers-p-in-loop-k c = omega (arith, pick_eight _ _ c.pick-p.ensures c.requires.width_bound.2)
-
-pub overflow_add-k : goal.overflow_add-k
-overflow_add-k c = omega (arith, c.loop-k-test.true, blocks_most c.args.tile.width c.args.tile.height c.requires.width_bound.0 c.requires.width_bound.1)
-
-pub loop-k-smaller : goal.loop-k-smaller
-loop-k-smaller c = omega (arith, c.loop-k-test.true)
 
 pub loop-k-preserved : goal.loop-k-preserved
 loop-k-preserved c = walking_next c.loop-k.invariant c.loop-k-test.true c.part-first.ensures c.pick-p.ensures refl c.token.ensures c.turn-m.ensures c.turn-m.auto.columns c.turn-m.auto.out
