@@ -24,17 +24,11 @@ pub struct Bit {
     pub next: Wide,
 }
 
-fn widest(x: u8) -> u64
-    ensures { (result ≡ x) × (result < 256) }
-{
-    x as u64
-}
-
 // The byte at a place; past the end it is zero.
 fn byte(s: &[u8], i: usize) -> u64
     ensures { (result ≡ slice_index s.now i) × (result < 256) }
 {
-    widest(byte_or_zero(s, i))
+    u64::from(byte_or_zero(s, i))
 }
 
 // Four bytes as a number, the first the highest.
@@ -52,10 +46,10 @@ fn four(s: &[u8], at: usize) -> u64
     if at < s.len() {
         if 4 <= s.len() - at {
             return joined(
-                widest(s[at]),
-                widest(s[at + 1]),
-                widest(s[at + 2]),
-                widest(s[at + 3]),
+                u64::from(s[at]),
+                u64::from(s[at + 1]),
+                u64::from(s[at + 2]),
+                u64::from(s[at + 3]),
             );
         }
     }
@@ -69,7 +63,7 @@ fn four(s: &[u8], at: usize) -> u64
 fn low(top: u32, prob: u8) -> u32
     ensures { (result ≡ top * prob % 2 ^ 32 / 256) × (result ≤ top) × (result < 16777216) }
 {
-    (((top as u64 * prob as u64) % 4294967296) as u32) >> 8
+    ((u64::from(top) * u64::from(prob) % 4294967296) as u32) >> 8
 }
 
 // The eight bits that decide a symbol.
@@ -84,10 +78,7 @@ fn taken(x: u32, on: bool) -> u64
     requires { on ≡ true → x < 255 }
     ensures { result ≡ taken_off x on }
 {
-    if on {
-        return (x as u64 + 1) << 56;
-    }
-    0
+    if on { (u64::from(x) + 1) << 56 } else { 0 }
 }
 
 // The part of the range that it chooses.
@@ -95,10 +86,7 @@ fn part_of(top: u32, x: u32, on: bool) -> u32
     requires { (x ≤ top) × (x < 16777216) }
     ensures { result ≡ range_of top x on }
 {
-    if on {
-        return top - x;
-    }
-    x + 1
+    if on { top - x } else { x + 1 }
 }
 
 // The doublings that a range of eight bits needs: its leading zeros of 32 bits, 24 to 31, without the bits of 24. So it is one step behind
@@ -126,7 +114,7 @@ fn lifted(w: Wide, value: u64, range: u32) -> Wide
 fn odd(top: u32, on: bool) -> u32
     ensures { result ≡ odd_of top on }
 {
-    wrapping_sub_u32(top, on as u32) / 2 * 2 + 1
+    wrapping_sub_u32(top, u32::from(on)) / 2 * 2 + 1
 }
 
 // One doubling.
@@ -136,7 +124,7 @@ fn doubled(w: Wide, value: u64, top: u32) -> Wide
     Wide {
         at: w.at,
         value: value << 1,
-        top: top,
+        top,
         count: wrapping_sub_u32(w.count, 1),
     }
 }
@@ -185,7 +173,7 @@ impl Wide {
         let x = low(top, prob);
         let on = x < high(self.value);
         Bit {
-            on: on,
+            on,
             next: lifted(self, self.value - taken(x, on), part_of(top, x, on)),
         }
     }
@@ -199,7 +187,7 @@ impl Wide {
         let on = x < high(self.value);
         let value = self.value - taken(x, on);
         Bit {
-            on: on,
+            on,
             next: doubled(self, value, odd(top, on)),
         }
     }
@@ -211,7 +199,7 @@ pub fn widen(r: Reader) -> Wide
 {
     Wide {
         at: r.at,
-        value: (r.window as u64) << 48,
+        value: u64::from(r.window) << 48,
         top: wrapping_sub_u32(r.range, 1),
         count: 16 - r.shifts % 8,
     }
@@ -255,7 +243,7 @@ pub fn narrow(s: &[u8], w: Wide) -> Reader
     Reader {
         at: wrapping_sub_usize(wrapping_add_usize(w.at, 2), back(count)),
         range: w.top % 256 + 1,
-        shifts: shifts,
+        shifts,
         window: floored(sixteen(full.value), shifts),
     }
 }
