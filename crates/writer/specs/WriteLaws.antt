@@ -1,5 +1,5 @@
 -- Lists of symbols written: one list after another, and that what is written only grows, by a byte a symbol at most.
-use Rattle.std.specs.Prelude.{◌+◌, ◌-◌, ◌*◌, ◌≤◌, ◌<◌, ◌≡◌, ◌≢◌, ◌∷◌, ◌++◌}
+use Rattle.std.specs.Prelude.{◌+◌, ◌*◌, ◌≤◌, ◌<◌, ◌≡◌, ◌≢◌, ◌∷◌, ◌++◌}
 use Rattle.numbers.specs.Words.{ℕ, zero, suc, arith, refl, ◌∙◌, ap, ⊎_elim, leb, lt_or, eq_or, eq-eqb, le-ltb, lt-ltb, ne_eqb, List, [], length, length-append}
 use Rattle.reader.specs.Reading.{split_of, CodedSymbol}
 use Rattle.reader.specs.ReadingLaws.{Each, Byte}

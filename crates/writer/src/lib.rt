@@ -23,15 +23,13 @@ fn add_one(out: &mut [u8], n: usize)
     requires { n ≤ length out.old }
     ensures { out.new ≡ add_one_of n out.old }
 {
-    let mut i = n;
-    while 0 < i {
-        let b = out[i - 1];
+    for i in (0..n).rev() {
+        let b = out[i];
         if b != 255 {
-            out[i - 1] = b + 1;
+            out[i] = b + 1;
             return;
         }
-        out[i - 1] = 0;
-        i = i - 1;
+        out[i] = 0;
     }
 }
 
@@ -39,13 +37,9 @@ fn add_one(out: &mut [u8], n: usize)
 fn carry(out: &mut [u8], n: usize, on: bool)
     ensures { out.new ≡ carried_in on n out.old }
 {
-    if !on {
-        return;
+    if on && n <= out.len() {
+        add_one(out, n);
     }
-    if out.len() < n {
-        return;
-    }
-    add_one(out, n);
 }
 
 // The lowest byte of v at a place of the room.
@@ -70,7 +64,7 @@ fn split(range: u32, prob: u8) -> u32
     ensures { (result ≡ split_in range prob) × (result < 2 ^ 32) }
 {
     let top = wrapping_sub_u32(range, 1);
-    1 + (((top as u64 * prob as u64 % 4294967296) as u32) >> 8)
+    1 + (((u64::from(top) * u64::from(prob) % 4294967296) as u32) >> 8)
 }
 
 // How often a range of eight bits is doubled until it is at least 128, as `wide` counts it.
@@ -92,7 +86,7 @@ fn moved(bottom: u32, k: u32) -> u64
     requires { k < 64 }
     ensures { (result ≡ bottom * 2 ^ k % 2 ^ 64) × (result < 2 ^ 64) }
 {
-    (bottom as u64) << k
+    u64::from(bottom) << k
 }
 
 // The shifts of a symbol where a byte is due: it leaves the top of `high`.
@@ -100,15 +94,14 @@ fn loud(w: Writer, range: u32, high: u64, k: u32, out: &mut [u8]) -> Writer
     requires { (w.count ≤ k) × (k < 64) × (high < 2 ^ 64) }
     ensures { written_of result out.new ≡ loud_in w out.old range high k }
 {
-    let at = w.at;
     let over = k - w.count;
     let s = (24 + over) % 64;
     let due = high >> s;
-    byte_out(out, at, due);
+    byte_out(out, w.at, due);
     let rest = high - (due << s);
     Writer {
-        at: wrapping_add_usize(at, 1),
-        range: range,
+        at: wrapping_add_usize(w.at, 1),
+        range,
         bottom: (rest % 4294967296) as u32,
         count: wrapping_sub_u32(8, over),
     }
@@ -151,7 +144,7 @@ fn lifted(bottom: u32, count: u32) -> u32
 fn fine(w: Writer) -> bool
     ensures { result ≡ writer_fine w }
 {
-    ((w.at < 9223372036854775808) & (w.bottom as u64 + w.range as u64 <= 4294967296))
+    ((w.at < 9223372036854775808) & (u64::from(w.bottom) + u64::from(w.range) <= 4294967296))
         & (((128 <= w.range) & (w.range < 256)) & ((1 <= w.count) & (w.count <= 24)))
 }
 
@@ -161,9 +154,12 @@ fn finish(w: Writer, out: &mut [u8]) -> usize
     requires count_bound { w.count ≤ 24 }
     ensures { (result ≡ w.at + 4) × (out.new ≡ flush_in w out.old) }
 {
-    let at = w.at;
-    let bottom = w.bottom;
-    let count = w.count;
+    let Writer {
+        at,
+        bottom,
+        count,
+        ..
+    } = w;
     carry(out, at, power(32 - count) <= bottom);
     let v = lifted(bottom, count);
     put(out, at, v / 16777216);

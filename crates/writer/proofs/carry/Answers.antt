@@ -1,12 +1,9 @@
-use Rattle.numbers.specs.Words.{not-false, not-true}
+use Rattle.numbers.specs.Words.{⊎_elim}
 use Rattle.writer.specs.RoomLaws.{add_one_past}
 use Rattle.writer.proofs.carry.Goals as goal
 
-pub returns-then-not-on : goal.returns-then-not-on
-returns-then-not-on c = rw (not-true c.args.on c.if-not-on.true-raw)
+pub returns-then-n-out : goal.returns-then-n-out
+returns-then-n-out c = rw c.if-on.true c.add_one.ensures
 
-pub returns-then-out-n : goal.returns-then-out-n
-returns-then-out-n c = rw (not-false c.args.on c.if-not-on.false-raw) (add_one_past _ _ c.if-out-n.true)
-
-pub returns : goal.returns
-returns c = rw (not-false c.args.on c.if-not-on.false-raw) c.add_one.ensures
+pub returns-else-on : goal.returns-else-on
+returns-else-on c = ⊎_elim (λ a. rw a.0 (add_one_past _ _ a.1)) (λ a. rw a) c.else-on.either
