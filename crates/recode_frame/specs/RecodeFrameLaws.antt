@@ -11,7 +11,6 @@ use Rattle.recode.specs.declared.tokens.TokensRecoded.{TokensRecoded}
 use Rattle.recode.specs.Recode.{one_partition, tokens_of, TokensEnded, tokens_ended}
 use Rattle.recode.specs.PassLaws.{picture_whole, picture_below, partition_most, TokensAt, refused, full, there, tokens_at}
 use Rattle.frame.specs.declared.take.Taken.{Taken}
-use Rattle.frame.specs.Header.{header}
 use Rattle.frame.specs.Tag.{three_at, tag_of}
 use Rattle.frame.specs.Take.{taken_of}
 use Rattle.frame.specs.PassesLaws.{taken_is_fine, taken_read}

@@ -8,7 +8,6 @@ ghost use Rattle.recode_frame.specs.HeaderCopies.{Copied, Swapped, no_bit};
 
 use crate::bits::{copy_bits, copy_byte, copy_signed};
 use frame::tables::updates;
-use header::entries::PROBABILITY_COUNT;
 use recode::pipe::{Pipe, ask};
 
 // A bit read, and a 0 written in its place.
@@ -53,10 +52,8 @@ fn copy_probs(s: &[u8], p: Pipe, out: &mut [u8]) -> Pipe
 {
     let chances = updates();
     let mut next = p;
-    let mut i = 0;
-    while i < PROBABILITY_COUNT {
-        next = copy_byte(s, next, out, chances[i]);
-        i = i + 1;
+    for chance in &chances {
+        next = copy_byte(s, next, out, *chance);
     }
     next
 }

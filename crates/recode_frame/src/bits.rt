@@ -10,11 +10,9 @@ pub(crate) fn copy_bits(s: &[u8], p: Pipe, out: &mut [u8], n: usize) -> Pipe
     ensures { Copied (literal n) s.now p out.old result out.new }
 {
     let mut next = p;
-    let mut i = 0;
-    while i < n {
+    for _i in 0..n {
         let a = ask(s, next, out, 128);
         next = a.next;
-        i = i + 1;
     }
     next
 }

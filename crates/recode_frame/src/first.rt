@@ -42,8 +42,7 @@ fn copy_all(s: &[u8], p: Pipe, out: &mut [u8], a: Announced, wide: usize, blocks
     let mut tops = [[0u8; 4]; 1024];
     let mut left = [0u8; 4];
     let mut next = p;
-    let mut k: usize = 0;
-    while k < blocks {
+    for k in 0..blocks {
         let column = k % wide;
         let top = tops[column];
         let aside = beside(column, left);
@@ -52,7 +51,6 @@ fn copy_all(s: &[u8], p: Pipe, out: &mut [u8], a: Announced, wide: usize, blocks
         tops[column] = bottom(&modes);
         left = right(&modes);
         next = m.next;
-        k = k + 1;
     }
     next
 }

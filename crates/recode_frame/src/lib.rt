@@ -35,10 +35,7 @@ const LARGEST: usize = 524287;
 fn refused(number: u32) -> FrameRecoded
     ensures { result ≡ no_frame number }
 {
-    FrameRecoded {
-        number: number,
-        len: 0,
-    }
+    FrameRecoded { number, len: 0 }
 }
 
 // How many bytes the new first partition has.

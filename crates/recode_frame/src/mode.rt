@@ -68,7 +68,7 @@ fn copy_small(s: &[u8], p: Pipe, out: &mut [u8], all: &[u8], up: u8, by: u8) -> 
     requires all_value { all.now ≡ renumbered_table }
     ensures { Copies same (block_mode_of up by) s.now p out.old result.leaf result.next out.new × (result.leaf < 10) }
 {
-    let at = (up as usize * 10 + by as usize) * 9;
+    let at = (usize::from(up) * 10 + usize::from(by)) * 9;
     let end = at + 9;
     copy_tree(s, p, out, &all[at..end], &SMALL)
 }
@@ -82,19 +82,14 @@ fn copy_sixteen(s: &[u8], p: Pipe, out: &mut [u8], top: &[u8; 4], left: &[u8; 4]
     let all = all_probabilities();
     let mut modes = [0u8; 16];
     let mut next = p;
-    let mut i = 0;
-    while i < 16 {
+    for i in 0..16 {
         let up = above(top, &modes, i);
         let by = aside(left, &modes, i);
         let m = copy_small(s, next, out, &all, up, by);
         modes[i] = m.leaf;
         next = m.next;
-        i = i + 1;
     }
-    ModesCopied {
-        modes: modes,
-        next: next,
-    }
+    ModesCopied { modes, next }
 }
 
 // Small modes, or a large one for all.
@@ -117,7 +112,7 @@ fn copy_luma(
     let next = m.next;
     ModesCopied {
         modes: [m.leaf; 16],
-        next: next,
+        next,
     }
 }
 
@@ -140,9 +135,8 @@ pub(crate) fn copy_modes(
     let luma = copy_luma(s, large.next, out, large.bit, top, left);
     let chroma = copy_tree(s, luma.next, out, &[142u8, 114, 183], &CHROMA);
     let modes = luma.modes;
-    let next = chroma.next;
     ModesCopied {
-        modes: modes,
-        next: next,
+        modes,
+        next: chroma.next,
     }
 }

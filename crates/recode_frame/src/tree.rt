@@ -39,13 +39,14 @@ pub(crate) fn copy_tree(s: &[u8], p: Pipe, out: &mut [u8], probs: &[u8], leads: 
     let n = probs.len();
     let mut next = p;
     let mut i = 0;
+    // Stays a while: i goes down the tree, not by one.
     while i < n {
         let a = ask(s, next, out, probs[i]);
-        i = leads[i + i + a.bit as usize] as usize;
+        i = usize::from(leads[i + i + usize::from(a.bit)]);
         next = a.next;
     }
     LeafCopied {
         leaf: (i - n) as u8,
-        next: next,
+        next,
     }
 }

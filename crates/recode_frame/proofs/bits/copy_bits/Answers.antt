@@ -1,4 +1,4 @@
-use Rattle.numbers.specs.Words.{◌-◌, arith}
+use Rattle.numbers.specs.Words.{arith}
 use Rattle.recode.specs.Copies.{ask_copies}
 use Rattle.recode.specs.TokenCopies.{taking_start}
 use Rattle.recode_frame.specs.HeaderCopies.{bits_next, bits_end}

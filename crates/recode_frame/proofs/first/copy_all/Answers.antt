@@ -1,4 +1,4 @@
-use Rattle.numbers.specs.Words.{◌-◌, ◌%◌, mod-lt, arith, refl, sym, subst}
+use Rattle.numbers.specs.Words.{◌%◌, mod-lt, arith, refl, sym, subst}
 use Rattle.modes.specs.Modes.{Modes}
 use Rattle.recode_frame.specs.ModeCopies.{march_start, march_next, march_end, left_modes}
 use Rattle.recode_frame.proofs.first.copy_all.Goals as goal

@@ -1,4 +1,4 @@
-use Rattle.numbers.specs.Words.{◌-◌, ◌<◌}
+use Rattle.numbers.specs.Words.{◌<◌}
 use Rattle.modes.specs.ModesLaws.{above_mode, left_mode}
 use Rattle.recode_frame.specs.ModeCopies.{sixteen_start, sixteen_next, sixteen_end}
 use Rattle.recode_frame.proofs.mode.copy_sixteen.Goals as goal
