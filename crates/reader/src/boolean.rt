@@ -5,7 +5,7 @@ ghost use Rattle.reader.specs.Reading.{given, split_of, chosen_of, grow, decided
 use numbers::byte_or_zero;
 
 // The RFC's bool_decoder: `at` its input, `range`, `shifts` its bit_count, `window` its value.
-#[derive(Clone, Copy)]
+#[derive(Clone, Copy, Debug, PartialEq, Eq)]
 pub struct Reader {
     pub at: usize,
     pub range: u32,
@@ -123,25 +123,19 @@ fn part(r: Reader, x: u32, bit: bool) -> Reader
     ensures { result ≡ chosen_of r x bit }
 {
     if bit {
-        return Reader {
-            at: r.at,
+        Reader {
             range: r.range - x,
-            shifts: r.shifts,
             window: r.window - 256 * x,
-        };
-    }
-    Reader {
-        at: r.at,
-        range: x,
-        shifts: r.shifts,
-        window: r.window,
+            ..r
+        }
+    } else {
+        Reader { range: x, ..r }
     }
 }
 
 // Whether the window is a multiple of 2^shifts.
 fn whole(window: u32, shifts: u32) -> bool
-    requires { shifts < 8 }
-    ensures { result ≡ eqb (window % 2 ^ shifts) 0 }
+    ensures { shifts < 8 → result ≡ eqb (window % 2 ^ shifts) 0 }
 {
     shifts <= u32::trailing_zeros(window)
 }
@@ -150,25 +144,8 @@ fn whole(window: u32, shifts: u32) -> bool
 pub fn valid(s: &[u8], r: Reader) -> bool
     ensures { result ≡ valid_of s.now r }
 {
-    if r.at < 2 {
-        return false;
-    }
-    if s.len() + 2 < r.at {
-        return false;
-    }
-    if r.range < 128 {
-        return false;
-    }
-    if 256 <= r.range {
-        return false;
-    }
-    if 8 <= r.shifts {
-        return false;
-    }
-    if 65536 <= r.window {
-        return false;
-    }
-    whole(r.window, r.shifts)
+    ((2 <= r.at) & (r.at <= s.len() + 2) & (128 <= r.range) & (r.range < 256))
+        & ((r.shifts < 8) & (r.window < 65536) & whole(r.window, r.shifts))
 }
 
 // Opens a partition: two bytes in the window, zero past the end, and range 255.
@@ -190,15 +167,11 @@ impl Reader {
         requires { Valid s.now self }
         ensures { result ≡ to_read (symbol_of s.now self prob) }
     {
-        let range = self.range;
-        let window = self.window;
-        if s.len() < self.at {
-            if !decided(s, self) {
-                return Err(Unread::Missing);
-            }
+        if s.len() < self.at && !decided(s, self) {
+            return Err(Unread::Missing);
         }
-        let x = split(range, prob);
-        let bit = 256 * x <= window;
+        let x = split(self.range, prob);
+        let bit = 256 * x <= self.window;
         grown(s, bit, part(self, x, bit))
     }
 

@@ -1,8 +1,7 @@
 // A number of several bits, most significant first, each with its own probability: the extra bits of a coefficient's category
 // (RFC 6386, section 13.2), and literals, whose probabilities are all 128 (section 8).
-ghost use Rattle.std.specs.Prelude.{◌≡◌, ◌<◌, ◌≤◌, ◌+◌, length};
+ghost use Rattle.std.specs.Prelude.{◌≡◌, ◌≤◌, length};
 ghost use Rattle.reader.specs.Reading.{Valid, count};
-ghost use Rattle.numbers.specs.Flags.{bit_of};
 ghost use Rattle.reader.specs.Extra.{extra, extra_of, extra_answer};
 ghost use Rattle.reader.specs.Counts.{extra_count};
 

@@ -1,6 +1,6 @@
 // One token of a block (RFC 6386, section 13.2): the walk of coeff_tree.
-ghost use Rattle.std.specs.Prelude.{◌≡◌, ◌<◌, ◌+◌, leb, length};
-ghost use Rattle.reader.specs.Token.{token_start, token_answer};
+ghost use Rattle.std.specs.Prelude.{◌≡◌, ◌+◌, leb, length};
+ghost use Rattle.reader.specs.Token.{token_answer};
 ghost use Rattle.reader.specs.Counts.{token_count};
 
 use crate::boolean::{Counted, Reader, Unread, valid};
@@ -15,20 +15,7 @@ const TOKEN_TREE: [i16; 22] = [
 fn has_eleven(table: &[u8], at: usize) -> bool
     ensures { result ≡ leb (at + 11) (length table.now) }
 {
-    if table.len() < 11 {
-        return false;
-    }
-    if table.len() - 11 < at {
-        return false;
-    }
-    true
-}
-
-// A block never ends after a zero: there the walk starts at node 1.
-fn first_node(zero: bool) -> usize
-    ensures { (result ≡ token_start zero) × (result < 11) }
-{
-    if zero { 1 } else { 0 }
+    11 <= table.len() && at <= table.len() - 11
 }
 
 // One token, its eleven probabilities from `at` on in the table; after a zero (token 1) the block does not end. Refused where the reader
@@ -43,9 +30,9 @@ pub fn walk_token(s: &[u8], r: Reader, table: &[u8], at: usize, zero: bool) -> C
             reads: 0,
         };
     }
-    let end = at + 11;
-    let start = first_node(zero);
-    let t = walk(s, r, &table[at..end], &TOKEN_TREE, start);
+    // A block never ends after a zero: there the walk starts at node 1.
+    let start = usize::from(zero);
+    let t = walk(s, r, &table[at..at + 11], &TOKEN_TREE, start);
     let reads = t.reads;
     match t.answer {
         Ok((token, next)) => Counted {

@@ -7,7 +7,7 @@ ghost use Rattle.reader.specs.Counts.{tree_count};
 use crate::boolean::{Counted, Read, Reader, Unread, valid};
 
 // What an entry is. Public so that the laws on walks of a known tree can be stated of it elsewhere.
-#[derive(Clone, Copy)]
+#[derive(Clone, Copy, Debug, PartialEq, Eq)]
 pub enum Branch {
     Leaf(u16),
     Node(usize),
@@ -25,11 +25,12 @@ fn branch_at(tree: &[i16], k: usize) -> Branch
     requires { k < length tree.now }
     ensures { result ≡ branch_of (get_or tree.now k (pos 0)) }
 {
-    let e = tree[k] as i32;
+    let e = tree[k];
     if 0 < e {
-        return Branch::Node(e as usize);
+        Branch::Node(e as usize)
+    } else {
+        Branch::Leaf(e.unsigned_abs())
     }
-    Branch::Leaf((-e) as u16)
 }
 
 // One step down from node i.

@@ -1,24 +1,21 @@
-use Rattle.numbers.specs.Words.{arith, ◌∙◌}
-use Rattle.reader.specs.ReadingLaws.{valid_not, valid_even}
+-- `valid` meets its contract: the tests in the definition's order; the last one is the definition's where the shifts are few.
+use Rattle.numbers.specs.Words.{ℕ, ◌<◌, ◌≡◌, refl, Bool, true, false, ◌&&◌, ⊎_elim, lt_or, ltb, le-ltb}
+use Rattle.reader.specs.Reading.{valid_of}
 use Rattle.reader.proofs.boolean.valid.Goals as goal
 
-pub returns-then-r-lt2 : goal.returns-then-r-lt2
-returns-then-r-lt2 c = valid_not _ _ (λ v. omega (arith, v.placed))
+-- as the code groups the tests
+grouped : (a b c d e f g : Bool) → (a && b && c && d) && (e && f && g) ≡ (a && (b && (c && (d && (e && (f && g))))))
+grouped true true true true true b c = refl
+grouped true true true true false b c = refl
+grouped true true true false a b c = refl
+grouped true true false d a b c = refl
+grouped true false e d a b c = refl
+grouped false f e d a b c = refl
 
-pub returns-then-s-r : goal.returns-then-s-r
-returns-then-s-r c = valid_not _ _ (λ v. omega (arith, v.inside))
-
-pub returns-then-r-lt128 : goal.returns-then-r-lt128
-returns-then-r-lt128 c = valid_not _ _ (λ v. omega (arith, v.least))
-
-pub returns-then-r-ge256 : goal.returns-then-r-ge256
-returns-then-r-ge256 c = valid_not _ _ (λ v. omega (arith, v.most))
-
-pub returns-then-r-ge8 : goal.returns-then-r-ge8
-returns-then-r-ge8 c = valid_not _ _ (λ v. omega (arith, v.few))
-
-pub returns-then-r-ge65536 : goal.returns-then-r-ge65536
-returns-then-r-ge65536 c = valid_not _ _ (λ v. omega (arith, v.small))
+-- the last test counts only where the shifts are few
+few : (k : ℕ) (b x y : Bool) → (k < 8 → x ≡ y) → (ltb k 8 && (b && x)) ≡ (ltb k 8 && (b && y))
+few k b x y h = ⊎_elim (λ l. rw (h l)) (λ l. rw (le-ltb k 8 l)) (lt_or k 8)
 
 pub returns : goal.returns
-returns c = c.whole.ensures ∙ valid_even _ _ (omega arith) (omega arith) (omega arith) (omega arith) (omega arith) (omega arith)
+unfolding valid_of
+returns c = rw (grouped _ _ _ _ _ _ _, few _ _ _ _ c.whole.ensures)

@@ -32,4 +32,4 @@ zeros_at_end j n l =
     (lt_or (count_trailing_zeros 32 n) j)
 
 pub returns : goal.returns
-returns c = zeros_at_end c.args.shifts c.args.window c.requires
+returns c l = zeros_at_end c.args.shifts c.args.window l

@@ -1,5 +1,5 @@
 -- `walk_token` meets its contract: the tests are the definition's, and behind them coeff_tree is walked with the eleven of the table.
-use Rattle.numbers.specs.Words.{◌+◌, ◌≤◌, arith, ◌≡◌, refl, sym, ◌∙◌, false, both_left, both_right, leb-true, length}
+use Rattle.numbers.specs.Words.{◌+◌, ◌≤◌, arith, ◌≡◌, refl, sym, ◌∙◌, false, bit_small, both_left, both_right, leb-true, length}
 use Rattle.reader.specs.Reading.{count}
 use Rattle.reader.specs.ReadingLaws.{Valid, valid_fact, run_valid}
 use Rattle.reader.specs.Token.{token, token_of, eleven_at}
@@ -17,7 +17,7 @@ good c =
 
 -- what the walk says of the grammar
 is : (c : After-walk-t) → ((c.walk-t.result.answer ≡ token_of c.args.s.now (eleven_at c.args.table.now c.args.at) c.args.zero c.args.r) × (c.walk-t.result.reads ≡ count (token (eleven_at c.args.table.now c.args.at) c.args.zero) c.args.s.now c.args.r))
-is c = let a = c.args in token_walked a.s.now a.table.now a.at a.zero a.r refl c.first_node-start.ensures.0 c.walk-t.ensures
+is c = let a = c.args in token_walked a.s.now a.table.now a.at a.zero a.r refl c.from-start.ensures c.walk-t.ensures
 
 pub returns-then-not-valid-has_eleven : goal.returns-then-not-valid-has_eleven
 returns-then-not-valid-has_eleven c = token_refused _ _ _ _ _ c.valid.ensures c.has_eleven.ensures c.if-not-valid-has_eleven.true
@@ -28,7 +28,7 @@ walk-t-requires c =
     record {
       valid = g.0;
       tree = rw (eleven_part c.args.table.now c.args.at (c.args.at + 11) refl) (tree_fact _ _ 0 (eleven_tree c.args.table.now c.args.at false g.1));
-      i_bound = c.first_node-start.ensures.1;
+      i_bound = omega (arith, c.from-start.ensures, bit_small c.args.zero);
     }
 
 pub overflow_cast-result : goal.overflow_cast-result
