@@ -1,15 +1,5 @@
--- The tags of the answers that this crate's code takes apart, and the token of the last category.
-use Rattle.numbers.specs.Words.{ℕ, ◌+◌, ◌≤◌, arith, ◌≡◌, refl, ℤ}
-use Rattle.reader.specs.declared.boolean.Reader.{Reader}
-use Rattle.reader.specs.Reading.{missing}
-use Rattle.coefficients.specs.declared.block.Signed.{Signed}
-use Rattle.coefficients.specs.declared.block.Signed.TheVariants as G
-use Rattle.coefficients.specs.BlockSteps.{from_signed}
-
-pub not_signed : (x : Signed) → ((v : ℤ) (r : Reader) → x ≡ G.Value v r → ⊥) → from_signed x ≡ missing
-not_signed (G.Value v r) h = absurd (h v r refl)
-not_signed G.Missing h = refl
-not_signed G.Refused h = refl
+-- The token of the last category.
+use Rattle.numbers.specs.Words.{ℕ, ◌+◌, ◌≤◌, arith, ◌≡◌}
 
 -- a category's token that no arm of a `match` took is 11
 past : {t k : ℕ} → k ≤ t → (t ≡ k → ⊥) → k + 1 ≤ t

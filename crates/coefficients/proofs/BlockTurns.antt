@@ -1,18 +1,17 @@
 -- The turns of `read_block`'s loop, as laws on plain values: whatever is left to read from position n on gives and takes, the whole block gives,
 -- and takes with the symbols read so far.
-use Rattle.numbers.specs.Words.{ℕ, zero, suc, ◌+◌, ◌-◌, ◌*◌, ◌≤◌, ◌<◌, add-zero, zero-add, arith, ◌≡◌, refl, sym, ap, Bool, true, false, List, length, get_or, set, ℤ, round, there, w32, Ok}
+use Rattle.numbers.specs.Words.{ℕ, zero, suc, ◌+◌, ◌-◌, ◌*◌, ◌≤◌, ◌<◌, add-zero, zero-add, arith, ◌≡◌, refl, sym, ap, Bool, true, false, List, length, get_or, set, ℤ, round, there, w32, Ok, Err}
 use Rattle.reader.specs.declared.boolean.Reader.{Reader}
 use Rattle.reader.specs.Reading.{Given, given, missing, ReadOf, Reading, run, count}
 use Rattle.reader.specs.ReadingLaws.{Bytes, Valid, ReadTo, run_valid, count_within, from_read}
+use Rattle.reader.specs.declared.boolean.Unread.TheVariants as U
 use Rattle.reader.specs.Counts.{Took, token_count}
 use Rattle.reader.specs.CountsLaws.{took_as, token_took}
 use Rattle.reader.specs.Token.{token, token_answer}
 use Rattle.reader.specs.TokenLaws.{token_fits}
 use Rattle.coefficients.specs.BlockLaws.{SixteenBits, signed_within}
-use Rattle.coefficients.specs.BlockSteps.{from_signed, SignedRead, signed_took, block_none, block_missing, block_ends, block_zero, block_lost, block_number}
-use Rattle.coefficients.specs.Block.{Signed, signed_value, zigzag, probability_place, probabilities_at, quantizer_at, context_after, Coefficients, block_from, block, to_block_called}
-use Rattle.coefficients.specs.declared.block.Block.TheVariants as K
-use Rattle.coefficients.specs.declared.block.Signed.TheVariants as G
+use Rattle.coefficients.specs.BlockSteps.{SignedRead, signed_took, block_none, block_missing, block_ends, block_zero, block_lost, block_number}
+use Rattle.coefficients.specs.Block.{signed_value, zigzag, probability_place, probabilities_at, quantizer_at, context_after, Coefficients, block_from, block, to_block_called}
 
 -- `whole` from the reader r₀ is what is left of it after `reads` symbols: `more` positions from n on
 abbrev On : (s table : List ℕ) (kind q0 q1 : ℕ) (whole : Reading Coefficients) (r₀ : Reader) (more n ctx : ℕ) (z : Bool) (r : Reader) (values : List ℤ) (reads : ℕ) → Type 0
@@ -86,20 +85,20 @@ module _ {s table : List ℕ} {kind q0 q1 : ℕ} {whole : Reading Coefficients} 
         }
 
     -- the number after the token
-    module _ (a : 2 ≤ t) {i : ℕ} (f : i ≡ quantizer_at n q0 q1) {v : Signed} {m : ℕ} (p : SignedRead s t i q v m) where
-      follows : Took (signed_value t (quantizer_at n q0 q1)) s q (from_signed v) m
+    module _ (a : 2 ≤ t) {i : ℕ} (f : i ≡ quantizer_at n q0 q1) {v : ReadOf ℤ} {m : ℕ} (p : SignedRead s t i q v m) where
+      follows : Took (signed_value t (quantizer_at n q0 q1)) s q (from_read v) m
       follows = rw (← f) (signed_took s t i q p)
 
       pub number_short : m ≤ 12
       number_short = omega (arith, follows.took, count_within s q (signed_within t (quantizer_at n q0 q1) a (omega (arith, token_read.value))))
 
-      pub turn_lost : from_signed v ≡ missing → Took whole s r₀ missing (reads + k + m)
+      pub turn_lost : from_read v ≡ missing → Took whole s r₀ missing (reads + k + m)
       turn_lost o = took_as refl (omega arith) (c.on _ (k + m) (block_lost table kind q0 q1 s n ctx z values r c.left read a (took_as o refl follows)))
 
       -- the array keeps the number as the machine reads it back
-      pub turn_number : {d : ℤ} {q2 : Reader} → v ≡ G.Value d q2 → {near : ℕ} → (near ≡ context_after t) × (near < 3) → {w : ℕ} → w ≡ get_or zigzag n 0 → Going s table kind q0 q1 whole r₀ (n + 1) near false q2 (set values w (round w32 d)) (reads + k + m)
+      pub turn_number : {d : ℤ} {q2 : Reader} → v ≡ Ok (d, q2) → {near : ℕ} → (near ≡ context_after t) × (near < 3) → {w : ℕ} → w ≡ get_or zigzag n 0 → Going s table kind q0 q1 whole r₀ (n + 1) near false q2 (set values w (round w32 d)) (reads + k + m)
       turn_number {d} {q2} o g e =
-          let u : Took (signed_value t (quantizer_at n q0 q1)) s q (given d q2) m = took_as (ap from_signed o) refl follows in
+          let u : Took (signed_value t (quantizer_at n q0 q1)) s q (given d q2) m = took_as (ap from_read o) refl follows in
           let b : ReadTo SixteenBits s q d q2 = run_valid (signed_within t (quantizer_at n q0 q1) a (omega (arith, token_read.value))) c.bytes token_read.valid u.gave in
           record {
             more = c.left;
@@ -112,8 +111,8 @@ module _ {s table : List ℕ} {kind q0 q1 : ℕ} {whole : Reading Coefficients} 
 
 -- what the code returns, with the numbers behind it
 module _ (m : Reading Coefficients) (s : List ℕ) (r : Reader) (old : List ℤ) {k : ℕ} where
-  pub called_missing : {out : List ℤ} → out ≡ old → Took m s r missing k → (record { answer = K.Missing; out = out } ≡ to_block_called old (run m s r)) × (k ≡ count m s r)
+  pub called_missing : {out : List ℤ} → out ≡ old → Took m s r missing k → (record { answer = Err U.Missing; out = out } ≡ to_block_called old (run m s r)) × (k ≡ count m s r)
   called_missing e t = (rw (e, t.gave), t.took)
 
-  pub called_ended : {n : ℕ} {values : List ℤ} {q : Reader} → Took m s r (given (record { end = n; values = values }) q) k → (record { answer = K.Ended n q; out = values } ≡ to_block_called old (run m s r)) × (k ≡ count m s r)
+  pub called_ended : {n : ℕ} {values : List ℤ} {q : Reader} → Took m s r (given (record { end = n; values = values }) q) k → (record { answer = Ok (n, q); out = values } ≡ to_block_called old (run m s r)) × (k ≡ count m s r)
   called_ended t = (rw t.gave, t.took)

@@ -1,6 +1,6 @@
 -- The coefficients of a block (RFC 6386, sections 13, 3350-3370, 13.2, 13.3 and 14.1), as grammars over the tokens of `reader`.
 use Rattle.std.specs.Prelude.{◌+◌, ◌-◌, ◌*◌, ◌&&◌, ◌∷◌}
-use Rattle.numbers.specs.Words.{ℕ, zero, suc, Bool, true, false, eqb, ltb, leb, List, [], length, get_or, set, replicate, build, ℤ, pos, negsuc, neg_ℤ, le_z, In, wrap_z, Err}
+use Rattle.numbers.specs.Words.{ℕ, zero, suc, Bool, true, false, eqb, ltb, leb, List, [], length, get_or, set, replicate, build, ℤ, pos, negsuc, neg_ℤ, le_z, In, wrap_z, Ok, Err}
 use Rattle.reader.specs.declared.boolean.Reader.{Reader}
 use Rattle.reader.specs.Reading.{Given, given, missing, ReadOf, to_read, valid_of, Reading, done, symbol, run, ◌>>=◌, count}
 use Rattle.reader.specs.Extra.{extra}
@@ -8,10 +8,6 @@ use Rattle.header.specs.Header.{coefficient_probability, entry_count, probabilit
 use Rattle.reader.specs.Token.{token, eleven_at}
 use Rattle.reader.specs.declared.boolean.Unread.TheVariants as U
 use Rattle.numbers.specs.declared.Checked.TheVariants as H
-use Rattle.coefficients.specs.declared.block.Block.{Block}
-use Rattle.coefficients.specs.declared.block.Block.TheVariants as B
-pub use Rattle.coefficients.specs.declared.block.Signed.{Signed}
-use Rattle.coefficients.specs.declared.block.Signed.TheVariants as S
 pub use Rattle.coefficients.specs.declared.block.Table.{Table}
 
 -- ---- the number of a token (section 13.2, 3448-3494, DCTextra)
@@ -112,17 +108,13 @@ unfoldable pub header_table : List ℤ → List ℕ
 header_table h = build probability_count (λ i. probability_of (entry h (coefficient_probability + i)))
 
 -- ---- the calls' answers
-abbrev pub to_signed : Given ℤ → Signed
-to_signed (given v r) = S.Value v r
-to_signed missing = S.Missing
-
 -- a token's number, read from a partition
 unfoldable pub magnitude_of : List ℕ → ℕ → Reader → ReadOf ℕ
 magnitude_of s t r = to_read (run (magnitude t) s r)
 
 -- the same with its sign, times a quantizer
-unfoldable pub signed_of : List ℕ → ℕ → ℕ → Reader → Signed
-signed_of s t q r = to_signed (run (signed_value t q) s r)
+unfoldable pub signed_of : List ℕ → ℕ → ℕ → Reader → ReadOf ℤ
+signed_of s t q r = to_read (run (signed_value t q) s r)
 
 -- `number` and `dequant`: refused where the reader is out of range or the token outside 2..11
 abbrev pub numeric_of : ℕ → Bool
@@ -133,22 +125,22 @@ unfoldable pub number_answer : List ℕ → ℕ → Reader → ReadOf ℕ
 number_answer s t r = elim (valid_of s r && numeric_of t) [ true ↦ magnitude_of s t r | false ↦ Err U.Refused ]
 
 -- what `dequant` answers
-unfoldable pub signed_answer : List ℕ → ℕ → ℕ → Reader → Signed
-signed_answer s t q r = elim (valid_of s r && numeric_of t) [ true ↦ signed_of s t q r | false ↦ S.Refused ]
+unfoldable pub signed_answer : List ℕ → ℕ → ℕ → Reader → ReadOf ℤ
+signed_answer s t q r = elim (valid_of s r && numeric_of t) [ true ↦ signed_of s t q r | false ↦ Err U.Refused ]
 
 -- a block's call: the answer, and the sixteen numbers that were lent
 pub record BlockCalled : Type 0 where
-  pub answer : Block
+  pub answer : ReadOf ℕ
   pub out : List ℤ
 
 -- the numbers are written only where the block has ended
 abbrev pub to_block_called : List ℤ → Given Coefficients → BlockCalled
-to_block_called old (given x r) = record { answer = B.Ended x.end r; out = x.values }
-to_block_called old missing = record { answer = B.Missing; out = old }
+to_block_called old (given x r) = record { answer = Ok (x.end, r); out = x.values }
+to_block_called old missing = record { answer = Err U.Missing; out = old }
 
 -- a refusal: the lent numbers are as they were
 abbrev pub refused_block : List ℤ → BlockCalled
-refused_block old = record { answer = B.Refused; out = old }
+refused_block old = record { answer = Err U.Refused; out = old }
 
 -- each of the first n numbers lies in -32768..32767
 unfoldable pub sixteen_bits : List ℤ → ℕ → Bool
@@ -204,18 +196,6 @@ table_of h =
       | true ↦ record { answer = H.Done; bytes = header_table h }
       | false ↦ record { answer = H.Refused; bytes = replicate probability_count 0 }
     ]
-
--- ---- the answers' numbers: 7 where the tokens run out, 9 for a refusal
-abbrev pub block_number_of : Block → ℕ
-block_number_of (B.Ended n r) = 0
-block_number_of B.Missing = 7
-block_number_of B.Refused = 9
-
--- the number of `dequant`
-abbrev pub signed_number_of : Signed → ℕ
-signed_number_of (S.Value v r) = 0
-signed_number_of S.Missing = 7
-signed_number_of S.Refused = 9
 
 -- a number of 16 bits
 abbrev pub SixteenBits : ℤ → Type 0

@@ -1,8 +1,8 @@
 -- The laws of tokens and blocks that another crate cites.
-use Rattle.std.specs.Prelude.{◌+◌, ◌-◌, ◌*◌, ◌^◌, ◌≤◌, ◌<◌, ◌≡◌, ◌&&◌, ◌⊎◌}
-use Rattle.numbers.specs.Words.{ℕ, zero, suc, arith, refl, sym, ◌∙◌, ap, Bool, true, false, inl, inr, ⊎_elim, eqb, ltb, leb, lit<, lt_or, eq_or, not_first, both_left, both_right, both_true, eq-eqb, le-leb, le-ltb, leb-true, lt-ltb, ltb-true, ne_eqb, List, [], length, get_or, set, get_or-eq_default, length-set, length_build, get_or_build, all_of, all_below, all_of_any, all_below_lem, ℤ, pos, negsuc, Each, le_true, each_set, wrap_z, wrap_in}
+use Rattle.std.specs.Prelude.{◌+◌, ◌-◌, ◌*◌, ◌^◌, ◌≤◌, ◌<◌, ◌≡◌, ◌&&◌}
+use Rattle.numbers.specs.Words.{ℕ, zero, suc, arith, refl, sym, ◌∙◌, ap, Bool, true, false, inl, inr, ⊎_elim, eqb, ltb, leb, lit<, lt_or, eq_or, both_left, both_right, both_true, eq-eqb, le-leb, le-ltb, leb-true, lt-ltb, ltb-true, ne_eqb, List, [], length, get_or, set, get_or-eq_default, length-set, length_build, get_or_build, all_of, all_below, all_of_any, all_below_lem, ℤ, pos, negsuc, Each, le_true, each_set, wrap_z, wrap_in, Ok, Err}
 use Rattle.reader.specs.declared.boolean.Reader.{Reader}
-use Rattle.reader.specs.Reading.{Given, given, missing, valid_of, Reading, done, ask, symbol, ◌>>=◌, run, Within, ends, count}
+use Rattle.reader.specs.Reading.{Given, given, missing, ReadOf, valid_of, Reading, done, ask, symbol, ◌>>=◌, run, Within, ends, count}
 use Rattle.reader.specs.ReadingLaws.{Bytes, Valid, valid_test, within_symbol, within_bind, within_more}
 use Rattle.header.specs.Header.{coefficient_probability, entry_count, probability_count, entry, probability_of}
 use Rattle.header.specs.HeaderLaws.{probability_below}
@@ -12,11 +12,8 @@ use Rattle.reader.specs.CountsLaws.{costs_bind, extra_costs}
 use Rattle.reader.specs.ExtraLaws.{extra_within}
 use Rattle.reader.specs.Token.{token}
 use Rattle.reader.specs.TokenLaws.{eleven_at_lem, token_fits}
-use Rattle.coefficients.specs.BlockSteps.{from_signed, place_below, decode_passed, reads_passed, table_refused, table_done}
-use Rattle.coefficients.specs.Block.{Signed, Table, categories, bases, category, magnitude, sign_of, signed_value, zigzag, quantizer_at, context_after, header_table, probabilities_at, probability_place, Coefficients, block_from, block, BlockCalled, to_block_called, block_of, sixteen_bits, block_arguments, block_call_of, table_of, block_reads}
-use Rattle.coefficients.specs.declared.block.Block.{Block}
-use Rattle.coefficients.specs.declared.block.Block.TheVariants as K
-use Rattle.coefficients.specs.declared.block.Signed.TheVariants as G
+use Rattle.coefficients.specs.BlockSteps.{place_below, decode_passed, reads_passed, table_refused, table_done}
+use Rattle.coefficients.specs.Block.{Table, categories, bases, category, magnitude, sign_of, signed_value, zigzag, quantizer_at, context_after, header_table, probabilities_at, probability_place, Coefficients, block_from, block, BlockCalled, to_block_called, block_of, sixteen_bits, block_arguments, block_call_of, table_of, block_reads}
 use Rattle.numbers.specs.declared.Checked.TheVariants as H
 pub use Rattle.coefficients.specs.Block.{SixteenBits}
 
@@ -174,10 +171,9 @@ good_tests : {s : List ℕ} {r : Reader} {table : List ℕ} {kind ctx first : �
 good_tests {s} {r} {old} v g = both_true (valid_test s r v) (both_true (both_true (eq-eqb _ _ g.size) (both_true (lt-ltb _ _ g.kinds) (both_true (lt-ltb _ _ g.near) (le-leb _ _ g.start)))) (small_test old g.each 16))
 
 -- what an answer, with the numbers behind it, says of the grammar
-abbrev pub from_block : List ℤ → Block → Given Coefficients
-from_block l (K.Ended n r) = given (record { end = n; values = l }) r
-from_block l K.Missing = missing
-from_block l K.Refused = missing
+abbrev pub from_block : List ℤ → ReadOf ℕ → Given Coefficients
+from_block l (Ok x) = given (record { end = x.0; values = l }) x.1
+from_block l (Err u) = missing
 
 abbrev from_block_called : BlockCalled → Given Coefficients
 from_block_called c = from_block c.out c.answer
@@ -193,7 +189,7 @@ module _ (s : List ℕ) (r : Reader) (table : List ℕ) (kind ctx first q0 q1 : 
       decode_passed s r table kind ctx first q0 q1 old (good_tests v g)
 
   -- THE LAWS for callers of `decode`: what it gave, and how many symbols it read
-  pub decoded : Valid s r → Good table kind ctx first old → {x : Block} {l : List ℤ} → record { answer = x; out = l } ≡ block_call_of s r table kind ctx first q0 q1 old → run (block table kind q0 q1 ctx first old) s r ≡ from_block l x
+  pub decoded : Valid s r → Good table kind ctx first old → {x : ReadOf ℕ} {l : List ℤ} → record { answer = x; out = l } ≡ block_call_of s r table kind ctx first q0 q1 old → run (block table kind q0 q1 ctx first old) s r ≡ from_block l x
   unfolding block_of
   decoded v g e = from_called old (run (block table kind q0 q1 ctx first old) s r) ∙ ap from_block_called (sym (e ∙ sym (decode_good v g)))
 
@@ -231,14 +227,3 @@ module _ (h : List ℤ) {x : Table} (e : x ≡ table_of h) where
 
   pub table_not : x.answer ≡ H.Refused → length h ≡ entry_count → ⊥
   table_not f k = let g : x.answer ≡ H.Done = ap (λ (y : Table). y.answer) (e ∙ sym (table_done h k refl)) in let z : ◌≡◌ {A = ℕ} 0 1 = cc in omega arith
-
--- ---- for `let .. else`: every answer but the one taken apart says that a byte is missing
-pub not_signed : (tag : Signed → ℕ) → ((v : ℤ) (r : Reader) → tag (G.Value v r) ≡ 0) → (x : Signed) → (tag x ≡ 1) ⊎ (tag x ≡ 2) → from_signed x ≡ missing
-not_signed tag z (G.Value v r) e = absurd (not_first e (z v r))
-not_signed tag z G.Missing e = refl
-not_signed tag z G.Refused e = refl
-
-pub not_ended : (tag : Block → ℕ) → ((n : ℕ) (r : Reader) → tag (K.Ended n r) ≡ 0) → (l : List ℤ) (x : Block) → (tag x ≡ 1) ⊎ (tag x ≡ 2) → from_block l x ≡ missing
-not_ended tag z l (K.Ended n r) e = absurd (not_first e (z n r))
-not_ended tag z l K.Missing e = refl
-not_ended tag z l K.Refused e = refl

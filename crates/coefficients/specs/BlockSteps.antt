@@ -10,11 +10,9 @@ use Rattle.reader.specs.CountsLaws.{took_as, took_is, took_done, took_got, took_
 use Rattle.reader.specs.Extra.{extra}
 use Rattle.reader.specs.ReadingLaws.{from_read, from_read_lem}
 use Rattle.reader.specs.Token.{token}
+use Rattle.reader.specs.declared.boolean.Counted.{Counted}
 use Rattle.reader.specs.declared.boolean.Unread.TheVariants as U
-use Rattle.coefficients.specs.Block.{Signed, category, magnitude, sign_of, signed_value, bands, zigzag, quantizer_at, context_after, to_signed, magnitude_of, signed_of, numeric_of, number_answer, signed_answer, header_table, probabilities_at, probability_place, Coefficients, block_from, refused_block, block, block_of, sixteen_bits, block_arguments, block_call_of, block_by_header_of, table_of, block_reads, block_by_header_reads}
-use Rattle.coefficients.specs.declared.block.Block.TheVariants as B
-use Rattle.coefficients.specs.declared.block.BlockRead.{BlockRead}
-use Rattle.coefficients.specs.declared.block.Signed.TheVariants as G
+use Rattle.coefficients.specs.Block.{category, magnitude, sign_of, signed_value, bands, zigzag, quantizer_at, context_after, magnitude_of, signed_of, numeric_of, number_answer, signed_answer, header_table, probabilities_at, probability_place, Coefficients, block_from, refused_block, block, block_of, sixteen_bits, block_arguments, block_call_of, block_by_header_of, table_of, block_reads, block_by_header_reads}
 use Rattle.numbers.specs.declared.Checked.TheVariants as H
 
 -- ---- positions
@@ -54,16 +52,11 @@ module _ (s ps : List ℕ) (base : ℕ) (r : Reader) (x : ReadOf ℕ) {n : ℕ} 
   pub category_got : {v : ℕ} {q : Reader} → x ≡ Ok (v, q) → (Ok (base + v, q) ≡ to_read (run (category base ps) s r)) × (n ≡ count (category base ps) s r)
   category_got {v} {q} e = took_is to_read (took_ends (λ v. done (base + v)) (extra ps) (took_as (ap from_read e) refl b) (took_done (base + v) s q))
 
-abbrev pub from_signed : Signed → Given ℤ
-from_signed (G.Value v r) = given v r
-from_signed G.Missing = missing
-from_signed G.Refused = missing
-
 -- what is promised of a token's number, and of it with its sign, n symbols read
 abbrev pub Numbered : List ℕ → ℕ → Reader → ReadOf ℕ → ℕ → Type 0
 Numbered s t r x n = (x ≡ magnitude_of s t r) × (n ≡ count (magnitude t) s r)
 
-abbrev pub SignedRead : List ℕ → ℕ → ℕ → Reader → Signed → ℕ → Type 0
+abbrev pub SignedRead : List ℕ → ℕ → ℕ → Reader → ReadOf ℤ → ℕ → Type 0
 SignedRead s t q r x n = (x ≡ signed_of s t q r) × (n ≡ count (signed_value t q) s r)
 
 pub magnitude_few : (s : List ℕ) (t : ℕ) (r : Reader) → t < 6 → Numbered s t r (Ok (t - 1, r)) 0
@@ -81,29 +74,25 @@ module _ (s : List ℕ) (t q : ℕ) (r : Reader) {x : ReadOf ℕ} {n : ℕ} (p :
   unfolding magnitude_of
   number_took = record { gave = from_read_lem (run (magnitude t) s r) ∙ ap from_read (sym p.0); took = p.1 }
 
-  pub signed_lost : from_read x ≡ missing → SignedRead s t q r G.Missing n
+  pub signed_lost : from_read x ≡ missing → SignedRead s t q r (Err U.Missing) n
   unfolding signed_of signed_value
-  signed_lost e = took_is to_signed (took_stops _ (magnitude t) (took_as e refl number_took))
+  signed_lost e = took_is to_read (took_stops _ (magnitude t) (took_as e refl number_took))
 
   module _ {v : ℕ} {r2 : Reader} (e : x ≡ Ok (v, r2)) where
     got : Took (magnitude t) s r (given v r2) n
     got = took_as (ap from_read e) refl number_took
 
-    pub signed_missing : run (symbol 128) s r2 ≡ missing → SignedRead s t q r G.Missing n
+    pub signed_missing : run (symbol 128) s r2 ≡ missing → SignedRead s t q r (Err U.Missing) n
     unfolding signed_of signed_value
-    signed_missing f = took_is to_signed (took_ends _ (magnitude t) got (took_stops _ (symbol 128) (took_missing f)))
+    signed_missing f = took_is to_read (took_ends _ (magnitude t) got (took_stops _ (symbol 128) (took_missing f)))
 
-    pub signed_got : {b : Bool} {r3 : Reader} → run (symbol 128) s r2 ≡ given b r3 → {z : ℤ} → z ≡ wrap_z (sign_of b (v * q)) → SignedRead s t q r (G.Value z r3) (n + 1)
+    pub signed_got : {b : Bool} {r3 : Reader} → run (symbol 128) s r2 ≡ given b r3 → {z : ℤ} → z ≡ wrap_z (sign_of b (v * q)) → SignedRead s t q r (Ok (z, r3)) (n + 1)
     unfolding signed_of signed_value
-    signed_got {b} {r3} f g = rw g (took_is to_signed (took_then _ (magnitude t) got (took_ends _ (symbol 128) (took_got f) (took_done (wrap_z (sign_of b (v * q))) s r3))))
+    signed_got {b} {r3} f g = rw g (took_is to_read (took_then _ (magnitude t) got (took_ends _ (symbol 128) (took_got f) (took_done (wrap_z (sign_of b (v * q))) s r3))))
 
-pub signed_took : (s : List ℕ) (t q : ℕ) (r : Reader) {x : Signed} {n : ℕ} → SignedRead s t q r x n → Took (signed_value t q) s r (from_signed x) n
+pub signed_took : (s : List ℕ) (t q : ℕ) (r : Reader) {x : ReadOf ℤ} {n : ℕ} → SignedRead s t q r x n → Took (signed_value t q) s r (from_read x) n
 unfolding signed_of
-signed_took s t q r p = record { gave = from (run (signed_value t q) s r) ∙ ap from_signed (sym p.0); took = p.1 }
-  where
-    from : (g : Given ℤ) → g ≡ from_signed (to_signed g)
-    from (given v q) = refl
-    from missing = refl
+signed_took s t q r p = record { gave = from_read_lem (run (signed_value t q) s r) ∙ ap from_read (sym p.0); took = p.1 }
 
 -- ---- a block, one token at a time
 module _ (table : List ℕ) (kind q0 q1 : ℕ) (s : List ℕ) (n ctx : ℕ) (z : Bool) (values : List ℤ) (r : Reader) where
@@ -154,7 +143,7 @@ module _ (s : List ℕ) (t : ℕ) (r : Reader) where
   number_good e = rw (e, number_answer)
 
   module _ (q : ℕ) where
-    pub signed_refused : valid_of s r && numeric_of t ≡ false → G.Refused ≡ signed_answer s t q r
+    pub signed_refused : valid_of s r && numeric_of t ≡ false → Err U.Refused ≡ signed_answer s t q r
     unfolding signed_answer
     signed_refused e = rw (e, signed_answer)
 
@@ -174,7 +163,7 @@ arguments_fact table kind ctx first e =
 
 module _ (s : List ℕ) (r : Reader) (table : List ℕ) (kind ctx first q0 q1 : ℕ) (old : List ℤ) where
   -- what the call promises of its answer, with the numbers behind it
-  abbrev pub Decoded : BlockRead → List ℤ → Type 0
+  abbrev pub Decoded : Counted ℕ → List ℤ → Type 0
   Decoded a out = (record { answer = a.answer; out = out } ≡ block_call_of s r table kind ctx first q0 q1 old) × (a.reads ≡ block_reads s r table kind ctx first q0 q1 old)
 
   module _ (e : valid_of s r && (block_arguments table kind ctx first && sixteen_bits old 16) ≡ true) where
@@ -186,7 +175,7 @@ module _ (s : List ℕ) (r : Reader) (table : List ℕ) (kind ctx first q0 q1 : 
     unfolding block_reads
     reads_passed = rw (e, block_reads)
 
-    pub passed : {a : BlockRead} {out : List ℤ} → (record { answer = a.answer; out = out } ≡ block_of s r table kind ctx first q0 q1 old) × (a.reads ≡ count (block table kind q0 q1 ctx first old) s r) → Decoded a out
+    pub passed : {a : Counted ℕ} {out : List ℤ} → (record { answer = a.answer; out = out } ≡ block_of s r table kind ctx first q0 q1 old) × (a.reads ≡ count (block table kind q0 q1 ctx first old) s r) → Decoded a out
     passed p = (p.0 ∙ decode_passed, p.1 ∙ reads_passed)
 
   module _ (e : valid_of s r && (block_arguments table kind ctx first && sixteen_bits old 16) ≡ false) where
@@ -194,7 +183,7 @@ module _ (s : List ℕ) (r : Reader) (table : List ℕ) (kind ctx first q0 q1 : 
     unfolding block_call_of
     decode_refused = rw (e, block_call_of)
 
-    pub refused : Decoded (record { answer = B.Refused; reads = 0 }) old
+    pub refused : Decoded (record { answer = Err U.Refused; reads = 0 }) old
     unfolding block_reads
     refused = (decode_refused, rw (e, block_reads))
 
@@ -208,16 +197,16 @@ unfolding table_of
 table_done h e f = rw (f, eq-eqb _ _ e, table_of)
 
 module _ (s : List ℕ) (r : Reader) (h : List ℤ) (kind ctx first q0 q1 : ℕ) (old : List ℤ) where
-  abbrev pub HeaderDecoded : BlockRead → List ℤ → Type 0
+  abbrev pub HeaderDecoded : Counted ℕ → List ℤ → Type 0
   HeaderDecoded a out = (record { answer = a.answer; out = out } ≡ block_by_header_of s r h kind ctx first q0 q1 old) × (a.reads ≡ block_by_header_reads s r h kind ctx first q0 q1 old)
 
-  pub header_good : length h ≡ entry_count → {l : List ℕ} → l ≡ header_table h → {a : BlockRead} {out : List ℤ} → Decoded s r l kind ctx first q0 q1 old a out → HeaderDecoded a out
+  pub header_good : length h ≡ entry_count → {l : List ℕ} → l ≡ header_table h → {a : Counted ℕ} {out : List ℤ} → Decoded s r l kind ctx first q0 q1 old a out → HeaderDecoded a out
   unfolding block_by_header_of block_by_header_reads
   header_good e {l} f d =
       let p : block_call_of s r l kind ctx first q0 q1 old ≡ block_by_header_of s r h kind ctx first q0 q1 old = rw (f, eq-eqb _ _ e, block_by_header_of) in
       let q : block_reads s r l kind ctx first q0 q1 old ≡ block_by_header_reads s r h kind ctx first q0 q1 old = rw (f, eq-eqb _ _ e, block_by_header_reads) in
       (d.0 ∙ p, d.1 ∙ q)
 
-  pub header_refused : (length h ≡ entry_count → ⊥) → HeaderDecoded (record { answer = B.Refused; reads = 0 }) old
+  pub header_refused : (length h ≡ entry_count → ⊥) → HeaderDecoded (record { answer = Err U.Refused; reads = 0 }) old
   unfolding block_by_header_of block_by_header_reads
   header_refused f = (rw (ne_eqb _ _ f, block_by_header_of), rw (ne_eqb _ _ f, block_by_header_reads))

@@ -31,36 +31,6 @@ pub const CAT5: [u8; 5] = [180, 157, 141, 134, 130];
 
 pub const CAT6: [u8; 11] = [254, 254, 243, 230, 196, 177, 153, 140, 133, 130, 129];
 
-// A coefficient and the reader after it; Missing where a byte was; Refused where the reader or the token is out of range.
-#[derive(Clone, Copy)]
-pub enum Signed {
-    Value(i32, Reader),
-    Missing,
-    Refused,
-}
-
-// The answer, and how many symbols were read; where one is missing, those before it.
-#[derive(Clone, Copy)]
-struct SignedRead {
-    answer: Signed,
-    reads: u64,
-}
-
-// Where a block ended and the reader after it; Missing where a byte was; Refused where an argument is out of range.
-#[derive(Clone, Copy)]
-pub enum Block {
-    Ended(usize, Reader),
-    Missing,
-    Refused,
-}
-
-// The answer, and how many symbols were read; where one is missing, those before it.
-#[derive(Clone, Copy)]
-pub struct BlockRead {
-    pub answer: Block,
-    pub reads: u64,
-}
-
 // The 1056 probabilities of a header as bytes; zeros where it was refused.
 #[derive(Clone, Copy)]
 pub struct Table {
@@ -131,7 +101,7 @@ fn product(v: u32, q: u16, negative: bool) -> i32
     wrapped(if negative { -x } else { x })
 }
 
-fn read_signed(s: &[u8], r: Reader, token: u8, q: u16) -> SignedRead
+fn read_signed(s: &[u8], r: Reader, token: u8, q: u16) -> Counted<i32>
     requires valid { Valid s.now r }
     requires le_token { (2 ≤ token) × (token ≤ 11) }
     ensures { (result.answer ≡ signed_of s.now token q r) × (result.reads ≡ count (signed_value token q) s.now r) }
@@ -139,19 +109,19 @@ fn read_signed(s: &[u8], r: Reader, token: u8, q: u16) -> SignedRead
     let number = read_number(s, r, token);
     let reads = number.reads;
     let Ok((v, next)) = number.answer else {
-        return SignedRead {
-            answer: Signed::Missing,
+        return Counted {
+            answer: Err(Unread::Missing),
             reads,
         };
     };
     let Ok((negative, after)) = next.symbol(s, 128) else {
-        return SignedRead {
-            answer: Signed::Missing,
+        return Counted {
+            answer: Err(Unread::Missing),
             reads,
         };
     };
-    SignedRead {
-        answer: Signed::Value(product(v, q, negative), after),
+    Counted {
+        answer: Ok((product(v, q, negative), after)),
         reads: reads + 1,
     }
 }
@@ -201,7 +171,7 @@ fn read_block(
     q0: u16,
     q1: u16,
     out: &mut [i32; 16],
-) -> BlockRead
+) -> Counted<usize>
     requires valid { Valid s.now r }
     requires table_len { (length table.now ≡ probability_count) × ((kind < 4) × ((ctx < 3) × (first ≤ 1))) }
     ensures { (record { answer = result.answer; out = out.new }
@@ -217,15 +187,15 @@ fn read_block(
         let t = walk_token(s, next, table, place(&BANDS, kind, n, near), zero);
         reads += t.reads;
         let Ok((token, after)) = t.answer else {
-            return BlockRead {
-                answer: Block::Missing,
+            return Counted {
+                answer: Err(Unread::Missing),
                 reads,
             };
         };
         if token == 0 {
             *out = values;
-            return BlockRead {
-                answer: Block::Ended(n, after),
+            return Counted {
+                answer: Ok((n, after)),
                 reads,
             };
         }
@@ -235,11 +205,10 @@ fn read_block(
             next = after;
         } else {
             let number = read_signed(s, after, token, quantizer(n, q0, q1));
-            let signed = number.answer;
             reads += number.reads;
-            let Signed::Value(v, last) = signed else {
-                return BlockRead {
-                    answer: Block::Missing,
+            let Ok((v, last)) = number.answer else {
+                return Counted {
+                    answer: Err(Unread::Missing),
                     reads,
                 };
             };
@@ -249,8 +218,8 @@ fn read_block(
         }
     }
     *out = values;
-    BlockRead {
-        answer: Block::Ended(16, next),
+    Counted {
+        answer: Ok((16, next)),
         reads,
     }
 }
@@ -281,14 +250,13 @@ pub fn number(s: &[u8], r: Reader, token: u8) -> Read<u32>
 }
 
 // The coefficient of a token 2..11: magnitude, sign and quantizer.
-pub fn dequant(s: &[u8], r: Reader, token: u8, q: u16) -> Signed
+pub fn dequant(s: &[u8], r: Reader, token: u8, q: u16) -> Read<i32>
     ensures { result ≡ signed_answer s.now token q r }
 {
     if !(valid(s, r) & numeric(token)) {
-        return Signed::Refused;
+        return Err(Unread::Refused);
     }
-    let signed = read_signed(s, r, token, q);
-    signed.answer
+    read_signed(s, r, token, q).answer
 }
 
 fn arguments(table: &[u8], kind: usize, ctx: usize, first: usize) -> bool
@@ -308,14 +276,14 @@ pub fn decode(
     q0: u16,
     q1: u16,
     out: &mut [i32; 16],
-) -> BlockRead
+) -> Counted<usize>
     ensures { (record { answer = result.answer; out = out.new }
         ≡ block_call_of s.now r table.now kind ctx first q0 q1 out.old)
         × (result.reads ≡ block_reads s.now r table.now kind ctx first q0 q1 out.old) }
 {
     if !(valid(s, r) & (arguments(table, kind, ctx, first) & small(out))) {
-        return BlockRead {
-            answer: Block::Refused,
+        return Counted {
+            answer: Err(Unread::Refused),
             reads: 0,
         };
     }
@@ -353,16 +321,15 @@ pub fn decode_header(
     q0: u16,
     q1: u16,
     out: &mut [i32; 16],
-) -> BlockRead
+) -> Counted<usize>
     ensures { (record { answer = result.answer; out = out.new }
         ≡ block_by_header_of s.now r h.now kind ctx first q0 q1 out.old)
         × (result.reads ≡ block_by_header_reads s.now r h.now kind ctx first q0 q1 out.old) }
 {
     let t = probabilities(h);
-    let answer = t.answer;
-    let Checked::Done = answer else {
-        return BlockRead {
-            answer: Block::Refused,
+    let Checked::Done = t.answer else {
+        return Counted {
+            answer: Err(Unread::Refused),
             reads: 0,
         };
     };

@@ -1,6 +1,5 @@
 -- The careful way, on plain values: what a grammar gives and how many symbols it reads, one part after the other.
-use Rattle.numbers.specs.Words.{ℕ, zero, suc, ◌+◌, ◌*◌, ◌≤◌, ◌<◌, arith, ◌≡◌, refl, sym, ◌∙◌, ap, Bool, true, not, ◌⊎◌, List, set, Ok, Err}
-use denote.Enum.Declared.{tag_of}
+use Rattle.numbers.specs.Words.{ℕ, zero, suc, ◌+◌, ◌*◌, ◌≤◌, ◌<◌, arith, ◌≡◌, refl, sym, ◌∙◌, ap, true, not, List, set, Ok, Err}
 use Rattle.header.specs.declared.frame.Announced.{Announced}
 use Rattle.reader.specs.declared.boolean.Reader.{Reader}
 use Rattle.reader.specs.declared.boolean.Unread.{Unread}
@@ -8,13 +7,9 @@ use Rattle.reader.specs.Reading.{Given, given, missing, ReadOf, to_read, Reading
 use Rattle.reader.specs.ReadingLaws.{Bytes, Valid, ReadTo, run_valid, from_read, count_within}
 use Rattle.reader.specs.Counts.{Took}
 use Rattle.reader.specs.CountsLaws.{took_as, took_done, took_then, took_stops, took_ends}
-use Rattle.modes.specs.declared.answers.Mode.{Mode}
-use Rattle.modes.specs.declared.answers.Mode.TheVariants as M
-use Rattle.modes.specs.Modes.{Modes, segment, skip, prefix, large_mode_of, block_mode_of, mode_above_of, mode_left_of, small_from, zeros, small_modes_of, luma, modes_of, to_mode, Told}
+use Rattle.modes.specs.Modes.{Modes, segment, skip, prefix, large_mode_of, block_mode_of, mode_above_of, mode_left_of, small_from, zeros, small_modes_of, luma, modes_of, Told}
 use Rattle.modes.specs.ModesLaws.{block_within, set_modes, zeros_modes}
-use Rattle.modes.specs.AnswersLaws.{from_mode, moded, flagged}
-use Rattle.modes.proofs.Others.{not_mode}
-use Rattle.modes.specs.contracts.answers.Mode as mode-type
+use Rattle.modes.specs.AnswersLaws.{moded}
 
 -- ---- of what a call told, and to it
 module _ {A B : Type 0} (to : Given A → B) {k : ℕ} {m : Reading A} {s : List ℕ} {r : Reader} {n : ℕ} where
@@ -28,21 +23,13 @@ module _ {A B : Type 0} (to : Given A → B) {k : ℕ} {m : Reading A} {s : List
 pub told_as : {A B : Type 0} {P : A → Type 0} (to : Given A → B) {j k : ℕ} {m o : Reading A} (s : List ℕ) (r : Reader) {n : ℕ} {y : B} → m ≡ o → Within P k o → Told to j m s r y n → Told to k o s r y n
 told_as to {o} s r e w t = let f = t.1.0 ∙ ap (λ m. count m s r) e in (t.0 ∙ ap (λ m. to (run m s r)) e, (f, rw f (count_within s r w)))
 
--- a mode or a symbol that was taken apart
-module _ {k : ℕ} {s : List ℕ} {r : Reader} {n : ℕ} where
-  module _ {m : Reading ℕ} {x : Mode} (t : Told to_mode k m s r x n) where
-    pub mode_gave : {v : ℕ} {q : Reader} → x ≡ M.Read v q → Took m s r (given v q) n
-    mode_gave e = took_told to_mode t (moded (run m s r) t.0 ∙ ap from_mode e)
+-- an answer that was taken apart
+module _ {A : Type 0} {k : ℕ} {m : Reading A} {s : List ℕ} {r : Reader} {x : ReadOf A} {n : ℕ} (t : Told to_read k m s r x n) where
+  pub read_gave : {v : A} {q : Reader} → x ≡ Ok (v, q) → Took m s r (given v q) n
+  read_gave e = took_told to_read t (moded (run m s r) t.0 ∙ ap from_read e)
 
-    pub mode_missing : (tag_of mode-type.the_type x ≡ 1) ⊎ (tag_of mode-type.the_type x ≡ 2) → Took m s r missing n
-    mode_missing e = took_told to_mode t (moded (run m s r) t.0 ∙ not_mode x e)
-
-  module _ {m : Reading Bool} {x : ReadOf Bool} (t : Told to_read k m s r x n) where
-    pub symbol_gave : {b : Bool} {q : Reader} → x ≡ Ok (b, q) → Took m s r (given b q) n
-    symbol_gave e = took_told to_read t (flagged (run m s r) t.0 ∙ ap from_read e)
-
-    pub symbol_missing : {u : Unread} → x ≡ Err u → Took m s r missing n
-    symbol_missing e = took_told to_read t (flagged (run m s r) t.0 ∙ ap from_read e)
+  pub read_missing : {u : Unread} → x ≡ Err u → Took m s r missing n
+  read_missing e = took_told to_read t (moded (run m s r) t.0 ∙ ap from_read e)
 
 -- ---- one part after the other
 pub took_equal : {A : Type 0} {m o : Reading A} {s : List ℕ} {r : Reader} {x : Given A} {n : ℕ} → m ≡ o → Took m s r x n → Took o s r x n
@@ -96,16 +83,16 @@ going_start above left v = record { more = 16; sum = refl; rest = λ x n t. took
 
 module _ {s above left : List ℕ} {start : Reader} {i reads : ℕ} {r : Reader} {modes : List ℕ} (g : Going s above left start i reads r modes) where
   -- what the code's call told at block i, whose contexts u and b it worked out
-  module _ {u b n : ℕ} {x : Mode} (e : u ≡ mode_above_of above modes i) (f : b ≡ mode_left_of left modes i) (t : Told to_mode 7 (block_mode_of u b) s r x n) (l : i < 16) where
-    asked : Told to_mode 7 (block_mode_of (mode_above_of above modes i) (mode_left_of left modes i)) s r x n
+  module _ {u b n : ℕ} {x : ReadOf ℕ} (e : u ≡ mode_above_of above modes i) (f : b ≡ mode_left_of left modes i) (t : Told to_read 7 (block_mode_of u b) s r x n) (l : i < 16) where
+    asked : Told to_read 7 (block_mode_of (mode_above_of above modes i) (mode_left_of left modes i)) s r x n
     asked = rw (← e, ← f) t
 
-    pub going_next : Bytes s → {m : ℕ} {q : Reader} → x ≡ M.Read m q → Going s above left start (i + 1) (reads + n) q (set modes i m)
+    pub going_next : Bytes s → {m : ℕ} {q : Reader} → x ≡ Ok (m, q) → Going s above left start (i + 1) (reads + n) q (set modes i m)
     unfolding small_from
     going_next y {m} {q} k = go g.more g.sum g.rest
       where
         z : Took (block_mode_of (mode_above_of above modes i) (mode_left_of left modes i)) s r (given m q) n
-        z = mode_gave asked k
+        z = read_gave asked k
 
         d : ReadTo (λ v. v < 10) s r m q
         d = run_valid (block_within (mode_above_of above modes i) (mode_left_of left modes i)) y g.valid z.gave
@@ -122,13 +109,13 @@ module _ {s above left : List ℕ} {start : Reader} {i reads : ℕ} {r : Reader}
               each = set_modes modes i m d.value g.each;
             }
 
-    pub going_missing : (tag_of mode-type.the_type x ≡ 1) ⊎ (tag_of mode-type.the_type x ≡ 2) → Took (small_modes_of above left) s start missing (reads + n)
+    pub going_missing : {u : Unread} → x ≡ Err u → Took (small_modes_of above left) s start missing (reads + n)
     unfolding small_from
     going_missing k = go g.more g.sum g.rest
       where
         go : (k : ℕ) → i + k ≡ 16 → ((x : Given (List ℕ)) (n : ℕ) → Took (small_from k i above left modes) s r x n → Took (small_modes_of above left) s start x (reads + n)) → Took (small_modes_of above left) s start missing (reads + n)
         go zero p w = absurd (omega arith)
-        go (suc j) p w = w missing n (took_stops (λ m. small_from j (i + 1) above left (set modes i m)) (block_mode_of (mode_above_of above modes i) (mode_left_of left modes i)) (mode_missing asked k))
+        go (suc j) p w = w missing n (took_stops (λ m. small_from j (i + 1) above left (set modes i m)) (block_mode_of (mode_above_of above modes i) (mode_left_of left modes i)) (read_missing asked k))
 
   pub going_end : 16 ≤ i → Took (small_modes_of above left) s start (given modes r) reads
   unfolding small_from

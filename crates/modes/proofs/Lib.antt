@@ -1,4 +1,3 @@
-pub mod Others
 pub mod Careful
 pub mod Counted
 pub mod Steps

@@ -1,7 +1,7 @@
 -- A macroblock's modes: their grammars, what the calls answer, what neighbours see.
 use Rattle.std.specs.Prelude.{◌+◌, ◌-◌, ◌/◌, ◌%◌, ◌<◌, ◌∷◌, ◌≡◌, ◌&&◌, ◌≤◌}
-use Rattle.numbers.specs.Words.{ℕ, zero, suc, Bool, true, false, not, eqb, ltb, List, [], get_or, set, replicate, ℤ, length, all_of, bit_of}
-use Rattle.reader.specs.Reading.{Reading, done, ◌>>=◌, symbol, Given, given, missing, valid_of, run, count}
+use Rattle.numbers.specs.Words.{ℕ, zero, suc, Bool, true, false, not, eqb, ltb, List, [], get_or, set, replicate, ℤ, length, all_of, bit_of, Result, Ok, Err}
+use Rattle.reader.specs.Reading.{Reading, done, ◌>>=◌, symbol, Given, given, missing, ReadOf, to_read, valid_of, run, count}
 use Rattle.header.specs.declared.frame.Announced.{Announced}
 use Rattle.reader.specs.Trees.{node, leaf, walk}
 pub use Rattle.modes.specs.declared.answers.Prefix.{Prefix}
@@ -9,18 +9,10 @@ use Rattle.modes.specs.Table.{probabilities}
 use Rattle.header.specs.Header.{entry_count}
 use Rattle.header.specs.Frame.{announced_of}
 use Rattle.reader.specs.declared.boolean.Reader.{Reader}
+use Rattle.reader.specs.declared.boolean.Unread.{Unread}
+use Rattle.reader.specs.declared.boolean.Unread.TheVariants as U
 use Rattle.reader.specs.TreesLaws.{leaves_reached}
 pub use Rattle.modes.specs.declared.answers.Kinds.{Kinds}
-use Rattle.modes.specs.declared.answers.Mode.{Mode}
-use Rattle.modes.specs.declared.answers.Headed.{Headed}
-use Rattle.modes.specs.declared.answers.Next.{Next}
-use Rattle.modes.specs.declared.answers.Stage.{Stage}
-use Rattle.modes.specs.declared.answers.Sixteen.{Sixteen}
-use Rattle.modes.specs.declared.answers.Staged.{Staged}
-use Rattle.modes.specs.declared.answers.Mode.TheVariants as M
-use Rattle.modes.specs.declared.answers.Headed.TheVariants as H
-use Rattle.modes.specs.declared.answers.Next.TheVariants as N
-use Rattle.modes.specs.declared.answers.Stage.TheVariants as S
 pub use Rattle.modes.specs.declared.contexts.Context.{Context}
 
 -- ==== The modes of a macroblock as grammars, in the order of RFC 6386, section 19.3, 7239-7272. Large modes are 0 DC, 1 TM, 2 V, 3 H; small modes
@@ -141,20 +133,19 @@ right_of modes = get_or modes 3 0 ∷ get_or modes 7 0 ∷ get_or modes 11 0 ∷
 
 -- ==== What the calls answer: the grammars run over a reader, with the checks of the arguments; and the answers' numbers.
 
--- ---- a run as an answer. Where an array is lent, it holds `old` unless all is read.
-abbrev pub to_mode : Given ℕ → Mode
-to_mode (given v r) = M.Read v r
-to_mode missing = M.Missing
+-- ---- a run as an answer (`to_read`); where an array is lent, it holds `old` unless all is read
+pub record Sixteen : Type 0 where
+  pub answer : Result Reader Unread
+  pub modes : List ℕ
 
--- what is read before the modes
-abbrev pub to_headed : Given Prefix → Headed
-to_headed (given p r) = H.Read p r
-to_headed missing = H.Missing
+pub record Staged : Type 0 where
+  pub answer : ReadOf Kinds
+  pub modes : List ℕ
 
 -- the sixteen small modes
 abbrev pub to_sixteen : List ℕ → Given (List ℕ) → Sixteen
-to_sixteen old (given l r) = record { answer = N.At r; modes = l }
-to_sixteen old missing = record { answer = N.Missing; modes = old }
+to_sixteen old (given l r) = record { answer = Ok r; modes = l }
+to_sixteen old missing = record { answer = Err U.Missing; modes = old }
 
 -- all of a macroblock's modes but the sixteen
 abbrev pub kinds_of : Macroblock → Kinds
@@ -166,8 +157,8 @@ macroblock_of k modes = record { segment = k.segment; skip = k.skip; small = k.s
 
 -- all of a macroblock's modes
 abbrev pub to_staged : List ℕ → Given Macroblock → Staged
-to_staged old (given m r) = record { answer = S.Read (kinds_of m) r; modes = m.modes }
-to_staged old missing = record { answer = S.Missing; modes = old }
+to_staged old (given m r) = record { answer = Ok (kinds_of m, r); modes = m.modes }
+to_staged old missing = record { answer = Err U.Missing; modes = old }
 
 -- ---- the calls: refused where the reader, a header's length or a mode beside the macroblock is out of range
 abbrev pub each_below_of : ℕ → List ℕ → Bool
@@ -178,24 +169,24 @@ abbrev pub contexts_of : List ℕ → List ℕ → Bool
 contexts_of above left = each_below_of 10 above && each_below_of 10 left
 
 -- `prefix`
-unfoldable pub prefix_answer : List ℕ → Reader → List ℤ → Headed
-prefix_answer s r h = elim (eqb (length h) entry_count && valid_of s r) [ true ↦ to_headed (run (prefix (announced_of h)) s r) | false ↦ H.Refused ]
+unfoldable pub prefix_answer : List ℕ → Reader → List ℤ → ReadOf Prefix
+prefix_answer s r h = elim (eqb (length h) entry_count && valid_of s r) [ true ↦ to_read (run (prefix (announced_of h)) s r) | false ↦ Err U.Refused ]
 
 -- `main_mode`
-unfoldable pub main_answer : List ℕ → Reader → Bool → Mode
-main_answer s r chroma = elim (valid_of s r) [ true ↦ to_mode (run (large_mode_of chroma) s r) | false ↦ M.Refused ]
+unfoldable pub main_answer : List ℕ → Reader → Bool → ReadOf ℕ
+main_answer s r chroma = elim (valid_of s r) [ true ↦ to_read (run (large_mode_of chroma) s r) | false ↦ Err U.Refused ]
 
 -- `block_mode`
-unfoldable pub block_answer : List ℕ → Reader → ℕ → ℕ → Mode
+unfoldable pub block_answer : List ℕ → Reader → ℕ → ℕ → ReadOf ℕ
 block_answer s r above left =
-    elim (valid_of s r && (ltb above 10 && ltb left 10)) [ true ↦ to_mode (run (block_mode_of above left) s r) | false ↦ M.Refused ]
+    elim (valid_of s r && (ltb above 10 && ltb left 10)) [ true ↦ to_read (run (block_mode_of above left) s r) | false ↦ Err U.Refused ]
 
 -- `small_modes`
 unfoldable pub small_answer : List ℕ → Reader → List ℕ → List ℕ → List ℕ → Sixteen
 small_answer s r above left old =
     elim (valid_of s r && contexts_of above left) [
       | true ↦ to_sixteen old (run (small_modes_of above left) s r)
-      | false ↦ record { answer = N.Refused; modes = old }
+      | false ↦ record { answer = Err U.Refused; modes = old }
     ]
 
 -- `read_modes`
@@ -203,32 +194,14 @@ unfoldable pub modes_answer : List ℕ → Announced → Reader → List ℕ →
 modes_answer s a r above left old =
     elim (valid_of s r && contexts_of above left) [
       | true ↦ to_staged old (run (modes_of a above left) s r)
-      | false ↦ record { answer = S.Refused; modes = old }
+      | false ↦ record { answer = Err U.Refused; modes = old }
     ]
 
--- ---- the answers' numbers: 6 where a byte is missing, 9 where an argument is out of range
-abbrev pub mode_number_of : Mode → ℕ
-mode_number_of (M.Read v r) = 0
-mode_number_of M.Missing = 6
-mode_number_of M.Refused = 9
-
--- the number of `prefix`
-abbrev pub headed_number_of : Headed → ℕ
-headed_number_of (H.Read p r) = 0
-headed_number_of H.Missing = 6
-headed_number_of H.Refused = 9
-
--- the number of `small_modes`
-abbrev pub next_number_of : Next → ℕ
-next_number_of (N.At r) = 0
-next_number_of N.Missing = 6
-next_number_of N.Refused = 9
-
--- the number of `read_modes`
-abbrev pub stage_number_of : Stage → ℕ
-stage_number_of (S.Read k r) = 0
-stage_number_of S.Missing = 6
-stage_number_of S.Refused = 9
+-- ---- the number of `small_modes`: 6 where a byte is missing, 9 where an argument is out of range; `read_number_of 6` is the other calls'
+abbrev pub next_number_of : Result Reader Unread → ℕ
+next_number_of (Ok r) = 0
+next_number_of (Err U.Missing) = 6
+next_number_of (Err U.Refused) = 9
 
 -- every leaf fits a byte
 unfoldable pub byte_leaves : List ℤ → Bool

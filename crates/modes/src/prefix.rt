@@ -2,40 +2,40 @@
 ghost use Rattle.std.specs.Prelude.{◌≡◌};
 ghost use Rattle.header.specs.Frame.{Probabilities};
 ghost use Rattle.reader.specs.Reading.{to_read, Valid, symbol};
-ghost use Rattle.modes.specs.Modes.{segment, skip, prefix, to_mode, to_headed, prefix_answer, Told};
+ghost use Rattle.modes.specs.Modes.{segment, skip, prefix, prefix_answer, Told};
 
-use crate::answers::{Headed, Mode, ModeRead, Prefix, PrefixRead};
+use crate::answers::Prefix;
 use crate::large::{SEG_TREE, coded};
 use header::entries::ENTRY_COUNT;
 use header::frame::{Announced, announced_by};
-use reader::boolean::{Counted, Reader, valid};
+use reader::boolean::{Counted, Read, Reader, Unread, valid};
 
 // One symbol.
 fn ask(s: &[u8], r: Reader, prob: u8) -> Counted<bool>
     requires { Valid s.now r }
     ensures { Told to_read 1 (symbol prob) s.now r result.answer result.reads }
 {
-    match r.symbol(s, prob) {
-        Ok(read) => Counted {
-            answer: Ok(read),
-            reads: 1,
-        },
-        Err(why) => Counted {
-            answer: Err(why),
+    let Ok(read) = r.symbol(s, prob) else {
+        return Counted {
+            answer: Err(Unread::Missing),
             reads: 0,
-        },
+        };
+    };
+    Counted {
+        answer: Ok(read),
+        reads: 1,
     }
 }
 
 // The segment where the frame has a map, else 0.
-fn segment(s: &[u8], r: Reader, a: Announced) -> ModeRead
+fn segment(s: &[u8], r: Reader, a: Announced) -> Counted<u8>
     requires valid { Valid s.now r }
     requires probabilities { Probabilities a }
-    ensures { Told to_mode 2 (segment a) s.now r result.answer result.reads }
+    ensures { Told to_read 2 (segment a) s.now r result.answer result.reads }
 {
     if !a.map {
-        return ModeRead {
-            answer: Mode::Read(0, r),
+        return Counted {
+            answer: Ok((0, r)),
             reads: 0,
         };
     }
@@ -59,32 +59,31 @@ fn skip(s: &[u8], r: Reader, a: Announced) -> Counted<bool>
 }
 
 // What is announced, then the symbol that tells small modes from a large one.
-pub(crate) fn head(s: &[u8], r: Reader, a: Announced) -> PrefixRead
+pub(crate) fn head(s: &[u8], r: Reader, a: Announced) -> Counted<Prefix>
     requires valid { Valid s.now r }
     requires probabilities { Probabilities a }
-    ensures { Told to_headed 4 (prefix a) s.now r result.answer result.reads }
+    ensures { Told to_read 4 (prefix a) s.now r result.answer result.reads }
 {
     let c = segment(s, r, a);
-    let first = c.answer;
-    let Mode::Read(segment, t) = first else {
-        return PrefixRead {
-            answer: Headed::Missing,
+    let Ok((segment, t)) = c.answer else {
+        return Counted {
+            answer: Err(Unread::Missing),
             reads: c.reads,
         };
     };
     let k = skip(s, t, a);
     let two = c.reads + k.reads;
     let Ok((skip, u)) = k.answer else {
-        return PrefixRead {
-            answer: Headed::Missing,
+        return Counted {
+            answer: Err(Unread::Missing),
             reads: two,
         };
     };
     let l = ask(s, u, 145);
     let three = two + l.reads;
     let Ok((large, next)) = l.answer else {
-        return PrefixRead {
-            answer: Headed::Missing,
+        return Counted {
+            answer: Err(Unread::Missing),
             reads: three,
         };
     };
@@ -93,22 +92,21 @@ pub(crate) fn head(s: &[u8], r: Reader, a: Announced) -> PrefixRead
         skip,
         small: !large,
     };
-    PrefixRead {
-        answer: Headed::Read(p, next),
+    Counted {
+        answer: Ok((p, next)),
         reads: three,
     }
 }
 
 // The prefix of a macroblock, by the header's entries.
-pub fn prefix(s: &[u8], r: Reader, h: &[i32]) -> Headed
+pub fn prefix(s: &[u8], r: Reader, h: &[i32]) -> Read<Prefix>
     ensures { result ≡ prefix_answer s.now r h.now }
 {
     if h.len() != ENTRY_COUNT {
-        return Headed::Refused;
+        return Err(Unread::Refused);
     }
     if !valid(s, r) {
-        return Headed::Refused;
+        return Err(Unread::Refused);
     }
-    let q = head(s, r, announced_by(h));
-    q.answer
+    head(s, r, announced_by(h)).answer
 }

@@ -2,15 +2,14 @@
 // above it and left of it choose.
 ghost use Rattle.std.specs.Prelude.{◌≡◌, true, ◌<◌, ◌≤◌, ◌+◌, ◌*◌};
 ghost use Rattle.std.specs.List.{flat_map};
-ghost use Rattle.reader.specs.Reading.{Valid};
-ghost use Rattle.modes.specs.Modes.{Modes, block_mode_of, mode_above_of, mode_left_of, zeros, small_modes_of, to_mode, to_sixteen, contexts_of, block_answer, small_answer, Told};
+ghost use Rattle.reader.specs.Reading.{Valid, to_read};
+ghost use Rattle.modes.specs.Modes.{Modes, block_mode_of, mode_above_of, mode_left_of, small_modes_of, contexts_of, block_answer, small_answer, Told};
 ghost use Rattle.modes.specs.Table.{renumbered_table};
 
-use crate::answers::{LumaRead, Mode, ModeRead, Next};
 use crate::contexts::each_below;
 use crate::large::coded;
 use crate::table::BMODE;
-use reader::boolean::{Reader, valid};
+use reader::boolean::{Counted, Read, Reader, Unread, valid};
 
 // The tree of small modes.
 const B_TREE: [i16; 18] = [
@@ -43,11 +42,11 @@ pub fn all_probabilities() -> [u8; 900]
 }
 
 // The nine probabilities are lent from the table, not copied.
-fn block(s: &[u8], r: Reader, top: u8, left: u8, all: &[u8]) -> ModeRead
+fn block(s: &[u8], r: Reader, top: u8, left: u8, all: &[u8]) -> Counted<u8>
     requires valid { Valid s.now r }
     requires top_bound { (top < 10) × (left < 10) }
     requires all_value { all.now ≡ renumbered_table }
-    ensures { Told to_mode 7 (block_mode_of top left) s.now r result.answer result.reads }
+    ensures { Told to_read 7 (block_mode_of top left) s.now r result.answer result.reads }
 {
     let at = place(top, left);
     let end = at + 9;
@@ -55,21 +54,20 @@ fn block(s: &[u8], r: Reader, top: u8, left: u8, all: &[u8]) -> ModeRead
 }
 
 // A small mode, between the mode above it and the mode left of it.
-pub fn block_mode(s: &[u8], r: Reader, top: u8, left: u8) -> Mode
+pub fn block_mode(s: &[u8], r: Reader, top: u8, left: u8) -> Read<u8>
     ensures { result ≡ block_answer s.now r top left }
 {
     if !valid(s, r) {
-        return Mode::Refused;
+        return Err(Unread::Refused);
     }
     if 10 <= top {
-        return Mode::Refused;
+        return Err(Unread::Refused);
     }
     if 10 <= left {
-        return Mode::Refused;
+        return Err(Unread::Refused);
     }
     let all = all_probabilities();
-    let m = block(s, r, top, left, &all);
-    m.answer
+    block(s, r, top, left, &all).answer
 }
 
 // The mode above small block i, and the mode left of it.
@@ -93,12 +91,11 @@ pub(crate) fn mode_left(left: &[u8; 4], modes: &[u8; 16], i: usize) -> u8
     modes[i - 1]
 }
 
-// The sixteen small modes; zeros where a byte is missing.
-pub(crate) fn sixteen(s: &[u8], r: Reader, top: &[u8; 4], left: &[u8; 4]) -> LumaRead
+// The sixteen small modes.
+pub(crate) fn sixteen(s: &[u8], r: Reader, top: &[u8; 4], left: &[u8; 4]) -> Counted<[u8; 16]>
     requires valid { Valid s.now r }
     requires modes { Modes top.now × Modes left.now }
-    ensures { Told (to_sixteen zeros) 112 (small_modes_of top.now left.now) s.now r
-        (record { answer = result.answer; modes = result.modes }) result.reads }
+    ensures { Told to_read 112 (small_modes_of top.now left.now) s.now r result.answer result.reads }
 {
     let all = all_probabilities();
     let mut modes = [0u8; 16];
@@ -108,21 +105,18 @@ pub(crate) fn sixteen(s: &[u8], r: Reader, top: &[u8; 4], left: &[u8; 4]) -> Lum
         let up = mode_above(top, &modes, i);
         let by = mode_left(left, &modes, i);
         let c = block(s, t, up, by, &all);
-        reads = reads + c.reads;
-        let answer = c.answer;
-        let Mode::Read(m, next) = answer else {
-            return LumaRead {
-                answer: Next::Missing,
-                modes: [0u8; 16],
+        reads += c.reads;
+        let Ok((m, next)) = c.answer else {
+            return Counted {
+                answer: Err(Unread::Missing),
                 reads,
             };
         };
         modes[i] = m;
         t = next;
     }
-    LumaRead {
-        answer: Next::At(t),
-        modes,
+    Counted {
+        answer: Ok((modes, t)),
         reads,
     }
 }
@@ -135,22 +129,17 @@ pub(crate) fn contexts_fine(top: &[u8; 4], left: &[u8; 4]) -> bool
 }
 
 // The sixteen small modes of a macroblock into `modes`, which keeps what it held unless all are read.
-pub fn small_modes(s: &[u8], r: Reader, top: &[u8; 4], left: &[u8; 4], modes: &mut [u8; 16]) -> Next
+pub fn small_modes(s: &[u8], r: Reader, top: &[u8; 4], left: &[u8; 4], modes: &mut [u8; 16]) -> Result<Reader, Unread>
     ensures { record { answer = result; modes = modes.new }
         ≡ small_answer s.now r top.now left.now modes.old }
 {
     if !valid(s, r) {
-        return Next::Refused;
+        return Err(Unread::Refused);
     }
     if !contexts_fine(top, left) {
-        return Next::Refused;
+        return Err(Unread::Refused);
     }
-    let q = sixteen(s, r, top, left);
-    let answer = q.answer;
-    let Next::At(next) = answer else {
-        return Next::Missing;
-    };
-    let read = q.modes;
+    let (read, next) = sixteen(s, r, top, left).answer?;
     *modes = read;
-    Next::At(next)
+    Ok(next)
 }

@@ -1,42 +1,39 @@
 // All the modes of a macroblock, in the order of RFC 6386, section 19.3.
 ghost use Rattle.std.specs.Prelude.{◌≡◌};
 ghost use Rattle.header.specs.Frame.{Probabilities};
-ghost use Rattle.reader.specs.Reading.{Valid};
-ghost use Rattle.modes.specs.Modes.{Modes, zeros, luma, modes_of, to_sixteen, to_staged, modes_answer, Told, modes_reads};
+ghost use Rattle.reader.specs.Reading.{Valid, to_read};
+ghost use Rattle.modes.specs.Modes.{Modes, luma, modes_of, to_staged, modes_answer, Told, modes_reads};
 
-use crate::answers::{Headed, Kinds, LumaRead, Mode, ModesRead, Next, Stage};
+use crate::answers::Kinds;
 use crate::counts::modes_read;
 use crate::large::large_mode;
 use crate::prefix::head;
 use crate::quick::quick;
 use crate::small::{contexts_fine, sixteen};
 use header::frame::Announced;
-use reader::boolean::{Reader, valid};
+use reader::boolean::{Counted, Reader, Unread, valid};
 use wide::wide::{inside, narrow, widen};
 
 // The sixteen luma modes: small ones, or a large one sixteen times.
-fn luma(s: &[u8], r: Reader, small: bool, top: &[u8; 4], left: &[u8; 4]) -> LumaRead
+fn luma(s: &[u8], r: Reader, small: bool, top: &[u8; 4], left: &[u8; 4]) -> Counted<[u8; 16]>
     requires valid { Valid s.now r }
     requires modes { Modes top.now × Modes left.now }
-    ensures { Told (to_sixteen zeros) 112 (luma small top.now left.now) s.now r
-        (record { answer = result.answer; modes = result.modes }) result.reads }
+    ensures { Told to_read 112 (luma small top.now left.now) s.now r result.answer result.reads }
 {
     if small {
         return sixteen(s, r, top, left);
     }
     let c = large_mode(s, r, false);
-    let answer = c.answer;
-    let Mode::Read(m, next) = answer else {
-        return LumaRead {
-            answer: Next::Missing,
-            modes: [0u8; 16],
-            reads: c.reads,
+    let reads = c.reads;
+    let Ok((m, next)) = c.answer else {
+        return Counted {
+            answer: Err(Unread::Missing),
+            reads,
         };
     };
-    LumaRead {
-        answer: Next::At(next),
-        modes: [m; 16],
-        reads: c.reads,
+    Counted {
+        answer: Ok(([m; 16], next)),
+        reads,
     }
 }
 
@@ -48,7 +45,7 @@ fn stage(
     top: &[u8; 4],
     left: &[u8; 4],
     modes: &mut [u8; 16],
-) -> ModesRead
+) -> Counted<Kinds>
     requires valid { Valid s.now r }
     requires modes { Modes top.now × Modes left.now }
     requires probabilities { Probabilities a }
@@ -56,41 +53,38 @@ fn stage(
         (record { answer = result.answer; modes = modes.new }) result.reads }
 {
     let h = head(s, r, a);
-    let first = h.answer;
-    let Headed::Read(p, t) = first else {
-        return ModesRead {
-            answer: Stage::Missing,
+    let Ok((p, t)) = h.answer else {
+        return Counted {
+            answer: Err(Unread::Missing),
             reads: h.reads,
         };
     };
     let l = luma(s, t, p.small, top, left);
-    let second = l.answer;
     let two = h.reads + l.reads;
-    let Next::At(u) = second else {
-        return ModesRead {
-            answer: Stage::Missing,
+    let Ok(found) = l.answer else {
+        return Counted {
+            answer: Err(Unread::Missing),
             reads: two,
         };
     };
+    let (read, u) = found;
     let c = large_mode(s, u, true);
-    let third = c.answer;
     let three = two + c.reads;
-    let Mode::Read(chroma, next) = third else {
-        return ModesRead {
-            answer: Stage::Missing,
+    let Ok((chroma, next)) = c.answer else {
+        return Counted {
+            answer: Err(Unread::Missing),
             reads: three,
         };
     };
-    let read = l.modes;
     *modes = read;
     let kinds = Kinds {
         segment: p.segment,
         skip: p.skip,
         small: p.small,
-        chroma: chroma,
+        chroma,
     };
-    ModesRead {
-        answer: Stage::Read(kinds, next),
+    Counted {
+        answer: Ok((kinds, next)),
         reads: three,
     }
 }
@@ -104,20 +98,20 @@ pub fn read_modes(
     top: [u8; 4],
     left: [u8; 4],
     modes: &mut [u8; 16],
-) -> ModesRead
+) -> Counted<Kinds>
     ensures { (record { answer = result.answer; modes = modes.new }
         ≡ modes_answer s.now a r top left modes.old)
         × (result.reads ≡ modes_reads s.now a r top left) }
 {
     if !valid(s, r) {
-        return ModesRead {
-            answer: Stage::Refused,
+        return Counted {
+            answer: Err(Unread::Refused),
             reads: 0,
         };
     }
     if !contexts_fine(&top, &left) {
-        return ModesRead {
-            answer: Stage::Refused,
+        return Counted {
+            answer: Err(Unread::Refused),
             reads: 0,
         };
     }
@@ -127,8 +121,8 @@ pub fn read_modes(
     }
     *modes = read;
     let reads = modes_read(a, kinds, modes);
-    ModesRead {
-        answer: Stage::Read(kinds, narrow(s, w)),
+    Counted {
+        answer: Ok((kinds, narrow(s, w))),
         reads,
     }
 }

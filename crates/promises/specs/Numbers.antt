@@ -20,18 +20,13 @@ use Rattle.header.specs.declared.frame.Announced.{Announced}
 use Rattle.header.specs.declared.frame.Frame.{Frame}
 use Rattle.header.specs.declared.quantizers.Factors.{Factors}
 use Rattle.coefficients.specs.Block as Tokens
-use Rattle.coefficients.specs.Block.{magnitude, signed_value, block, header_table, numeric_of, number_answer, to_signed, signed_answer, signed_number_of, sixteen_bits, block_number_of, table_of}
-use Rattle.coefficients.specs.declared.block.Signed.TheVariants as Signed
+use Rattle.coefficients.specs.Block.{magnitude, signed_value, block, header_table, numeric_of, number_answer, signed_answer, sixteen_bits, table_of}
 use Rattle.transform.specs.Transform.{block_fits, samples_of, transform_of}
 use Rattle.filter.specs.Kernel.{filter_of, pixel_of, pixel_number_of}
 use Rattle.filter.specs.declared.answers.Pixel.TheVariants as Pixel
 use Rattle.filter.specs.Strengths.{strength_of_of, no_strength, strength_answer, strengths_number_of, strengths_values_of, strength_fine_of}
 use Rattle.filter.specs.declared.strengths.Strength.{Strength}
-use Rattle.modes.specs.Modes.{prefix, large_mode_of, block_mode_of, small_modes_of, Macroblock, modes_of, to_mode, to_headed, to_sixteen, to_staged, contexts_of, each_below_of, prefix_answer, main_answer, block_answer, small_answer, modes_answer, mode_number_of, headed_number_of, next_number_of, stage_number_of, empty_context, context_fine_of}
-use Rattle.modes.specs.declared.answers.Mode.TheVariants as Mode
-use Rattle.modes.specs.declared.answers.Headed.TheVariants as Headed
-use Rattle.modes.specs.declared.answers.Next.TheVariants as Next
-use Rattle.modes.specs.declared.answers.Stage.TheVariants as Stage
+use Rattle.modes.specs.Modes.{prefix, large_mode_of, block_mode_of, small_modes_of, Macroblock, modes_of, to_sixteen, to_staged, contexts_of, each_below_of, prefix_answer, main_answer, block_answer, small_answer, modes_answer, next_number_of, empty_context, context_fine_of}
 use Rattle.modes.specs.declared.answers.Kinds.{Kinds}
 use Rattle.modes.specs.declared.contexts.Context.{Context}
 use Rattle.residual.specs.Residual as Residual
@@ -153,15 +148,15 @@ pub record Numbers : Type 0 where
       → Answered 7 (valid_of s r && numeric_of token) (run (magnitude token) s r) (number_answer s token r) (read_number_of 7) to_read (Err Unread.Refused)
   -- coefficients::block::dequant
   pub dequant : (s : List ℕ) (token q : ℕ) (r : Reader)
-      → Answered 7 (valid_of s r && numeric_of token) (run (signed_value token q) s r) (signed_answer s token q r) signed_number_of to_signed Signed.Refused
+      → Answered 7 (valid_of s r && numeric_of token) (run (signed_value token q) s r) (signed_answer s token q r) (read_number_of 7) to_read (Err Unread.Refused)
   -- coefficients::block::decode
   pub block_decode : (s : List ℕ) (r : Reader) (table : List ℕ) (kind ctx first q0 q1 : ℕ) (old : List ℤ)
       → Answered 7 (valid_of s r && (Tokens.block_arguments table kind ctx first && sixteen_bits old 16)) (run (block table kind q0 q1 ctx first old) s r)
-      (Tokens.block_call_of s r table kind ctx first q0 q1 old) (λ c. block_number_of c.answer) (Tokens.to_block_called old) (Tokens.refused_block old)
+      (Tokens.block_call_of s r table kind ctx first q0 q1 old) (λ c. read_number_of 7 c.answer) (Tokens.to_block_called old) (Tokens.refused_block old)
   -- coefficients::block::decode_header
   pub block_decode_header : (s : List ℕ) (r : Reader) (h : List ℤ) (kind ctx first q0 q1 : ℕ) (old : List ℤ)
       → Answered 7 (eqb (length h) entry_count && (valid_of s r && (Tokens.block_arguments (header_table h) kind ctx first && sixteen_bits old 16))) (run (block (header_table h) kind q0 q1 ctx first old) s r)
-      (Tokens.block_by_header_of s r h kind ctx first q0 q1 old) (λ c. block_number_of c.answer) (Tokens.to_block_called old) (Tokens.refused_block old)
+      (Tokens.block_by_header_of s r h kind ctx first q0 q1 old) (λ c. read_number_of 7 c.answer) (Tokens.to_block_called old) (Tokens.refused_block old)
   -- coefficients::block::probabilities
   pub probabilities : (h : List ℤ) → RefusedOr 9 (eqb (length h) entry_count) (checked_number_of (table_of h).answer) (table_of h).bytes (replicate 1056 0) (header_table h)
   -- transform::transform: 8
@@ -175,19 +170,19 @@ pub record Numbers : Type 0 where
   -- ---- modes: a missing byte is 6
   -- modes::prefix::prefix
   pub modes_prefix : (s : List ℕ) (r : Reader) (h : List ℤ)
-      → Answered 6 (eqb (length h) entry_count && valid_of s r) (run (prefix (announced_of h)) s r) (prefix_answer s r h) headed_number_of to_headed Headed.Refused
+      → Answered 6 (eqb (length h) entry_count && valid_of s r) (run (prefix (announced_of h)) s r) (prefix_answer s r h) (read_number_of 6) to_read (Err Unread.Refused)
   -- modes::large::main_mode
   pub main_mode_lem : (s : List ℕ) (r : Reader) (chroma : Bool)
-      → Answered 6 (valid_of s r) (run (large_mode_of chroma) s r) (main_answer s r chroma) mode_number_of to_mode Mode.Refused
+      → Answered 6 (valid_of s r) (run (large_mode_of chroma) s r) (main_answer s r chroma) (read_number_of 6) to_read (Err Unread.Refused)
   -- modes::small::block_mode
   pub block_mode_lem : (s : List ℕ) (r : Reader) (top left : ℕ)
-      → Answered 6 (valid_of s r && (ltb top 10 && ltb left 10)) (run (block_mode_of top left) s r) (block_answer s r top left) mode_number_of to_mode Mode.Refused
+      → Answered 6 (valid_of s r && (ltb top 10 && ltb left 10)) (run (block_mode_of top left) s r) (block_answer s r top left) (read_number_of 6) to_read (Err Unread.Refused)
   -- modes::small::small_modes
   pub small_modes_lem : (s : List ℕ) (r : Reader) (top left old : List ℕ)
-      → Answered 6 (valid_of s r && contexts_of top left) (run (small_modes_of top left) s r) (small_answer s r top left old) (λ c. next_number_of c.answer) (to_sixteen old) (record { answer = Next.Refused; modes = old })
+      → Answered 6 (valid_of s r && contexts_of top left) (run (small_modes_of top left) s r) (small_answer s r top left old) (λ c. next_number_of c.answer) (to_sixteen old) (record { answer = Err Unread.Refused; modes = old })
   -- modes::whole::read_modes
   pub read_modes_lem : (s : List ℕ) (a : Announced) (r : Reader) (top left old : List ℕ)
-      → Answered 6 (valid_of s r && contexts_of top left) (run (modes_of a top left) s r) (modes_answer s a r top left old) (λ c. stage_number_of c.answer) (to_staged old) (record { answer = Stage.Refused; modes = old })
+      → Answered 6 (valid_of s r && contexts_of top left) (run (modes_of a top left) s r) (modes_answer s a r top left old) (λ c. read_number_of 6 c.answer) (to_staged old) (record { answer = Err Unread.Refused; modes = old })
   -- ---- residual: a missing byte is 7
   -- residual::decode
   pub residual_decode : (s : List ℕ) (r : Reader) (table : List ℕ) (f : Factors) (small skip : Bool) (top left : List ℕ) (old : List ℤ)

@@ -14,11 +14,11 @@ use Rattle.header.specs.declared.frame.Framed.{Framed}
 use Rattle.coefficients.specs.declared.block.Table.{Table}
 use Rattle.transform.specs.declared.Transformed.{Transformed}
 use Rattle.coefficients.specs.Block as Tokens
-use Rattle.coefficients.specs.Block.{magnitude, signed_value, block, header_table, magnitude_of, number_answer, signed_of, to_signed, signed_answer, signed_number_of, sixteen_bits, block_number_of, table_of}
+use Rattle.coefficients.specs.Block.{magnitude, signed_value, block, header_table, magnitude_of, number_answer, signed_of, signed_answer, sixteen_bits, table_of}
 use Rattle.transform.specs.Transform.{transform_of}
 use Rattle.filter.specs.Kernel.{pixel_of, pixel_number_of}
 use Rattle.filter.specs.Strengths.{strength_answer, strengths_number_of, strengths_values_of}
-use Rattle.modes.specs.Modes.{prefix, large_mode_of, block_mode_of, small_modes_of, Macroblock, modes_of, to_mode, to_headed, to_sixteen, to_staged, prefix_answer, main_answer, block_answer, small_answer, modes_answer, mode_number_of, headed_number_of, next_number_of, stage_number_of}
+use Rattle.modes.specs.Modes.{prefix, large_mode_of, block_mode_of, small_modes_of, Macroblock, modes_of, to_sixteen, to_staged, prefix_answer, main_answer, block_answer, small_answer, modes_answer, next_number_of}
 use Rattle.residual.specs.Residual as Residual
 use Rattle.residual.specs.Residual.{Model, residual_of, residual_number_of}
 use Rattle.planes.specs.Paint.{PaintedPlane, paint_of}
@@ -193,18 +193,18 @@ numbers_bind = record {
   for_macroblock_lem = λ h segment small. checked _ level_number_of (λ x. x) refl refl refl refl;
   header_take = λ h. checked _ (λ (f : Framed). checked_number_of f.answer) (λ (f : Framed). f.frame) refl refl refl refl;
   number = λ s token r. reads _ (run (magnitude token) s r) (read_number_of 7) to_read refl refl (λ v q. refl);
-  dequant = λ s token q r. reads _ (run (signed_value token q) s r) signed_number_of to_signed refl refl (λ v p. refl);
-  block_decode = λ s r table kind ctx first q0 q1 old. reads _ (run (block table kind q0 q1 ctx first old) s r) (λ c. block_number_of c.answer) (Tokens.to_block_called old) refl refl (λ x q. refl);
-  block_decode_header = λ s r h kind ctx first q0 q1 old. reads_both (eqb (length h) entry_count) (valid_of s r && (Tokens.block_arguments (header_table h) kind ctx first && sixteen_bits old 16)) (run (block (header_table h) kind q0 q1 ctx first old) s r) (λ c. block_number_of c.answer) (Tokens.to_block_called old) {refusal = Tokens.refused_block old} refl refl (λ x q. refl);
+  dequant = λ s token q r. reads _ (run (signed_value token q) s r) (read_number_of 7) to_read refl refl (λ v p. refl);
+  block_decode = λ s r table kind ctx first q0 q1 old. reads _ (run (block table kind q0 q1 ctx first old) s r) (λ c. read_number_of 7 c.answer) (Tokens.to_block_called old) refl refl (λ x q. refl);
+  block_decode_header = λ s r h kind ctx first q0 q1 old. reads_both (eqb (length h) entry_count) (valid_of s r && (Tokens.block_arguments (header_table h) kind ctx first && sixteen_bits old 16)) (run (block (header_table h) kind q0 q1 ctx first old) s r) (λ c. read_number_of 7 c.answer) (Tokens.to_block_called old) {refusal = Tokens.refused_block old} refl refl (λ x q. refl);
   probabilities = λ h. checked _ (λ (t : Table). checked_number_of t.answer) (λ (t : Table). t.bytes) refl refl refl refl;
   transform = λ c walsh. checked_cond _ (λ (t : Transformed). t.number) (λ (t : Transformed). t.samples) refl refl refl refl;
   pixel = λ e simple edge limit inner threshold k. checked_cond _ pixel_number_of (λ x. x) refl refl refl refl;
   at_level = λ level sharp inside. checked _ strengths_number_of strengths_values_of refl refl refl refl;
-  modes_prefix = λ s r h. reads _ (run (prefix (announced_of h)) s r) headed_number_of to_headed refl refl (λ p q. refl);
-  main_mode_lem = λ s r chroma. reads _ (run (large_mode_of chroma) s r) mode_number_of to_mode refl refl (λ v q. refl);
-  block_mode_lem = λ s r top left. reads _ (run (block_mode_of top left) s r) mode_number_of to_mode refl refl (λ v q. refl);
+  modes_prefix = λ s r h. reads _ (run (prefix (announced_of h)) s r) (read_number_of 6) to_read refl refl (λ p q. refl);
+  main_mode_lem = λ s r chroma. reads _ (run (large_mode_of chroma) s r) (read_number_of 6) to_read refl refl (λ v q. refl);
+  block_mode_lem = λ s r top left. reads _ (run (block_mode_of top left) s r) (read_number_of 6) to_read refl refl (λ v q. refl);
   small_modes_lem = λ s r top left old. reads _ (run (small_modes_of top left) s r) (λ c. next_number_of c.answer) (to_sixteen old) refl refl (λ l q. refl);
-  read_modes_lem = λ s a r top left old. reads _ (run (modes_of a top left) s r) (λ c. stage_number_of c.answer) (to_staged old) refl refl (λ m q. refl);
+  read_modes_lem = λ s a r top left old. reads _ (run (modes_of a top left) s r) (λ c. read_number_of 6 c.answer) (to_staged old) refl refl (λ m q. refl);
   residual_decode = λ s r table f small skip top left old. reads _ (run (residual_of table f small skip top left) s r) (λ c. residual_number_of c.answer.answer) (Residual.to_residual_called old) refl refl (λ m q. refl);
   residual_decode_header = λ s r h segment small skip top left old. reads_both (header_of h && ltb segment 4) (valid_of s r && Residual.residual_arguments (header_table h) top left (length old)) (run (residual_of (header_table h) (factors_of_of h segment) small skip top left) s r) (λ c. residual_number_of c.answer.answer) (Residual.to_residual_called old) {refusal = Residual.refused_residual old} refl refl (λ m q. refl);
   paint = λ p w column row n small mode modes c from. checked_cond _ (λ (x : PaintedPlane). checked_number_of x.answer) (λ (x : PaintedPlane). x.plane) refl refl refl refl;

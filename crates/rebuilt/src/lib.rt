@@ -10,7 +10,6 @@ use header::frame::Frame;
 use macroblock::arguments::{Around, Place, Readers};
 use macroblock::checks::{around_fine, frame_fine, laid};
 use macroblock::ending::{Finish, ModeData, Outcome, Residue, complete, nothing};
-use modes::answers::Stage;
 use modes::whole::read_modes;
 use reader::boolean::{Reader, valid};
 
@@ -46,8 +45,7 @@ fn from_modes(
     let top_modes = top.modes;
     let left_modes = left.modes;
     let read = read_modes(first, frame.announced, r, top_modes, left_modes, &mut modes);
-    let answer = read.answer;
-    let Stage::Read(kinds, next) = answer else {
+    let Ok((kinds, next)) = read.answer else {
         return nothing(Finish::NoModes);
     };
     let m = ModeData {

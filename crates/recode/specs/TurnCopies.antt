@@ -1,6 +1,6 @@
 -- One macroblock read and written again: what its contract says, and its proof.
 use Rattle.std.specs.Prelude.{◌<◌, ◌≡◌}
-use Rattle.numbers.specs.Words.{ℕ, arith, refl, sym, ◌∙◌, ap, subst, Bool, true, List, length}
+use Rattle.numbers.specs.Words.{ℕ, arith, refl, sym, ◌∙◌, ap, subst, Bool, true, List, length, Ok}
 use Rattle.header.specs.Frame.{factors_at}
 use Rattle.lent.specs.Memory as lent
 use Rattle.lent.specs.Memory.{records_in, Form, packed, form_width, column_width, column_at, column_bytes, column_set, column_written}
@@ -9,15 +9,13 @@ use Rattle.macroblock.specs.Macroblock.{below, beside}
 use Rattle.macroblock.specs.declared.arguments.Around.{Around}
 use Rattle.macroblock.specs.Macroblock as macroblock
 use Rattle.modes.specs.declared.answers.Kinds.{Kinds}
-use Rattle.modes.specs.declared.answers.Stage.{Stage}
-use Rattle.modes.specs.declared.answers.Stage.TheVariants as S
 use Rattle.modes.specs.declared.contexts.Context.{Context}
 use Rattle.modes.specs.Modes.{macroblock_of, modes_answer, context_fine_of, Macroblock, modes_of, bottom_of, right_of}
 use Rattle.modes.specs.AnswersLaws.{stage_given, read}
 use Rattle.numbers.specs.declared.Checked.{Checked}
 use Rattle.choices.specs.Choices.{beside_of}
 use Rattle.reader.specs.declared.boolean.Reader.{Reader}
-use Rattle.reader.specs.Reading.{given, missing, Reading, run, trace}
+use Rattle.reader.specs.Reading.{given, missing, ReadOf, Reading, run, trace}
 use Rattle.reader.specs.ReadingLaws.{never_both, Bytes}
 use Rattle.residual.specs.Residual.{Model, residual_of}
 use Rattle.wide.specs.declared.wide.Wide.{Wide}
@@ -105,7 +103,7 @@ tokens_done tokens table t a kinds next modes columns room y long {q} {new} r {b
     }
 
 module _ (first tokens table : List ℕ) (t : Task) (columns room : List ℕ) (top left : Context) (e : t.column < records_in column_width columns → top ≡ column_at packed columns t.column) (f : left ≡ beside_of t.column t.left)
-    (old16 : List ℕ) {x : Stage} {modes : List ℕ} (g : record { answer = x; modes = modes } ≡ modes_answer first t.frame.announced t.first top.modes left.modes old16) where
+    (old16 : List ℕ) {x : ReadOf Kinds} {modes : List ℕ} (g : record { answer = x; modes = modes } ≡ modes_answer first t.frame.announced t.first top.modes left.modes old16) where
   -- the contexts as the code found them
   found : {m : Macroblock} {d : Model} {r1 r2 : Reader} {F : Encoder} {old : List ℕ} → Turning packed first tokens table t columns room m d r1 r2 F old (column_at packed columns t.column) (beside_of t.column t.left) → Turning packed first tokens table t columns room m d r1 r2 F old top left
   found {m} {d} {r1} {r2} {F} {old} z =
@@ -118,10 +116,10 @@ module _ (first tokens table : List ℕ) (t : Task) (columns room : List ℕ) (t
   pub turn_none : ((l : List ℕ) → stage_given x l ≡ missing) → {q : Turned} {after new : List ℕ} → TurnCopies packed first tokens table t columns room q after new
   turn_none h m d r1 r2 F old z = absurd (never_both (told (found z)) (h modes))
 
-  pub turn_done : {kinds : Kinds} {next : Reader} {q : Turned} {after new : List ℕ} → x ≡ S.Read kinds next → TokensTurned tokens table t (record { top = top; left = left }) kinds next modes columns room q after new → TurnCopies packed first tokens table t columns room q after new
+  pub turn_done : {kinds : Kinds} {next : Reader} {q : Turned} {after new : List ℕ} → x ≡ Ok (kinds, next) → TokensTurned tokens table t (record { top = top; left = left }) kinds next modes columns room q after new → TurnCopies packed first tokens table t columns room q after new
   turn_done {kinds} {next} {q} {after} {new} h r m d r1 r2 F old z₀ =
       let z = found z₀ in
-      let i : given (macroblock_of kinds modes) next ≡ given m r1 = sym (ap (λ (y : Stage). stage_given y modes) h) ∙ told z in
+      let i : given (macroblock_of kinds modes) next ≡ given m r1 = sym (ap (λ (y : ReadOf Kinds). stage_given y modes) h) ∙ told z in
       let k : macroblock_of kinds modes ≡ m = cc in
       let n : next ≡ r1 = cc in
       let y : Turning packed first tokens table t columns room (macroblock_of kinds modes) d next r2 F old top left =

@@ -11,7 +11,7 @@ use choices::beside::beside;
 use header::frame::Frame;
 use lent::columns::{read_column, write_column};
 use macroblock::arguments::Around;
-use modes::answers::{Kinds, Stage};
+use modes::answers::Kinds;
 use modes::contexts::{Context, bottom, right};
 use modes::whole::read_modes;
 use reader::boolean::Reader;
@@ -130,8 +130,7 @@ pub(crate) fn turn(
     let left_modes = left.modes;
     let mut modes = [0; 16];
     let read = read_modes(first, announced, r, top_modes, left_modes, &mut modes);
-    let answer = read.answer;
-    let Stage::Read(kinds, next) = answer else {
+    let Ok((kinds, next)) = read.answer else {
         let token = task.token;
         let writer = task.writer;
         return Turned {

@@ -1,5 +1,5 @@
 -- The parts of a macroblock as the code reads them, and the turns of the loop over its blocks, as laws on plain values.
-use Rattle.numbers.specs.Words.{ℕ, zero, suc, ◌+◌, ◌*◌, ◌≤◌, ◌<◌, add-zero, zero-add, arith, ◌≡◌, refl, sym, ◌∙◌, ap, Bool, true, false, ◌&&◌, ltb, leb, bit_of, List, length, get_or, set, replicate, ℤ, pos, negsuc, Each}
+use Rattle.numbers.specs.Words.{ℕ, zero, suc, ◌+◌, ◌*◌, ◌≤◌, ◌<◌, add-zero, zero-add, arith, ◌≡◌, refl, sym, ◌∙◌, ap, Bool, true, false, ◌&&◌, ltb, leb, bit_of, List, length, get_or, set, replicate, ℤ, pos, negsuc, Each, Ok}
 use Rattle.reader.specs.declared.boolean.Reader.{Reader}
 use Rattle.reader.specs.Reading.{Given, given, missing, Reading, run, Within, ends, count}
 use Rattle.reader.specs.ReadingLaws.{Bytes, Valid, ReadTo, run_valid, count_within}
@@ -10,8 +10,7 @@ use Rattle.coefficients.specs.BlockLaws.{Sixteen, from_block, block_within}
 use Rattle.transform.specs.declared.Transformed.{Transformed}
 use Rattle.transform.specs.Transform.{samples_of, transform_of}
 use Rattle.transform.specs.TransformLaws.{transform_good}
-use Rattle.coefficients.specs.declared.block.Block.TheVariants as B
-use Rattle.coefficients.specs.declared.block.BlockRead.{BlockRead}
+use Rattle.reader.specs.declared.boolean.Counted.{Counted}
 use Rattle.transform.specs.Lanes.{macroblock_lanes}
 use Rattle.residual.specs.Residual.{Kind, FlagsAt, Model, Flags, ModelInRange, initial, coordinates, second_kind_of, kind_of, zero_of, coded, spread, second_place, second, sixteen_at, stored, advance, blocks_from, dc_stage_of, cleared, residual_of, no_residual_of, to_residual_called, residual_answer}
 use Rattle.residual.specs.ResidualLaws.{kind_in, initial_whole, zeros_sixteen, sixteen_in, sixteen_fit, second_within, advance_within, blocks_few, residual_within}
@@ -28,14 +27,14 @@ after m q k p end e = record { reader = q; top = set m.top p.x (bit_of (ltb k.fi
 
 module _ (s table : List ℕ) (f : Factors) (m : State) (flat : List ℤ) where
   -- ---- the second-order block
-  module _ {k : Kind} (e : k ≡ second_kind_of f) {ctx : ℕ} (n : ctx ≡ get_or m.top 8 0 + get_or m.left 8 0) {a : BlockRead} {l : List ℤ} (g : BlockPart table k ctx (replicate 16 (pos 0)) s m.reader a l) where
+  module _ {k : Kind} (e : k ≡ second_kind_of f) {ctx : ℕ} (n : ctx ≡ get_or m.top 8 0 + get_or m.left 8 0) {a : Counted ℕ} {l : List ℤ} (g : BlockPart table k ctx (replicate 16 (pos 0)) s m.reader a l) where
     asked : Took (coded table (second_kind_of f) second_place m.top m.left (replicate 16 (pos 0))) s m.reader (from_block l a.answer) a.reads
     asked = rw e at (coded_at s m.reader table k second_place m.top m.left (replicate 16 (pos 0)) n g.read)
 
     pub second_lost : from_block l a.answer ≡ missing → Part (second table f (model_of m flat)) s m.reader (record { ended = false; state = m; reads = a.reads }) flat
     second_lost h = second_missing table f s (model_of m flat) m.reader (took_as h refl asked)
 
-    pub second_read : Valid s m.reader → Bytes s → Bytes table → {end : ℕ} {q : Reader} → a.answer ≡ B.Ended end q → {t : Transformed} → t ≡ transform_of l true → {to : List ℤ} → to ≡ spread flat t.samples 16
+    pub second_read : Valid s m.reader → Bytes s → Bytes table → {end : ℕ} {q : Reader} → a.answer ≡ Ok (end, q) → {t : Transformed} → t ≡ transform_of l true → {to : List ℤ} → to ≡ spread flat t.samples 16
         → {n : State} → n ≡ after m q k second_place end m.empty → Part (second table f (model_of m flat)) s m.reader (record { ended = true; state = n; reads = a.reads }) to
     second_read v y b {end} {q} h {t} i {to} j {n} o =
         let z = took_as (ap (from_block l) h) refl asked in
@@ -44,14 +43,14 @@ module _ (s table : List ℕ) (f : Factors) (m : State) (flat : List ℤ) where
         rw (o, e, j, d) (second_ended table f s (model_of m flat) m.reader z)
 
   -- ---- block i
-  module _ (small : Bool) (i : ℕ) {k : Kind} (e : k ≡ kind_of f small i) {p : FlagsAt} (c : p ≡ coordinates i) {old : List ℤ} (u : old ≡ sixteen_at flat (16 * i)) {ctx : ℕ} (n : ctx ≡ get_or m.top p.x 0 + get_or m.left p.y 0) {a : BlockRead} {l : List ℤ} (g : BlockPart table k ctx old s m.reader a l) where
+  module _ (small : Bool) (i : ℕ) {k : Kind} (e : k ≡ kind_of f small i) {p : FlagsAt} (c : p ≡ coordinates i) {old : List ℤ} (u : old ≡ sixteen_at flat (16 * i)) {ctx : ℕ} (n : ctx ≡ get_or m.top p.x 0 + get_or m.left p.y 0) {a : Counted ℕ} {l : List ℤ} (g : BlockPart table k ctx old s m.reader a l) where
     wanted : Took (coded table (kind_of f small i) (coordinates i) m.top m.left (sixteen_at flat (16 * i))) s m.reader (from_block l a.answer) a.reads
     wanted = rw (e, c, u) at (coded_at s m.reader table k p m.top m.left old n g.read)
 
     pub advance_lost : from_block l a.answer ≡ missing → Part (advance table f small i (model_of m flat)) s m.reader (record { ended = false; state = m; reads = a.reads }) flat
     advance_lost h = advance_missing table f s (model_of m flat) m.reader small i (took_as h refl wanted)
 
-    pub advance_read : {end : ℕ} {q : Reader} → a.answer ≡ B.Ended end q → {to : List ℤ} → to ≡ stored flat (16 * i) l → {z : Bool} → z ≡ zero_of (get_or l 0 (pos 0))
+    pub advance_read : {end : ℕ} {q : Reader} → a.answer ≡ Ok (end, q) → {to : List ℤ} → to ≡ stored flat (16 * i) l → {z : Bool} → z ≡ zero_of (get_or l 0 (pos 0))
         → {n : State} → n ≡ after m q k p end (m.empty && (leb end 1 && z)) → Part (advance table f small i (model_of m flat)) s m.reader (record { ended = true; state = n; reads = a.reads }) to
     advance_read {end} {q} h {to} j {z} t {n} o =
         rw (o, e, c, j, t) (advance_ended table f s (model_of m flat) m.reader small i (took_as (ap (from_block l) h) refl wanted))

@@ -8,7 +8,7 @@ use Rattle.reader.specs.ReadingLaws.{Valid}
 use Rattle.reader.specs.Counts.{Took}
 use Rattle.coefficients.specs.Block.{block}
 use Rattle.coefficients.specs.BlockLaws.{from_block}
-use Rattle.coefficients.specs.declared.block.BlockRead.{BlockRead}
+use Rattle.reader.specs.declared.boolean.Counted.{Counted}
 use Rattle.residual.specs.Residual.{Kind, Model, ModelInRange}
 use Rattle.residual.specs.declared.blocks.State.{State}
 use Rattle.residual.specs.declared.blocks.Turn.{Turn}
@@ -27,7 +27,7 @@ abbrev pub Part : Reading Model → List ℕ → Reader → Turn → List ℤ �
 Part g s r t flat = Took g s r (turn_of t.ended t.state flat) t.reads
 
 -- a block, the same
-pub record BlockPart (table : List ℕ) (k : Kind) (ctx : ℕ) (old : List ℤ) (s : List ℕ) (r : Reader) (a : BlockRead) (l : List ℤ) : Type 0 where
+pub record BlockPart (table : List ℕ) (k : Kind) (ctx : ℕ) (old : List ℤ) (s : List ℕ) (r : Reader) (a : Counted ℕ) (l : List ℤ) : Type 0 where
   pub read : Took (block table k.kind k.q0 k.q1 ctx k.first old) s r (from_block l a.answer) a.reads
 
 -- what every part asks, and leaves

@@ -18,7 +18,7 @@ use Rattle.coefficients.specs.BlockSteps.{table_done}
 use Rattle.coefficients.specs.declared.block.Table.{Table}
 use Rattle.coefficients.specs.Block.{Coefficients, block, header_table, table_of}
 use Rattle.coefficients.specs.Block as tokens
-use Rattle.coefficients.specs.declared.block.BlockRead.{BlockRead}
+use Rattle.reader.specs.declared.boolean.Counted.{Counted}
 use Rattle.transform.specs.Transform.{samples_of}
 use Rattle.transform.specs.Lanes.{macroblock_lanes}
 use Rattle.residual.specs.Parts.{model_of, BlockPart}
@@ -41,7 +41,7 @@ spread_next p dc k e h = rw add-one (ap₂ (λ (x : List ℤ) (y : ℤ). set x (
 
 -- ---- a block that the checked call read, in the context that the code worked out
 pub coded_read : (s : List ℕ) (r : Reader) (table : List ℕ) (k : Kind) (ctx : ℕ) (old : List ℤ) → Valid s r → length table ≡ probability_count → (k.kind < 4) × (k.first ≤ 1) → ctx < 3 → Sixteen old
-    → {a : BlockRead} {l : List ℤ} → (record { answer = a.answer; out = l } ≡ tokens.block_call_of s r table k.kind ctx k.first k.q0 k.q1 old) × (a.reads ≡ tokens.block_reads s r table k.kind ctx k.first k.q0 k.q1 old)
+    → {a : Counted ℕ} {l : List ℤ} → (record { answer = a.answer; out = l } ≡ tokens.block_call_of s r table k.kind ctx k.first k.q0 k.q1 old) × (a.reads ≡ tokens.block_reads s r table k.kind ctx k.first k.q0 k.q1 old)
     → BlockPart table k ctx old s r a l
 coded_read s r table k ctx old v n g h o e =
     let z : Good table k.kind ctx k.first old = record { size = n; kinds = g.0; near = h; start = g.1; each = o.each } in

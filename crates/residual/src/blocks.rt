@@ -9,7 +9,7 @@ ghost use Rattle.residual.specs.Parts.{Held, Part, model_of};
 
 use crate::contexts::{FlagsAt, cleared, flagged, location, near};
 use crate::flat::{sixteen, spread, store};
-use coefficients::block::{Block, decode};
+use coefficients::block::decode;
 use header::quantizers::Factors;
 use reader::boolean::Reader;
 use transform::transform;
@@ -118,8 +118,7 @@ fn read_second(s: &[u8], table: &[u8], f: Factors, m: State, flat: &mut [i32]) -
     let mut c = [0; 16];
     let b = decode(s, m.reader, table, k.kind, ctx, k.first, k.q0, k.q1, &mut c);
     let reads = b.reads;
-    let answer = b.answer;
-    let Block::Ended(end, r) = answer else {
+    let Ok((end, r)) = b.answer else {
         return Turn {
             ended: false,
             state: m,
@@ -157,8 +156,7 @@ fn block(
     let mut c = sixteen(flat, 16 * i);
     let b = decode(s, m.reader, table, k.kind, ctx, k.first, k.q0, k.q1, &mut c);
     let reads = b.reads;
-    let answer = b.answer;
-    let Block::Ended(end, r) = answer else {
+    let Ok((end, r)) = b.answer else {
         return Turn {
             ended: false,
             state: m,

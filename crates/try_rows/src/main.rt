@@ -2,7 +2,7 @@
 // proved of the definitions, and those that are only run.
 #![tactic(auto)]
 
-use coefficients::block::{Block, decode};
+use coefficients::block::decode;
 use filter::filter;
 use numbers::{Wrapped, wrap16};
 use reader::boolean::open;
@@ -88,8 +88,7 @@ fn held(s: &[u8]) -> usize {
     let mut i = 0;
     while i < 25 {
         let b = decode(s, r, &table, kind(i), 0, first(i), 1, 1, &mut out);
-        let answer = b.answer;
-        let Block::Ended(_, next) = answer else {
+        let Ok((_, next)) = b.answer else {
             return i;
         };
         r = next;

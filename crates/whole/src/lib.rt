@@ -14,7 +14,6 @@ use header::quantizers::Factors;
 use macroblock::arguments::{Around, Place, Readers, SymbolCounts};
 use macroblock::checks::{around_fine, frame_fine, laid};
 use macroblock::ending::{Finish, ModeData, Outcome, Residue, complete, nothing};
-use modes::answers::Stage;
 use modes::whole::read_modes;
 use reader::boolean::{Reader, valid};
 use residual::answers::Ended;
@@ -165,8 +164,7 @@ fn step(
     let top_modes = top.modes;
     let left_modes = left.modes;
     let read = read_modes(first, announced, r, top_modes, left_modes, &mut modes);
-    let answer = read.answer;
-    let Stage::Read(kinds, next) = answer else {
+    let Ok((kinds, next)) = read.answer else {
         return stopped(Finish::NoModes, read.reads, 0);
     };
     let m = ModeData {

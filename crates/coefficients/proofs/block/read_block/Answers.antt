@@ -2,10 +2,9 @@
 use Rattle.numbers.specs.Words.{arith, refl, ap, eq-eqb, ne_eqb}
 use Rattle.reader.specs.ReadingLaws.{from_read}
 use Rattle.coefficients.specs.Block.{bands, zigzag, block_of, block}
-use Rattle.coefficients.proofs.BlockAnswers.{not_signed}
 use Rattle.coefficients.proofs.BlockTurns.{going_start, going_end, Turn, turn, turn_missing, token_read, turn_ended, turn_zero, number_short, turn_lost, turn_number, called_missing, called_ended}
 use Rattle.coefficients.proofs.block.read_block.Goals as goal
-use Rattle.coefficients.proofs.block.read_block.Goals.{After-walk_token-t, then-zero, else-zero+in-Value}
+use Rattle.coefficients.proofs.block.read_block.Goals.{After-walk_token-t, then-zero, else-zero+in-Ok-answer}
 
 -- the turn, once the token was asked
 turn_at : (c : After-walk_token-t) → Turn c.args.s.now c.args.table.now c.args.kind c.args.q0 c.args.q1 (block c.args.table.now c.args.kind c.args.q0 c.args.q1 c.args.ctx c.args.first c.args.out.now) c.args.r c.loop-n.n c.loop-n.near c.loop-n.zero c.loop-n.next c.loop-n.values c.loop-n.reads c.walk_token-t.result.answer c.walk_token-t.result.reads
@@ -51,12 +50,12 @@ overflow_add-reads-else-zero c =
     let n = number_short t c.in-Ok.is (omega (arith, c.if-token-eq0.false, c.if-zero.false)) c.quantizer.ensures c.read_signed-number.ensures in
     omega (arith, t.few, t.short, t.sum, n)
 
-pub returns-in_default-signed : goal.returns-in_default-signed
+pub returns-in_default-answer : goal.returns-in_default-answer
 unfolding block_of
-returns-in_default-signed c =
-    let t = turn_at (goal.at.returns-in_default-signed c).After-walk_token-t in
+returns-in_default-answer c =
+    let t = turn_at (goal.at.returns-in_default-answer c).After-walk_token-t in
     called_missing _ _ _ _ c.loop-n.invariant.kept
-    (turn_lost t c.in-Ok.is (omega (arith, c.if-token-eq0.false, c.if-zero.false)) c.quantizer.ensures c.read_signed-number.ensures (not_signed c.read_signed-number.result.answer c.in_default-signed.not-Value))
+    (turn_lost t c.in-Ok.is (omega (arith, c.if-token-eq0.false, c.if-zero.false)) c.quantizer.ensures c.read_signed-number.ensures (ap from_read c.in_default-answer.is))
 
 pub loop-n-preserved : goal.loop-n-preserved
 unfolding zigzag
@@ -65,9 +64,9 @@ loop-n-preserved c =
     record {
       going = elim c.if-zero.branch [
         | then-zero w ↦ rw (w.values-is, w.next-is, w.near-is, w.reads-is, eq-eqb _ 1 w.if-zero.true) (turn_zero t c.in-Ok.is w.if-zero.true)
-        | else-zero+in-Value w ↦
+        | else-zero+in-Ok-answer w ↦
             rw (w.values-is, w.next-is, w.near-is, w.reads-is, ne_eqb _ 1 w.if-zero.false)
-            (turn_number t c.in-Ok.is (omega (arith, c.if-token-eq0.false, w.if-zero.false)) w.quantizer.ensures w.read_signed-number.ensures w.in-Value.is w.context-near.ensures w.entry.ensures.0)
+            (turn_number t c.in-Ok.is (omega (arith, c.if-token-eq0.false, w.if-zero.false)) w.quantizer.ensures w.read_signed-number.ensures w.in-Ok-answer.is w.context-near.ensures w.entry.ensures.0)
       ];
       kept = c.loop-n.invariant.kept;
     }

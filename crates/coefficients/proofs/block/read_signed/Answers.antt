@@ -1,6 +1,5 @@
 -- `read_signed` meets its contract: the number, then the sign, then their product.
-use Rattle.numbers.specs.Words.{arith, ◌≡◌, ◌∙◌, ap, answered, wrap_in, w32}
-use Rattle.reader.specs.Reading.{run, symbol}
+use Rattle.numbers.specs.Words.{arith, ◌∙◌, ap, answered, wrap_in, w32}
 use Rattle.reader.specs.ReadingLaws.{ReadTo, run_valid, symboled, from_read, count_within}
 use Rattle.coefficients.specs.BlockLaws.{Magnitude, magnitude_within}
 use Rattle.coefficients.specs.BlockSteps.{number_took, signed_lost, signed_missing, signed_got}

@@ -1,8 +1,7 @@
 use Rattle.numbers.specs.Words.{◌<◌, arith}
-use Rattle.modes.specs.Modes.{zeros, to_sixteen}
+use Rattle.reader.specs.Reading.{to_read}
 use Rattle.modes.specs.ModesLaws.{above_mode, left_mode, small_modes_within}
 use Rattle.modes.proofs.Careful.{going_start, going_next, going_missing, going_end, told}
-use borrow.Enum.Refused.{opened}
 use Rattle.modes.proofs.small.sixteen.Goals as goal
 
 pub loop-i-init : goal.loop-i-init
@@ -18,10 +17,10 @@ pub overflow_add-reads : goal.overflow_add-reads
 overflow_add-reads c = omega (arith, c.loop-i.invariant.few, c.loop-i.invariant.sum, c.block-c.ensures.1.1)
 
 pub returns-in_default : goal.returns-in_default
-returns-in_default c = told (to_sixteen zeros) (small_modes_within _ _) (going_missing c.loop-i.invariant c.mode_above-up.ensures c.mode_left-by.ensures c.block-c.ensures c.loop-i-test.true (opened c.in_default.in_default-own.keys2))
+returns-in_default c = told to_read (small_modes_within _ _) (going_missing c.loop-i.invariant c.mode_above-up.ensures c.mode_left-by.ensures c.block-c.ensures c.loop-i-test.true c.in_default.is)
 
 pub loop-i-preserved : goal.loop-i-preserved
-loop-i-preserved c = going_next c.loop-i.invariant c.mode_above-up.ensures c.mode_left-by.ensures c.block-c.ensures c.loop-i-test.true (λ k. (c.shared_slice_known-1.given k).fits) c.in-Read.is
+loop-i-preserved c = going_next c.loop-i.invariant c.mode_above-up.ensures c.mode_left-by.ensures c.block-c.ensures c.loop-i-test.true (λ k. (c.type_inv.s k).fits) c.in-Ok.is
 
 pub returns : goal.returns
-returns c = told (to_sixteen zeros) (small_modes_within _ _) (going_end c.loop-i.invariant c.loop-i-test.false)
+returns c = told to_read (small_modes_within _ _) (going_end c.loop-i.invariant c.loop-i-test.false)

@@ -1,6 +1,6 @@
 -- `block` meets its contract: with arguments in range the checked call is the grammar's block.
-use Rattle.numbers.specs.Words.{arith, lit<, w32}
-use Rattle.residual.proofs.Tags.{not_ended}
+use Rattle.numbers.specs.Words.{arith, ap, lit<, w32}
+use Rattle.coefficients.specs.BlockLaws.{from_block}
 use Rattle.residual.proofs.Zero.{zero_is}
 use Rattle.residual.specs.Parts.{BlockPart}
 use Rattle.residual.specs.ResidualSteps.{coded_read}
@@ -19,7 +19,7 @@ part c =
 pub returns-in_default : goal.returns-in_default
 returns-in_default c =
     advance_lost c.args.s.now c.args.table.now c.args.f c.args.m c.args.flat.now c.args.small c.args.i c.kind_of-k.ensures c.location-p.ensures.0 c.sixteen-c.ensures
-    c.context_at-ctx.ensures.0 (part (goal.at.returns-in_default c).After-decode-b) (not_ended _ _ c.in_default.not-Ended)
+    c.context_at-ctx.ensures.0 (part (goal.at.returns-in_default c).After-decode-b) (ap (from_block c.decode-b.new.out) c.in_default.is)
 
 pub store-requires : goal.store-requires
 store-requires c = omega (arith, c.requires.0.whole.long, c.requires.1)
@@ -30,5 +30,5 @@ passed-next-requires c = (omega (arith, c.location-p.ensures.1.0), omega (arith,
 pub returns : goal.returns
 returns c =
     advance_read c.args.s.now c.args.table.now c.args.f c.args.m c.args.flat.now c.args.small c.args.i c.kind_of-k.ensures c.location-p.ensures.0 c.sixteen-c.ensures
-    c.context_at-ctx.ensures.0 (part (goal.at.returns c).After-decode-b) c.in-Ended.is c.store.ensures
+    c.context_at-ctx.ensures.0 (part (goal.at.returns c).After-decode-b) c.in-Ok.is c.store.ensures
     (zero_is w32 _ (record { sfits = c.empty-1.given }) (record { sfits = lit< tt })) c.passed-next.ensures

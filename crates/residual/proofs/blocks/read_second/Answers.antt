@@ -1,6 +1,6 @@
 -- `read_second` meets its contract: with arguments in range the checked call is the grammar's block.
-use Rattle.numbers.specs.Words.{arith, replicate, pos}
-use Rattle.residual.proofs.Tags.{not_ended}
+use Rattle.numbers.specs.Words.{arith, ap, replicate, pos}
+use Rattle.coefficients.specs.BlockLaws.{from_block}
 use Rattle.residual.proofs.Turns.{second_fine, second_lost, second_read}
 use Rattle.residual.specs.ResidualLaws.{zeros_sixteen}
 use Rattle.residual.specs.Parts.{BlockPart}
@@ -17,10 +17,10 @@ part c =
     coded_read _ _ _ _ _ _ c.requires.reader c.requires.size (second_fine c.args.f c.second_kind-k.ensures) c.context_at-ctx.ensures.1 zeros_sixteen c.decode-b.ensures
 
 pub returns-in_default : goal.returns-in_default
-returns-in_default c = second_lost c.args.s.now c.args.table.now c.args.f c.args.m c.args.flat.now c.second_kind-k.ensures c.context_at-ctx.ensures.0 (part (goal.at.returns-in_default c).After-decode-b) (not_ended _ _ c.in_default.not-Ended)
+returns-in_default c = second_lost c.args.s.now c.args.table.now c.args.f c.args.m c.args.flat.now c.second_kind-k.ensures c.context_at-ctx.ensures.0 (part (goal.at.returns-in_default c).After-decode-b) (ap (from_block c.decode-b.new.out) c.in_default.is)
 
 pub returns : goal.returns
 returns c =
     second_read c.args.s.now c.args.table.now c.args.f c.args.m c.args.flat.now c.second_kind-k.ensures c.context_at-ctx.ensures.0 (part (goal.at.returns c).After-decode-b)
     c.requires.reader (λ i. (c.shared_slice_known-1.given i).fits) (λ i. (c.shared_slice_known-2-1.given i).fits)
-    c.in-Ended.is c.transform-t.ensures c.spread.ensures c.passed-next.ensures
+    c.in-Ok.is c.transform-t.ensures c.spread.ensures c.passed-next.ensures
