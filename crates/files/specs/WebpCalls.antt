@@ -1,6 +1,7 @@
 -- The WebP calls as C sees them: a number, and what is returned besides, 0 after a refusal.
-use Rattle.numbers.specs.Words.{ℕ, List}
+use Rattle.numbers.specs.Words.{ℕ, Result, List}
 use Rattle.webp.specs.declared.read.Found.{Found}
+use Rattle.webp.specs.declared.read.FindError.{FindError}
 use Rattle.webp.specs.Webp.{find_of, found_number_of, found_start_of, found_length_of, WriteEnded, wrap_of, wrapped_number_of, wrapped_length_of}
 
 -- what `hookbarley_webp_find` leaves: its number, the frame's place and length
@@ -10,7 +11,7 @@ pub record WebpFound : Type 0 where
   pub len : ℕ
 
 -- the reader's answer, as C sees it
-abbrev pub to_found : Found → WebpFound
+abbrev pub to_found : Result Found FindError → WebpFound
 to_found f = record { number = found_number_of f; start = found_start_of f; len = found_length_of f }
 
 -- `hookbarley_webp_find` of a file's bytes

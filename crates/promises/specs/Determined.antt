@@ -78,7 +78,9 @@ use Rattle.frame.specs.Tables.{update_probs}
 use Rattle.frame.specs.Tag.{first_size_of, tag_fine}
 use Rattle.frame.specs.Take.{refused_answer, nothing_taken, coded_of, taken_of, stored_of, into_of}
 use Rattle.key_frame.specs.KeyFrame.{key_frame_of}
-use Rattle.webp.specs.Webp.{find_of, wrap_of}
+use Rattle.webp.specs.declared.read.FindError.{FindError}
+use Rattle.webp.specs.declared.write.WrapError.{WrapError}
+use Rattle.webp.specs.Webp.{find_of, find_error_number, wrap_of, wrap_error_number}
 use Rattle.writer.specs.declared.Writer.{Writer}
 use Rattle.writer.specs.Room.{fresh_writer, write_in, flush_answer}
 use Rattle.recode.specs.declared.pipe.Pipe.{Pipe}
@@ -679,6 +681,14 @@ key_frame_lem bytes header y u v columns modes strengths = determined (key_frame
 -- webp::read::find
 pub webp_find : (bytes : List ℕ) → One (λ o. o ≡ find_of bytes)
 webp_find bytes = determined (find_of bytes)
+
+-- webp::read::FindError::number
+pub webp_find_number : (self : FindError) → One (λ o. o ≡ find_error_number self)
+webp_find_number self = determined (find_error_number self)
+
+-- webp::write::WrapError::number
+pub webp_wrap_number : (self : WrapError) → One (λ o. o ≡ wrap_error_number self)
+webp_wrap_number self = determined (wrap_error_number self)
 
 -- webp::write::wrap
 pub webp_wrap : (frame out : List ℕ) → One (λ o. o ≡ wrap_of frame out)

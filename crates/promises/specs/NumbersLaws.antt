@@ -1,6 +1,6 @@
 -- Every number that a call answers is the scope's: each by the definition of its answer, opened once.
 use Rattle.std.specs.Prelude.{◌≡◌, ◌&&◌}
-use Rattle.numbers.specs.Words.{ℕ, arith, refl, sym, ◌∙◌, ap, Bool, true, false, cond, ⊎_elim, eqb, ltb, leb, eq_or, never, List, length, ℤ, wrap16_of, wrap16_number_of, checked_number_of}
+use Rattle.numbers.specs.Words.{ℕ, arith, refl, sym, ◌∙◌, ap, Bool, true, false, Some, Result, Ok, Err, cond, ⊎_elim, eqb, ltb, leb, eq_or, never, List, length, ℤ, wrap16_of, wrap16_number_of, checked_number_of}
 use Rattle.reader.specs.declared.boolean.Reader.{Reader}
 use Rattle.reader.specs.Reading.{Given, given, missing, valid_of, symbol_of, to_read, symbol_answer, read_number_of, run}
 use Rattle.reader.specs.Trees.{walk, walk_of, walk_answer}
@@ -46,9 +46,8 @@ use Rattle.webp.specs.ReadLaws.{refusal_mark, refusal_size, refusal_kind, refusa
 use Rattle.webp.specs.WriteLaws.{file_length, wrap_long, wrap_small, wrap_good}
 use Rattle.frame.specs.declared.take.Taken.{Taken}
 use Rattle.webp.specs.declared.read.Found.{Found}
-use Rattle.webp.specs.declared.read.Found.TheVariants as Found
-use Rattle.webp.specs.declared.write.WrapAnswer.{WrapAnswer}
-use Rattle.webp.specs.declared.write.WrapAnswer.TheVariants as Written
+use Rattle.webp.specs.declared.read.FindError.{FindError}
+use Rattle.webp.specs.declared.write.WrapError.{WrapError}
 use Rattle.promises.specs.Numbers.{RefusedOr, Answered, Steps, FrameNumbers, FindNumbers, WrapNumbers, Numbers}
 
 -- ---- what a test picks
@@ -149,23 +148,20 @@ module _ (b : List ℕ) where
 
 find_numbers : (s : List ℕ) → FindNumbers s
 find_numbers s = record {
-  marks = λ a. found_number ∙ sym (refusal_mark _ _ _ _ a);
-  size = λ a b. found_number ∙ sym (refusal_size _ _ _ _ a b);
-  kind = λ a b c. found_number ∙ sym (refusal_kind _ _ _ _ a b c);
-  filled = λ a b c d. found_number ∙ sym (refusal_chunk _ _ _ _ a b c d);
-  found = λ a b c d. found_number ∙ sym (refusal_none _ _ _ _ a b c d);
+  marks = λ a. refused (refusal_mark _ _ _ _ a);
+  size = λ a b. refused (refusal_size _ _ _ _ a b);
+  kind = λ a b c. refused (refusal_kind _ _ _ _ a b c);
+  filled = λ a b c d. refused (refusal_chunk _ _ _ _ a b c d);
+  found = λ a b c d. ap found_number_of (sym (find_good s (sym (refusal_none _ _ _ _ a b c d))));
   zeros = zeros (find_of s);
 }
   where
-    found_number : found_number_of (find_of s) ≡ Webp.found_refusal s
-    found_number = ⊎_elim
-        (λ e. ap found_number_of (sym (find_good s e)) ∙ sym e)
-        (λ e. ap found_number_of (sym (find_bad s e)))
-        (eq_or (Webp.found_refusal s) 0)
+    refused : {e : FindError} → Some e ≡ Webp.found_refusal s → found_number_of (find_of s) ≡ Webp.find_error_number e
+    refused h = ap found_number_of (sym (find_bad s (sym h)))
 
-    zeros : (f : Found) → (found_number_of f ≡ 0 → ⊥) → (found_start_of f ≡ 0) × (found_length_of f ≡ 0)
-    zeros (Found.At start len) e = absurd (e refl)
-    zeros (Found.Refused n) e = (refl, refl)
+    zeros : (f : Result Found FindError) → (found_number_of f ≡ 0 → ⊥) → (found_start_of f ≡ 0) × (found_length_of f ≡ 0)
+    zeros (Ok f) e = absurd (e refl)
+    zeros (Err n) e = (refl, refl)
 
 wrap_numbers : (frame out : List ℕ) → WrapNumbers frame out
 wrap_numbers frame out = record {
@@ -176,9 +172,9 @@ wrap_numbers frame out = record {
   zero = zero (wrap_of frame out).answer;
 }
   where
-    zero : (w : WrapAnswer) → (wrapped_number_of w ≡ 0 → ⊥) → wrapped_length_of w ≡ 0
-    zero (Written.Written n) e = absurd (e refl)
-    zero (Written.Refused n) e = refl
+    zero : (w : Result ℕ WrapError) → (wrapped_number_of w ≡ 0 → ⊥) → wrapped_length_of w ≡ 0
+    zero (Ok n) e = absurd (e refl)
+    zero (Err n) e = refl
 
 -- ---- THE PROMISE
 pub numbers_bind : Numbers

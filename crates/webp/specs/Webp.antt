@@ -1,11 +1,12 @@
 -- RFC 9649, the simple file format (lossy): the file around one key frame, and the frame in a file. In a list of bytes a place past the
 -- end reads 0; each test asks first that the bytes are there.
 use Rattle.std.specs.Prelude.{◌+◌, ◌*◌, ◌/◌, ◌%◌, ◌&&◌, ◌||◌, ◌∷◌, ◌++◌}
-use Rattle.numbers.specs.Words.{ℕ, Bool, true, false, eqb, leb, List, [], length, get_or, drop, replicate, byte_at}
-use Rattle.webp.specs.declared.read.Found.{Found}
-pub use Rattle.webp.specs.declared.write.WrapAnswer.{WrapAnswer}
-use Rattle.webp.specs.declared.read.Found.TheVariants as F
-use Rattle.webp.specs.declared.write.WrapAnswer.TheVariants as W
+use Rattle.numbers.specs.Words.{ℕ, Bool, true, false, eqb, leb, Option, Some, None, Result, Ok, Err, List, [], length, get_or, drop, replicate, byte_at}
+pub use Rattle.webp.specs.declared.read.Found.{Found}
+pub use Rattle.webp.specs.declared.read.FindError.{FindError}
+pub use Rattle.webp.specs.declared.write.WrapError.{WrapError}
+use Rattle.webp.specs.declared.read.FindError.TheVariants as F
+use Rattle.webp.specs.declared.write.WrapError.TheVariants as W
 
 -- ---- terminology and basics, before 2.3 RIFF file format: uint32, FourCC; then 2.3, the chunk
 -- uint32: a 32-bit, little-endian, unsigned integer
@@ -78,64 +79,80 @@ filled_of s =
     leb 20 (length s)
     && (eqb (20 + chunk_size s + chunk_size s % 2) (length s) && (eqb (chunk_size s % 2) 0 || eqb (byte_at s (20 + chunk_size s)) 0))
 
--- the first that fails gives its number
-unfoldable pub find_refusal : (marked sized lossy filled : Bool) → ℕ
-find_refusal false sized lossy filled = 17
-find_refusal true false lossy filled = 18
-find_refusal true true false filled = 19
-find_refusal true true true false = 18
-find_refusal true true true true = 0
+-- the first that fails gives its error
+unfoldable pub find_refusal : (marked sized lossy filled : Bool) → Option FindError
+find_refusal false sized lossy filled = Some F.NotWebp
+find_refusal true false lossy filled = Some F.WrongSize
+find_refusal true true false filled = Some F.NotLossy
+find_refusal true true true false = Some F.WrongSize
+find_refusal true true true true = None
 
--- the reader's number, 0 where no test fails
-abbrev pub found_refusal : List ℕ → ℕ
+-- the reader's error, if a test fails
+abbrev pub found_refusal : List ℕ → Option FindError
 found_refusal s = find_refusal (marked_of s) (sized_of s) (lossy_of s) (filled_of s)
 
+-- a frame's place and length
+abbrev pub found_at : ℕ → ℕ → Found
+found_at start len = record { start = start; len = len }
+
 -- THE READER: the frame is the chunk's payload
-unfoldable pub find_of : List ℕ → Found
-find_of s = elim (eqb (found_refusal s) 0) [ true ↦ F.At 20 (chunk_size s) | false ↦ F.Refused (found_refusal s) ]
+unfoldable pub find_of : List ℕ → Result Found FindError
+find_of s = elim (found_refusal s) [ None ↦ Ok (found_at 20 (chunk_size s)) | Some e ↦ Err e ]
 
 -- ---- the writer
 pub record WriteEnded : Type 0 where
-  pub answer : WrapAnswer
+  pub answer : Result ℕ WrapError
   pub out : List ℕ
 
--- a file at the start of the room, what lies behind it unchanged; 16 where the room is too small
+-- a file at the start of the room, what lies behind it unchanged; NoRoom, 16, where the room is too small
 unfoldable pub written_into : List ℕ → List ℕ → WriteEnded
 written_into file out =
     elim (leb (length file) (length out)) [
-      | true ↦ record { answer = W.Written (length file); out = file ++ drop (length file) out }
-      | false ↦ record { answer = W.Refused 16; out = out }
+      | true ↦ record { answer = Ok (length file); out = file ++ drop (length file) out }
+      | false ↦ record { answer = Err W.NoRoom; out = out }
     ]
 
--- THE WRITER; 18 where the RIFF size would pass its most
+-- THE WRITER; TooLong, 18, where the RIFF size would pass its most
 unfoldable pub wrap_of : List ℕ → List ℕ → WriteEnded
 wrap_of frame out =
     elim (leb (riff_size (length frame)) most_size) [
       | true ↦ written_into (file_of frame) out
-      | false ↦ record { answer = W.Refused 18; out = out }
+      | false ↦ record { answer = Err W.TooLong; out = out }
     ]
 
 -- ---- as numbers and values
-abbrev pub found_number_of : Found → ℕ
-found_number_of (F.At start len) = 0
-found_number_of (F.Refused n) = n
+-- the number of a refusal of the reader
+abbrev pub find_error_number : FindError → ℕ
+find_error_number F.NotWebp = 17
+find_error_number F.WrongSize = 18
+find_error_number F.NotLossy = 19
+
+-- the reader's number; 0 where a frame is found
+abbrev pub found_number_of : Result Found FindError → ℕ
+found_number_of (Ok f) = 0
+found_number_of (Err e) = find_error_number e
 
 -- where the frame starts; 0 after a refusal
-abbrev pub found_start_of : Found → ℕ
-found_start_of (F.At start len) = start
-found_start_of (F.Refused n) = 0
+abbrev pub found_start_of : Result Found FindError → ℕ
+found_start_of (Ok f) = f.start
+found_start_of (Err e) = 0
 
 -- how long it is; 0 after a refusal
-abbrev pub found_length_of : Found → ℕ
-found_length_of (F.At start len) = len
-found_length_of (F.Refused n) = 0
+abbrev pub found_length_of : Result Found FindError → ℕ
+found_length_of (Ok f) = f.len
+found_length_of (Err e) = 0
 
--- the writer's number
-abbrev pub wrapped_number_of : WrapAnswer → ℕ
-wrapped_number_of (W.Written n) = 0
-wrapped_number_of (W.Refused n) = n
+-- the number of a refusal of the writer
+abbrev pub wrap_error_number : WrapError → ℕ
+wrap_error_number W.NoRoom = 16
+wrap_error_number W.TooLong = 18
+
+-- the writer's number; 0 where a file is written
+abbrev pub wrapped_number_of : Result ℕ WrapError → ℕ
+wrapped_number_of (Ok n) = 0
+wrapped_number_of (Err e) = wrap_error_number e
 
 -- the bytes written; 0 after a refusal
-abbrev pub wrapped_length_of : WrapAnswer → ℕ
-wrapped_length_of (W.Written n) = n
-wrapped_length_of (W.Refused n) = 0
+abbrev pub wrapped_length_of : Result ℕ WrapError → ℕ
+wrapped_length_of (Ok n) = n
+wrapped_length_of (Err e) = 0

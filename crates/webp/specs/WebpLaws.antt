@@ -1,9 +1,9 @@
 -- Both ways: a written file is found, and a found file is the one that would be written.
 use Rattle.std.specs.Prelude.{◌+◌, ◌*◌, ◌/◌, ◌%◌, ◌≤◌, ◌<◌, ◌≡◌, ◌&&◌, ◌∷◌, ◌++◌}
-use Rattle.numbers.specs.Words.{ℕ, div-add-mod, div-div-eq-div-mul, mod-eq_of_lt, arith, refl, sym, ◌∙◌, ap, Bool, true, inl, inr, ⊎_elim, eqb, leb, eq_or, both_left, both_right, both_true, eq-eqb, eqb-true, List, [], append_assoc, length, get_or, take, drop, length-append, length-drop, take-append-drop, drop-drop, get_or-append-add, get_or-drop, get_or-take, length-take-le, take-append_seam, ◌∷≡◌, build_listed, built, get_or_constant, constant, byte_at}
+use Rattle.numbers.specs.Words.{ℕ, Option, Some, None, Ok, div-add-mod, div-div-eq-div-mul, mod-eq_of_lt, arith, refl, sym, ◌∙◌, ap, Bool, true, ⊎_elim, eqb, leb, eq_or, both_left, both_right, both_true, eq-eqb, eqb-true, List, [], append_assoc, length, get_or, take, drop, length-append, length-drop, take-append-drop, drop-drop, get_or-append-add, get_or-drop, get_or-take, length-take-le, take-append_seam, ◌∷≡◌, build_listed, built, get_or_constant, constant, byte_at}
 pub use Rattle.numbers.specs.Lists.{Bytes}
-use Rattle.webp.specs.declared.read.Found.TheVariants as F
-use Rattle.webp.specs.Webp.{uint32_at, uint32_of, riff, webp, vp8, four_cc_at, pad_of, riff_size, file_of, marked_of, sized_of, lossy_of, chunk_size, filled_of, found_refusal, find_of}
+use Rattle.webp.specs.declared.read.FindError.{FindError}
+use Rattle.webp.specs.Webp.{uint32_at, uint32_of, riff, webp, vp8, four_cc_at, pad_of, riff_size, file_of, marked_of, sized_of, lossy_of, chunk_size, filled_of, found_refusal, found_at, find_of, found_start_of, found_length_of}
 use Rattle.webp.specs.ReadLaws.{Fits, fits, four_cc_long, sized_long, filled_even, filled_pad, refusal_none, find_good, find_bad}
 use Rattle.webp.specs.WriteLaws.{head_of, head_length, file_parts, file_length}
 
@@ -67,9 +67,9 @@ module _ (frame : List ℕ) (fits : length frame ≤ 4294967274) where
       (λ e. sym (filled_pad (file_of frame) l (sym file_size) (sym (file_length frame)) e) ∙ eq-eqb _ _ file_behind)
       (eq_or (length frame % 2) 0)
 
-  pub file_found : find_of (file_of frame) ≡ F.At 20 (length frame)
+  pub file_found : find_of (file_of frame) ≡ Ok (found_at 20 (length frame))
   file_found =
-      sym (find_good (file_of frame) (sym (refusal_none _ _ _ _ file_marked file_sized file_lossy file_filled))) ∙ ap (F.At 20) file_size
+      sym (find_good (file_of frame) (sym (refusal_none _ _ _ _ file_marked file_sized file_lossy file_filled))) ∙ ap (λ n. Ok (found_at 20 n)) file_size
 
   pub file_frame : take (length frame) (drop 20 (file_of frame)) ≡ frame
   unfolding file_of
@@ -135,18 +135,14 @@ pub record Place (s : List ℕ) (start len : ℕ) : Type 0 where
   pub size : len ≡ chunk_size s
   pub fits : Fits s
 
-pub found : (s : List ℕ) {start len : ℕ} → find_of s ≡ F.At start len → Place s start len
-found s {start} {len} e = elim (eq_or (found_refusal s) 0) [
-  | inl z ↦
-      let g = find_good s z in
-      record { first = cc; size = cc; fits = fits s z }
-  | inr z ↦
-      let g = find_bad s z in
-      let w : ◌≡◌ {A = ℕ} 0 1 = cc in
-      absurd (omega arith)
-]
+pub found : (s : List ℕ) {start len : ℕ} → find_of s ≡ Ok (found_at start len) → Place s start len
+found s {start} {len} e = go (found_refusal s) refl
+  where
+    go : (r : Option FindError) → found_refusal s ≡ r → Place s start len
+    go None z = let g = find_good s z in record { first = ap found_start_of (sym (g ∙ e)); size = ap found_length_of (sym (g ∙ e)); fits = fits s z }
+    go (Some w) z = let g = find_bad s z in absurd cc
 
-module _ (s : List ℕ) {start len : ℕ} (e : find_of s ≡ F.At start len) where
+module _ (s : List ℕ) {start len : ℕ} (e : find_of s ≡ Ok (found_at start len)) where
   pub found_length : length s ≡ 20 + length (take len (drop start s)) + length (take len (drop start s)) % 2
   found_length =
       let p = found s e in

@@ -1,25 +1,15 @@
 -- The writer's laws: the parts of a file stored one behind the other, the answer as the code finds it, and what an answer says.
-use Rattle.std.specs.Prelude.{◌+◌, ◌-◌, ◌/◌, ◌%◌, ◌≤◌, ◌<◌, ◌≡◌, ◌⊎◌, ◌∷◌, ◌++◌}
-use Rattle.numbers.specs.Words.{ℕ, zero, suc, arith, refl, sym, ◌∙◌, ap, subst, inl, inr, ⊎_elim, lt_or, le-leb, lt-leb, List, [], append_assoc, append-nil, length, take, drop, replicate, drop_of_length-le, length-append, length-drop, length-replicate, drop-append-add, drop-drop, take_all, take-append_seam, take-length}
-use Rattle.webp.specs.declared.write.WrapAnswer.TheVariants as W
-use Rattle.webp.specs.Webp.{WrapAnswer, pad_of, riff_size, most_size, file_of, WriteEnded, written_into, wrap_of}
+use Rattle.std.specs.Prelude.{◌+◌, ◌-◌, ◌%◌, ◌≤◌, ◌<◌, ◌≡◌, ◌⊎◌, ◌∷◌, ◌++◌}
+use Rattle.numbers.specs.Words.{ℕ, zero, suc, Result, Ok, Err, arith, refl, sym, ◌∙◌, ap, subst, inl, inr, ⊎_elim, lt_or, le-leb, lt-leb, List, [], append_assoc, length, take, drop, replicate, length-append, length-replicate, drop-append-add, drop-drop, take-append_seam}
+use Rattle.webp.specs.declared.write.WrapError.TheVariants as W
+use Rattle.webp.specs.Webp.{WrapError, pad_of, riff_size, most_size, file_of, WriteEnded, written_into, wrap_of}
 unfoldable pub use Rattle.webp.specs.Write.{head_of, laid}
 
--- ---- twenty bytes before a frame of n
-pub head_is : (n : ℕ) {a b c d e f g h : ℕ} → a ≡ riff_size n % 256 → b ≡ riff_size n / 256 % 256 → c ≡ riff_size n / 65536 % 256 → d ≡ riff_size n / 16777216 % 256
-    → e ≡ n % 256 → f ≡ n / 256 % 256 → g ≡ n / 65536 % 256 → h ≡ n / 16777216 % 256
-    → 82 ∷ 73 ∷ 70 ∷ 70 ∷ a ∷ b ∷ c ∷ d ∷ 87 ∷ 69 ∷ 66 ∷ 80 ∷ 86 ∷ 80 ∷ 56 ∷ 32 ∷ e ∷ f ∷ g ∷ h ∷ [] ≡ head_of n
-unfolding head_of
-head_is n p q r t u v w x = rw (p, q, r, t, u, v, w, x)
-
 -- ---- stores one behind the other
--- the same as the code finds it: b copied over the front of what follows the place
-pub laid_is : (out : List ℕ) (at : ℕ) (b : List ℕ) {y : List ℕ} → at + length b ≤ length out → y ≡ take (length b) b ++ drop (length b) (take (length out - at) (drop at out))
-    → take at out ++ (y ++ drop (length out - at) (drop at out)) ≡ laid out at b
+-- the same as the code finds it: b in the place of as many
+pub laid_is : (out : List ℕ) (at : ℕ) (b : List ℕ) {y : List ℕ} → y ≡ b → take at out ++ (y ++ drop (at + length b - at) (drop at out)) ≡ laid out at b
 unfolding laid
-laid_is out at b h e =
-    let l : length (drop at out) ≤ length out - at = rw length-drop (omega arith) in
-    rw (e, take-length b, take_all (length out - at) (drop at out) l, drop_of_length-le (drop at out) l, append-nil, drop-drop)
+laid_is out at b e = let k : at + length b - at ≡ length b = omega arith in rw (e, k, drop-drop)
 
 -- behind a, where a ends
 laid_on : (a d b : List ℕ) (at : ℕ) → length a ≡ at → laid (a ++ d) at b ≡ a ++ b ++ drop (length b) d
@@ -61,7 +51,7 @@ file_laid frame out =
 
 -- ---- the writer's answer, as the code finds it
 module _ (frame out : List ℕ) where
-  pub wrap_long : 4294967274 < length frame → record { answer = W.Refused 18; out = out } ≡ wrap_of frame out
+  pub wrap_long : 4294967274 < length frame → record { answer = Err W.TooLong; out = out } ≡ wrap_of frame out
   unfolding wrap_of
   wrap_long h = let l : 4294967286 < riff_size (length frame) = omega arith in rw (lt-leb _ _ l, wrap_of)
 
@@ -69,17 +59,17 @@ module _ (frame out : List ℕ) where
   unfolding wrap_of
   wrap_fits h = let l : riff_size (length frame) ≤ 4294967286 = omega arith in rw (le-leb _ _ l, wrap_of)
 
-  pub wrap_small : length frame ≤ 4294967274 → length out < 20 + length frame + length frame % 2 → record { answer = W.Refused 16; out = out } ≡ wrap_of frame out
+  pub wrap_small : length frame ≤ 4294967274 → length out < 20 + length frame + length frame % 2 → record { answer = Err W.NoRoom; out = out } ≡ wrap_of frame out
   unfolding written_into
   wrap_small h k = let l : length out < length (file_of frame) = rw (file_length frame) k in rw (wrap_fits h, lt-leb _ _ l, written_into)
 
-  pub wrap_good : length frame ≤ 4294967274 → 20 + length frame + length frame % 2 ≤ length out → record { answer = W.Written (20 + length frame + length frame % 2); out = file_of frame ++ drop (length (file_of frame)) out } ≡ wrap_of frame out
+  pub wrap_good : length frame ≤ 4294967274 → 20 + length frame + length frame % 2 ≤ length out → record { answer = Ok (20 + length frame + length frame % 2); out = file_of frame ++ drop (length (file_of frame)) out } ≡ wrap_of frame out
   unfolding written_into
   wrap_good h k = let l : length (file_of frame) ≤ length out = rw (file_length frame) k in rw (wrap_fits h, le-leb _ _ l, written_into, file_length frame)
 
   pub wrap_laid : {a b c d : List ℕ} → length frame ≤ 4294967274 → 20 + length frame + length frame % 2 ≤ length out
       → a ≡ head_of (length frame) → b ≡ laid out 0 a → c ≡ laid b 20 frame → d ≡ laid c (20 + length frame) (take (length frame % 2 - 0) (0 ∷ []))
-      → record { answer = W.Written (20 + length frame + length frame % 2); out = d } ≡ wrap_of frame out
+      → record { answer = Ok (20 + length frame + length frame % 2); out = d } ≡ wrap_of frame out
   wrap_laid {d} h k e f g t =
       let w : d ≡ file_of frame ++ drop (length (file_of frame)) out = rw (t, pad_is (length frame), g, f, e) (file_laid frame out) in
       rw w (wrap_good h k)
@@ -91,14 +81,14 @@ pub record Whole (frame out : List ℕ) (n : ℕ) (after : List ℕ) : Type 0 wh
   pub count : n ≡ length (file_of frame)
   pub holds : after ≡ file_of frame ++ drop n out
 
-pub record Not (frame out : List ℕ) (n : ℕ) (after : List ℕ) : Type 0 where
-  pub why : ((n ≡ 18) × (most_size < riff_size (length frame))) ⊎ ((n ≡ 16) × (riff_size (length frame) ≤ most_size) × (length out < length (file_of frame)))
+pub record Not (frame out : List ℕ) (e : WrapError) (after : List ℕ) : Type 0 where
+  pub why : ((e ≡ W.TooLong) × (most_size < riff_size (length frame))) ⊎ ((e ≡ W.NoRoom) × (riff_size (length frame) ≤ most_size) × (length out < length (file_of frame)))
   pub same : after ≡ out
 
 module _ (frame out : List ℕ) where
-  abbrev Said : WrapAnswer → List ℕ → Type 0
-  Said (W.Written n) after = Whole frame out n after
-  Said (W.Refused n) after = Not frame out n after
+  abbrev Said : Result ℕ WrapError → List ℕ → Type 0
+  Said (Ok n) after = Whole frame out n after
+  Said (Err e) after = Not frame out e after
 
   said : (e : WriteEnded) → e ≡ wrap_of frame out → Said e.answer e.out → Said (wrap_of frame out).answer (wrap_of frame out).out
   said e p = subst (λ (r : WriteEnded). Said r.answer r.out) p
@@ -114,8 +104,8 @@ module _ (frame out : List ℕ) where
       (lt_or (length out) (20 + length frame + length frame % 2)))
       (lt_or 4294967274 (length frame))
 
-  pub written : {n : ℕ} {after : List ℕ} → wrap_of frame out ≡ record { answer = W.Written n; out = after } → Whole frame out n after
+  pub written : {n : ℕ} {after : List ℕ} → wrap_of frame out ≡ record { answer = Ok n; out = after } → Whole frame out n after
   written e = subst (λ (r : WriteEnded). Said r.answer r.out) e wrap_said
 
-  pub not_written : {n : ℕ} {after : List ℕ} → wrap_of frame out ≡ record { answer = W.Refused n; out = after } → Not frame out n after
+  pub not_written : {w : WrapError} {after : List ℕ} → wrap_of frame out ≡ record { answer = Err w; out = after } → Not frame out w after
   not_written e = subst (λ (r : WriteEnded). Said r.answer r.out) e wrap_said
