@@ -6,10 +6,6 @@ use casefile::run::run;
 use std::io;
 use std::io::Read;
 
-fn show(rt: &impl Print, n: u64) -> io::Result<()> {
-    print!(rt; " {n}")
-}
-
 // One byte more than the longest case file.
 fn buffer() -> [u8; 65537] {
     [0; 65537]
@@ -21,10 +17,5 @@ fn main(rt: HostRuntime) -> io::Result<()> {
     let n = io::copy(&mut rt.reader().take(65537), &mut &mut file[..])?.min(65537) as usize;
     let r = run(&file[..n]);
     let sums = r.sums;
-    print!(rt; "{}", r.number)?;
-    show(&rt, r.k as u64)?;
-    show(&rt, sums.y as u64)?;
-    show(&rt, sums.u as u64)?;
-    show(&rt, sums.v as u64)?;
-    print!(rt; "\n")
+    println!(rt; "{} {} {} {} {}", r.number, r.k, sums.y, sums.u, sums.v)
 }

@@ -70,7 +70,7 @@ slot_of s i = elim (ltb i (case_count s)) [ true ↦ partition_at s (i + 1) | fa
 unfoldable pub case_spans : List ℕ → List Span
 case_spans s = build 8 (slot_of s)
 
--- ---- well_formed_lem: version 1, as long as the file says, no byte missing or left over; at most 64 KiB, and no side over 64
+-- ---- well-formed: version 1, as long as the file says, no byte missing or left over; at most 64 KiB, and no side over 64
 unfoldable pub case_whole : List ℕ → Bool
 case_whole s = leb (2206 + 4 * case_count s) (length s) && eqb (start_at s (case_count s + 1)) (length s)
 

@@ -1,4 +1,4 @@
--- What a well_formed_lem file has, and the laws of its parts.
+-- What a well-formed file has, and the laws of its parts.
 use Rattle.std.specs.Prelude.{◌+◌, ◌*◌, ◌≤◌, ◌<◌, ◌≡◌, ◌&&◌, ◌-ℤ◌}
 use Rattle.numbers.specs.Words.{ℕ, add-one, arith, refl, ◌∙◌, ap, subst, true, false, ⊎_elim, eqb, leb, lt_or, both_left, both_right, le-leb, le-ltb, leb-true, lt-leb, lt-ltb, List, length, byte_at, ℤ, pos, negsuc, In, Know, num, plainly, round, know_sub, wider, unsigned_below, answered, w32}
 use Rattle.reader.specs.declared.boolean.Reader.{Reader}
@@ -19,7 +19,7 @@ module _ (s : List ℕ) where
   unfolding start_at
   start_next i = rw (add-one i)
 
--- ---- well_formed_lem
+-- ---- well-formed
 module _ (s : List ℕ) where
   pub not_whole : length s < 2206 + 4 * case_count s → false ≡ case_whole s
   unfolding case_whole

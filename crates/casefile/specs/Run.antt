@@ -43,7 +43,7 @@ report_of e = record {
   hashes = hashes_of e.mem;
 }
 
--- what is told of a file that is not well_formed_lem: 10, and zeros
+-- what is told of a file that is not well-formed: 10, and zeros
 abbrev pub malformed_ran : Ran
 malformed_ran = record {
   number = 10;
@@ -52,6 +52,6 @@ malformed_ran = record {
   hashes = record { y = 0; u = 0; v = 0; columns = 0; modes = 0; strengths = 0 };
 }
 
--- THE RUN of a file's bytes: the picture call where it is well_formed_lem
+-- THE RUN of a file's bytes: the picture call where it is well-formed
 unfoldable pub ran_of : List ℕ → Ran
 ran_of s = elim (well_formed_of s) [ true ↦ report_of (picture_of (given_of s) (lent_of (case_width s) (case_height s))) | false ↦ malformed_ran ]

@@ -8,17 +8,11 @@ use reader::boolean::open;
 use tile::partitions::part;
 use tile::{Span, Tile};
 
-fn wide(x: u8) -> usize
-    ensures { (result ≡ x) × (result < 256) }
-{
-    x as usize
-}
-
 fn byte(file: &[u8], at: usize) -> usize
     requires { at < length file.now }
     ensures { (result ≡ byte_at file.now at) × (result < 256) }
 {
-    wide(file[at])
+    usize::from(file[at])
 }
 
 fn half(file: &[u8], at: usize) -> usize
@@ -73,10 +67,8 @@ pub(crate) fn header(file: &[u8]) -> [i32; 1096]
     ensures { result ≡ case_header file.now }
 {
     let mut h = [0; 1096];
-    let mut i = 0;
-    while i < 1096 {
+    for i in 0..1096 {
         h[i] = signed(half(file, 10 + 2 * i));
-        i = i + 1;
     }
     h
 }
@@ -95,10 +87,8 @@ fn start_at(file: &[u8], i: usize) -> usize
     ensures { result ≡ start_at file.now i }
 {
     let mut at = 2206 + 4 * count(file);
-    let mut j = 0;
-    while j < i {
-        at = at + length_at(file, j);
-        j = j + 1;
+    for j in 0..i {
+        at += length_at(file, j);
     }
     at
 }
@@ -158,10 +148,8 @@ fn spans(file: &[u8]) -> [Span; 8]
 {
     let mut all = [Span { start: 0, len: 0 }; 8];
     let n = count(file);
-    let mut i = 0;
-    while i < 8 {
+    for i in 0..8 {
         all[i] = slot(file, n, i);
-        i = i + 1;
     }
     all
 }
@@ -173,7 +161,7 @@ pub(crate) fn tile_of(file: &[u8]) -> Tile
 {
     let first = span_at(file, 0);
     Tile {
-        first: first,
+        first,
         tokens: spans(file),
         reader: open(part(file, first)),
         count: count(file),

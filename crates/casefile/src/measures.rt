@@ -2,21 +2,13 @@
 ghost use Rattle.std.specs.Prelude.{◌≡◌, ◌*◌, ◌%◌, ◌≤◌, length};
 ghost use Rattle.casefile.specs.Measures.{sum_of, fnv_of, fnv_step};
 
-fn wide(x: u8) -> u32
-    ensures { (result ≡ x) × (result ≤ 255) }
-{
-    x as u32
-}
-
 pub(crate) fn sum(mem: &[u8]) -> u32
     requires { length mem.now ≤ 4096 }
     ensures { result ≡ sum_of mem.now }
 {
     let mut s = 0;
-    let mut i = 0;
-    while i < mem.len() {
-        s = s + wide(mem[i]);
-        i = i + 1;
+    for x in mem {
+        s += u32::from(*x);
     }
     s
 }
@@ -35,7 +27,7 @@ fn times(x: u64) -> u64
 fn step(h: u64, byte: u8) -> u64
     ensures { result ≡ fnv_step h byte }
 {
-    times(h ^ (byte as u64))
+    times(h ^ u64::from(byte))
 }
 
 // FNV-1a of 64 bits.
@@ -43,10 +35,8 @@ pub(crate) fn hash(mem: &[u8]) -> u64
     ensures { result ≡ fnv_of mem.now }
 {
     let mut h = 14695981039346656037;
-    let mut i = 0;
-    while i < mem.len() {
-        h = step(h, mem[i]);
-        i = i + 1;
+    for x in mem {
+        h = step(h, *x);
     }
     h
 }

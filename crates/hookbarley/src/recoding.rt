@@ -22,8 +22,8 @@ fn result_of(tile: &[usize], r: Recoded) -> [usize; 28]
     numbers(r.tile, shown, tile[4])
 }
 
-// As `hookbarley_decode`, then the tile with one token partition at the start of `out`, and its 28 numbers in `result`. 9 where `tile` or
-// `result` is not 28 numbers.
+// As `hookbarley_decode`, then the tile with one token partition at the start of `out`, and its 28 numbers in `res`. 9 where `tile` or
+// `res` is not 28 numbers.
 pub fn hookbarley_recode(
     bytes: &[u8],
     header: &[i32],

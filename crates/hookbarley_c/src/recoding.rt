@@ -3,8 +3,8 @@ ghost use Rattle.std.specs.Prelude.{◌≡◌};
 ghost use Rattle.lent.specs.Memory.{memory_of};
 ghost use Rattle.hookbarley.specs.Calls.{recode_numbers, recode_called_of};
 
-// As `hookbarley_decode`, then the tile with one token partition at the start of `out`, and its 28 numbers in `result`. 9 where `tile` or
-// `result` is not 28 numbers.
+// As `hookbarley_decode`, then the tile with one token partition at the start of `out`, and its 28 numbers in `res`. 9 where `tile` or
+// `res` is not 28 numbers.
 #[unsafe(no_mangle)]
 pub extern "C" fn hookbarley_recode(
     bytes: &[u8],

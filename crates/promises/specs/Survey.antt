@@ -24,7 +24,7 @@ pub record SurveyAnswers (c : Call) (m : Memory) (l : List ℕ) : Type 0 where
   pub full_only : (survey_of c m l).answer.number ≡ 15 → (length l ≡ 37) × Passed l (added_of c m) 37
 
 -- THE PROMISE of what one call counts: its answer once; of the macroblocks that it finished, by what their records in the mode and strength
--- memory that it left say, how many have the value x; of the small ones the sub_blocks_lem with mode x; its symbols
+-- memory that it left say, how many have the value x; of the small ones the sub-blocks with mode x; its symbols
 pub record CallCounts (c : Call) (m : Memory) : Type 0 where
   pub answers : (x : ℕ) → x < 8 → get_or (added_of c m) x 0 ≡ same (number_of (picture_of c m).answer) x
   pub segments : (x : ℕ) → x < 4 → get_or (added_of c m) (8 + x) 0 ≡ how_many (done c m) (segment_at (picture_of c m).mem.modes) x
@@ -97,7 +97,7 @@ abbrev pub record_of_of : List PictureCall → List ℕ
 record_of_of xs = fold_from zeros xs
 
 -- THE PROMISE, 15 never given: the table of answers adds up to the calls; those by segment, luma mode, chroma mode, skip and inside byte each to
--- the macroblocks that the calls finished; the sub_blocks_lem to sixteen times the small ones, which also stand behind the large modes; the symbols
+-- the macroblocks that the calls finished; the sub-blocks to sixteen times the small ones, which also stand behind the large modes; the symbols
 -- are those that the calls report. And each place holds what the calls count there
 pub record Totals (xs : List PictureCall) : Type 0 where
   pub answers : total_of 0 8 (record_of_of xs) ≡ length xs

@@ -10,10 +10,6 @@ use std::io::Read;
 use std::rt::Files;
 use std::{fs, io, str};
 
-fn show(rt: &impl Print, n: u64) -> io::Result<()> {
-    print!(rt; " {n}")
-}
-
 fn show_hash(rt: &impl Print, h: u64) -> io::Result<()> {
     print!(rt; " {h:016x}")
 }
@@ -29,11 +25,7 @@ fn show_hashes(rt: &impl Print, h: Hashes) -> io::Result<()> {
 
 fn show_ran(rt: &impl Print, r: Ran) -> io::Result<()> {
     let sums = r.sums;
-    show(rt, r.number as u64)?;
-    show(rt, r.k as u64)?;
-    show(rt, sums.y as u64)?;
-    show(rt, sums.u as u64)?;
-    show(rt, sums.v as u64)?;
+    print!(rt; " {} {} {} {} {}", r.number, r.k, sums.y, sums.u, sums.v)?;
     if r.number != 10 {
         let hashes = r.hashes;
         show_hashes(rt, hashes)?;

@@ -9,20 +9,8 @@ use reader::boolean::open;
 use std::io;
 use transform::transform;
 
-fn magnitude(v: i32) -> u64 {
-    if v < 0 {
-        return (-(v as i64)) as u64;
-    }
-    v as u64
-}
-
 fn show(rt: &impl Print, v: i32) -> io::Result<()> {
-    if v < 0 {
-        print!(rt; " -")?;
-    } else {
-        print!(rt; " ")?;
-    }
-    print!(rt; "{}", magnitude(v))
+    print!(rt; " {v}")
 }
 
 fn show_sample(rt: &impl Print, x: u8) -> io::Result<()> {
@@ -67,17 +55,15 @@ fn edge(rt: &impl Print, simple: bool, macroblock: bool, limit: u8) -> io::Resul
 
 // A block's kind: Y2, then sixteen of luma, then chroma.
 fn kind(i: usize) -> usize {
-    if i == 0 {
-        return 1;
+    match i {
+        0 => 1,
+        1..=16 => 0,
+        _ => 2,
     }
-    if i < 17 {
-        return 0;
-    }
-    2
 }
 
 fn first(i: usize) -> usize {
-    if kind(i) == 0 { 1 } else { 0 }
+    usize::from(kind(i) == 0)
 }
 
 // The blocks of a macroblock that a token partition holds where every probability is 128: the number of the one that is refused.
@@ -85,16 +71,14 @@ fn held(s: &[u8]) -> usize {
     let table = [128u8; 1056];
     let mut out = [0; 16];
     let mut r = open(s);
-    let mut i = 0;
-    while i < 25 {
+    for i in 0..25 {
         let b = decode(s, r, &table, kind(i), 0, first(i), 1, 1, &mut out);
         let Ok((_, next)) = b.answer else {
             return i;
         };
         r = next;
-        i = i + 1;
     }
-    i
+    25
 }
 
 fn zeros(rt: &impl Print, s: &[u8]) -> io::Result<()> {

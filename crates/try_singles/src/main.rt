@@ -22,17 +22,11 @@ use std::io::Read;
 use whole::decode;
 
 // ---- numbers of two bytes
-fn wide(x: u8) -> usize
-    ensures { (result ≡ x) × (result < 256) }
-{
-    x as usize
-}
-
 fn pair(list: &[u8], at: usize) -> usize
     requires { at + 2 ≤ length list.now }
     ensures { (result ≡ get_or list.now at 0 * 256 + get_or list.now (at + 1) 0) × (result < 65536) }
 {
-    wide(list[at]) * 256 + wide(list[at + 1])
+    usize::from(list[at]) * 256 + usize::from(list[at + 1])
 }
 
 fn entry(a: u8, b: u8) -> i32
@@ -57,10 +51,10 @@ fn fill(p: &mut [u8], seed: u32)
     requires { seed ≤ 65537 }
     ensures { p.new ≡ samples_of (length p.old) seed }
 {
-    let mut x = seed;
-    for k in 0..p.len() {
-        x = (x * 75 + 74) % 65537;
-        p[k] = (x % 256) as u8;
+    let mut n = seed;
+    for x in p.iter_mut() {
+        n = (n * 75 + 74) % 65537;
+        *x = (n % 256) as u8;
     }
 }
 
@@ -68,17 +62,13 @@ fn sum(p: &[u8]) -> u64
     ensures { result ≡ sum_to p.now (length p.now) }
 {
     let mut s = 0;
-    for k in 0..p.len() {
-        s = (s * 257 + p[k] as u64) % 4294967291;
+    for x in p {
+        s = (s * 257 + u64::from(*x)) % 4294967291;
     }
     s
 }
 
 // ---- what is printed
-fn show(rt: &impl Print, n: u64) -> io::Result<()> {
-    print!(rt; " {n}")
-}
-
 fn digits(rt: &impl Print, l: &[u8]) -> io::Result<()> {
     for x in l {
         print!(rt; "{x}")?;
@@ -86,30 +76,18 @@ fn digits(rt: &impl Print, l: &[u8]) -> io::Result<()> {
     Ok(())
 }
 
-fn flag(b: bool) -> u64 {
-    if b { 1 } else { 0 }
-}
-
 fn show_strength(rt: &impl Print, t: Strength) -> io::Result<()> {
-    show(rt, t.limit as u64)?;
-    show(rt, t.inner as u64)?;
-    show(rt, t.threshold as u64)?;
-    show(rt, t.inside as u64)
+    print!(rt; " {} {} {} {}", t.limit, t.inner, t.threshold, t.inside)
 }
 
 fn show_kinds(rt: &impl Print, k: Kinds) -> io::Result<()> {
-    show(rt, k.segment as u64)?;
-    show(rt, flag(k.skip))?;
-    show(rt, flag(k.small))?;
-    show(rt, k.chroma as u64)
+    print!(rt; " {} {} {} {}", k.segment, u8::from(k.skip), u8::from(k.small), k.chroma)
 }
 
 fn show_context(rt: &impl Print, c: Context) -> io::Result<()> {
-    let modes = c.modes;
-    let flags = c.flags;
     print!(rt; " ")?;
-    digits(rt, &modes)?;
-    digits(rt, &flags)
+    digits(rt, &c.modes)?;
+    digits(rt, &c.flags)
 }
 
 fn number(f: Finish) -> u64
@@ -127,34 +105,22 @@ fn show_places(rt: &impl Print, f: Finish) -> io::Result<()> {
     let Finish::Done(readers) = f else {
         return print!(rt; " 0 0");
     };
-    show(rt, readers.first.at as u64)?;
-    show(rt, readers.token.at as u64)
+    print!(rt; " {} {}", readers.first.at, readers.token.at)
 }
 
 fn show_reads(rt: &impl Print, r: SymbolCounts) -> io::Result<()> {
-    show(rt, r.first)?;
-    show(rt, r.tokens)?;
-    print!(rt; "\n")
+    println!(rt; " {} {}", r.first, r.tokens)
 }
 
 fn show_outcome(rt: &impl Print, w: Outcome, y: &[u8], u: &[u8], v: &[u8]) -> io::Result<()> {
-    let answer = w.answer;
-    let strength = w.strength;
-    let kinds = w.kinds;
-    let modes = w.modes;
-    let top = w.top;
-    let left = w.left;
-    print!(rt; "{}", number(answer))?;
-    show(rt, sum(y))?;
-    show(rt, sum(u))?;
-    show(rt, sum(v))?;
-    show_strength(rt, strength)?;
-    show_kinds(rt, kinds)?;
+    print!(rt; "{} {} {} {}", number(w.answer), sum(y), sum(u), sum(v))?;
+    show_strength(rt, w.strength)?;
+    show_kinds(rt, w.kinds)?;
     print!(rt; " ")?;
-    digits(rt, &modes)?;
-    show_context(rt, top)?;
-    show_context(rt, left)?;
-    show_places(rt, answer)
+    digits(rt, &w.modes)?;
+    show_context(rt, w.top)?;
+    show_context(rt, w.left)?;
+    show_places(rt, w.answer)
 }
 
 // ---- the cases
@@ -189,13 +155,10 @@ fn one(
     fill(&mut v, seed + 2);
     let top = context(&case[8..21]);
     let left = context(&case[21..34]);
-    let around = Around {
-        top: top,
-        left: left,
-    };
+    let around = Around { top, left };
     let place = Place {
-        column: wide(case[0]),
-        row: wide(case[1]),
+        column: usize::from(case[0]),
+        row: usize::from(case[1]),
         width: 48,
     };
     let read = decode(
@@ -224,6 +187,7 @@ fn opened(
 
 fn cases(rt: &impl Print, list: &[u8], frame: Frame, table: &[u8]) -> io::Result<()> {
     let mut at = 0;
+    // Stays a while: each case is as long as it says.
     while 34 <= list.len() - at {
         let from = at + 34;
         let middle = from + pair(list, at + 4);

@@ -67,7 +67,7 @@ modes_reached = ap (λ (c : SymbolCounts). c.first) (cost_good many_modes (held_
 pub tokens_reached : (cost_of many_tokens (held_of 1 7)).tokens ≡ 7296
 tokens_reached = ap (λ (c : SymbolCounts). c.tokens) (cost_good many_tokens (held_of 1 7) (sym fines.1) refl ∙ one_reads (pictured_of many_tokens) (begun_of many_tokens (held_of 1 7))) ∙ computed.1
 
--- ---- a survey of a whole tile: one picture of answer 0, two small macroblocks, 32 sub_blocks_lem of the first mode
+-- ---- a survey of a whole tile: one picture of answer 0, two small macroblocks, 32 sub-blocks of the first mode
 pub surveyed_whole : let e = survey_of (whole 0) (held_of 2 7) (replicate 37 0) in
     (e.answer.number ≡ 0) × (get_or e.counts 0 0 ≡ 1) × (get_or e.counts 16 0 ≡ 2) × (get_or e.counts 25 0 ≡ 32)
 unfolding survey_of add_of fits_to sum_of tallied_of sum_to same luma_of sub_blocks told_of picture_of cost_of reads_from reads_at reads_of count trace record_found slowed inner_of threshold_of strength_of_of strength_answer refusal_of failed sides_of side_of count_of entries_of fine_to lengths_of sizes_fine_of long_of partitions_of inside_of tokens_fine valid_of build up_to clamp_z placed copied wrap_z announced_of frame_of segmented_of delta_of level_of_of factors_of_of dc_steps ac_steps symbol_of split_of grow decided_of run extra_from walk step eleven_at probabilities rfc_table modes_of prefix segment skip mode_above_of mode_left_of small_from small_modes_of categories bases magnitude signed_value bands zigzag probability_place quantizer_at context_after block_from header_table coordinates kind_of spread second sixteen_at advance blocks_from residual_of record_at record_set packed_of digits_of end_of step_of contents_of span_at_of pick_of reader_of_of readers_of beside_of step_at run_of near_of four_above_of four_left_of first_places edge_of above_right_of block_above_right_of around_of rows_painted block_coefficients block_residual summed_of block_painted blocks_painted small_at prediction_rule square_painted dc_block_of sum_of_first grid_of transpose_of scaled_of pass_of rows_of vertical_pass horizontal_pass results_of samples_of

@@ -1,5 +1,5 @@
 use Rattle.casefile.specs.CaseFileLaws.{entry_stored}
-use Rattle.numbers.specs.Words.{◌-◌, refl, filled_none, filled_next, filled_all, rules}
+use Rattle.numbers.specs.Words.{refl, filled_none, filled_next, filled_all, rules}
 use Rattle.casefile.specs.CaseFile.{case_header}
 use Rattle.casefile.proofs.layout.header.Goals as goal
 

@@ -1,9 +1,6 @@
-use Rattle.numbers.specs.Words.{◌-◌, Filled}
+use Rattle.numbers.specs.Words.{Filled}
 use Rattle.casefile.specs.CaseFile.{entry_at}
 use Rattle.casefile.proofs.layout.header.Given as goal
 
 abbrev pub invariant-loop-i : goal.invariant-loop-i
 invariant-loop-i l = Filled l.h 1096 (entry_at l.file) l.i
-
-abbrev pub decreases-loop-i : goal.decreases-loop-i
-decreases-loop-i l = 1096 - l.i

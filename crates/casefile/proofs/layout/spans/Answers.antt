@@ -1,4 +1,4 @@
-use Rattle.numbers.specs.Words.{◌-◌, refl, filled_none, filled_next, filled_all, rules}
+use Rattle.numbers.specs.Words.{refl, filled_none, filled_next, filled_all, rules}
 use Rattle.casefile.specs.CaseFile.{case_spans}
 use Rattle.casefile.proofs.layout.spans.Goals as goal
 
