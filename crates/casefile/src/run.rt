@@ -7,7 +7,7 @@ ghost use Rattle.casefile.specs.Run.{lent_of, sum_after_of, report_of, malformed
 
 use crate::layout::{header, height, tile_of, well_formed, width};
 use crate::measures::{hash, sum};
-use choices::answer::Decoded;
+use choices::answer::{Decoded, finished, number};
 use lent::columns::COLUMN_WIDTH;
 use lent::macroblocks::{MODE_WIDTH, STRENGTH_WIDTH};
 use picture::decode;
@@ -81,10 +81,10 @@ fn report(
         (memory_of y.now u.now v.now
         columns.now modes.now strengths.now)) }
 {
-    let number = d.number();
+    let number = number(d);
     Ran {
-        number: number,
-        k: d.finished(),
+        number,
+        k: finished(d),
         sums: Sums {
             y: sum_after(number, y),
             u: sum_after(number, u),

@@ -1,6 +1,6 @@
 -- The small choices of a picture call.
 use Rattle.std.specs.Prelude.{◌≡◌, ◌&&◌, ◌∷◌}
-use Rattle.numbers.specs.Words.{ℕ, suc, Bool, true, false, eqb, List, [], length, ℤ, pos, negsuc, Each}
+use Rattle.numbers.specs.Words.{ℕ, zero, suc, Bool, true, false, eqb, List, [], length, ℤ, pos, negsuc, Each, Result, Ok, Err}
 use Rattle.header.specs.Header.{entry_count, entries_of}
 use Rattle.tile.specs.declared.Tile.{Tile}
 use Rattle.tile.specs.Tile.{sides_of, count_of, partitions_of}
@@ -8,8 +8,10 @@ use Rattle.lent.specs.Memory.{Form, packed, sizes_fine_of, Sized}
 use Rattle.lent.specs.declared.sizes.Sizes.{Sizes}
 use Rattle.macroblock.specs.declared.ending.Finish.{Finish}
 use Rattle.macroblock.specs.declared.ending.Finish.TheVariants as F
-use Rattle.choices.specs.declared.answer.Decoded.{Decoded}
-use Rattle.choices.specs.declared.answer.Decoded.TheVariants as D
+use Rattle.choices.specs.declared.answer.Refusal.{Refusal}
+use Rattle.choices.specs.declared.answer.Refusal.TheVariants as Refusal
+use Rattle.choices.specs.declared.answer.Stop.{Stop}
+use Rattle.choices.specs.declared.answer.Stop.TheVariants as Stop
 use Rattle.modes.specs.declared.contexts.Context.{Context}
 use Rattle.modes.specs.Modes.{empty_context}
 
@@ -65,28 +67,59 @@ checks_of c z =
 unfoldable pub refusal_of : Call → Sizes → ℕ
 refusal_of c z = failed 1 (checks_of c z)
 
+-- what the check of that number refuses
+abbrev pub named : ℕ → Refusal
+named (suc zero) = Refusal.Sides
+named (suc (suc zero)) = Refusal.Count
+named (suc (suc (suc zero))) = Refusal.Entries
+named (suc (suc (suc (suc zero)))) = Refusal.Memory
+named (suc (suc (suc (suc (suc zero))))) = Refusal.Partitions
+named _ = Refusal.Argument
+
+-- as a number again: 9 where a macroblock is refused what it is given
+abbrev pub refusal_number_of : Refusal → ℕ
+refusal_number_of Refusal.Sides = 1
+refusal_number_of Refusal.Count = 2
+refusal_number_of Refusal.Entries = 3
+refusal_number_of Refusal.Memory = 4
+refusal_number_of Refusal.Partitions = 5
+refusal_number_of Refusal.Argument = 9
+
+-- 0 as no refusal, the others by name
+abbrev pub told_by : ℕ → Result (Unit {0}) Refusal
+told_by zero = Ok tt
+told_by (suc n) = Err (named (suc n))
+
+-- the first of the five that fails
+abbrev pub checked_of : Call → Sizes → Result (Unit {0}) Refusal
+checked_of c z = told_by (refusal_of c z)
+
 -- ==== How a picture call ends, by number and macroblock.
+
+-- so many macroblocks, all that there are; or why it ended early
+abbrev pub Decoded : Type 0
+Decoded = Result ℕ Stop
 
 -- how the picture ends where macroblock k is not finished
 abbrev pub stopped_of : Finish → ℕ → Decoded
-stopped_of (F.Done readers) k = D.Whole k
-stopped_of F.NoModes k = D.NoModes k
-stopped_of F.NoTokens k = D.NoTokens k
-stopped_of F.Refused k = D.Refused 9
+stopped_of (F.Done readers) k = Ok k
+stopped_of F.NoModes k = Err (Stop.NoModes k)
+stopped_of F.NoTokens k = Err (Stop.NoTokens k)
+stopped_of F.Refused k = Err (Stop.Refused Refusal.Argument)
 
 -- ---- the answer as a number
 abbrev pub number_of : Decoded → ℕ
-number_of (D.Whole k) = 0
-number_of (D.Refused n) = n
-number_of (D.NoModes k) = 6
-number_of (D.NoTokens k) = 7
+number_of (Ok k) = 0
+number_of (Err (Stop.Refused r)) = refusal_number_of r
+number_of (Err (Stop.NoModes k)) = 6
+number_of (Err (Stop.NoTokens k)) = 7
 
 -- k: the macroblocks finished, 0 where an argument is refused
 abbrev pub values_of : Decoded → ℕ
-values_of (D.Whole k) = k
-values_of (D.Refused n) = 0
-values_of (D.NoModes k) = k
-values_of (D.NoTokens k) = k
+values_of (Ok k) = k
+values_of (Err (Stop.Refused r)) = 0
+values_of (Err (Stop.NoModes k)) = k
+values_of (Err (Stop.NoTokens k)) = k
 
 -- ==== What lies to the left of a macroblock.
 

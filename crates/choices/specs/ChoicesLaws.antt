@@ -1,6 +1,6 @@
 -- The laws of the small choices.
 use Rattle.std.specs.Prelude.{◌+◌, ◌≤◌, ◌<◌, ◌≡◌, ◌&&◌, ◌⊎◌, ◌∷◌, ◌≤ℤ◌}
-use Rattle.numbers.specs.Words.{ℕ, zero, suc, add-one, arith, refl, sym, Bool, true, false, inl, inr, ⊎_elim, eqb, lit<, lit≤, never, not_so, both_left, both_right, both_true, both_false, eq-eqb, eqb-true, ne_eqb, List, [], length, get_or, ℤ, pos, negsuc, lt_z, In, to_le, lt_parts}
+use Rattle.numbers.specs.Words.{ℕ, zero, suc, add-one, arith, refl, sym, ◌∙◌, ap, Bool, true, false, inl, inr, ⊎_elim, eqb, lit<, lit≤, never, not_so, both_left, both_right, both_true, both_false, eq-eqb, eqb-true, ne_eqb, List, [], length, get_or, ℤ, pos, negsuc, lt_z, In, to_le, lt_parts, Result, Ok, Err}
 use Rattle.reader.specs.declared.boolean.Reader.{Reader}
 use Rattle.reader.specs.ReadingLaws.{Bytes, Valid}
 use Rattle.header.specs.Header.{entry_count, entry, outside, fine_to, entries_of, header_of}
@@ -11,7 +11,8 @@ use Rattle.lent.specs.SizesLaws.{sizes_fact, sizes_test}
 use Rattle.tile.specs.Tile.{token_contents, readers_of, sides_of, count_of, partitions_of, Sides, Counted, Cut}
 use Rattle.tile.specs.PartitionsLaws.{readers_valid}
 use Rattle.tile.specs.ChecksLaws.{sides_fact, sides_test, count_fact, count_test, partitions_fact, partitions_test}
-use Rattle.choices.specs.Choices.{Call, call_in, Bounded, Lengths, lengths_of, failed, checks_of, refusal_of, beside_of}
+use Rattle.choices.specs.declared.answer.Refusal.{Refusal}
+use Rattle.choices.specs.Choices.{Call, call_in, Bounded, Lengths, lengths_of, failed, checks_of, refusal_of, named, refusal_number_of, told_by, checked_of, beside_of}
 use Rattle.modes.specs.declared.contexts.Context.{Context}
 use Rattle.modes.specs.Modes.{empty_context}
 
@@ -189,6 +190,43 @@ module _ (t : Call) (z : Sizes) where
   refused_partitions e =
       let f = fails 4 e in
       (sides_fact _ _ (f.before 0 (lit< tt)), count_fact _ (f.before 1 (lit< tt)), entries_each _ (f.before 2 (lit< tt)), lengths_fact _ _ (f.before 3 (lit< tt)), λ s. never (partitions_test _ _ s) f.there)
+
+-- ---- a check by its name
+pub named_number : (n : ℕ) → (n ≡ 0 → ⊥) → n ≤ 5 → refusal_number_of (named n) ≡ n
+named_number zero h l = absurd (h refl)
+named_number (suc zero) h l = refl
+named_number (suc (suc zero)) h l = refl
+named_number (suc (suc (suc zero))) h l = refl
+named_number (suc (suc (suc (suc zero)))) h l = refl
+named_number (suc (suc (suc (suc (suc zero))))) h l = refl
+named_number (suc (suc (suc (suc (suc (suc n)))))) h l = absurd (omega arith)
+
+-- what is told of the number n
+told_refused : (n : ℕ) {r : Refusal} → Err r ≡ told_by n → (n ≡ 0 → ⊥) × (r ≡ named n)
+told_refused zero e = cc
+told_refused (suc n) e = (λ z. omega arith, cc)
+
+told_passed : (n : ℕ) {u : Unit {0}} → Ok u ≡ told_by n → n ≡ 0
+told_passed zero e = refl
+told_passed (suc n) e = cc
+
+-- as the code finds it
+module _ (t : Call) (z : Sizes) where
+  pub refusal_named : (refusal_of t z ≡ 0 → ⊥) → refusal_number_of (named (refusal_of t z)) ≡ refusal_of t z
+  refusal_named h = named_number (refusal_of t z) h (refusal_most t z)
+
+  pub checks_passed : {u : Unit {0}} → Ok u ≡ checked_of t z → refusal_of t z ≡ 0
+  checks_passed e = told_passed (refusal_of t z) e
+
+  module _ {r : Refusal} (e : Err r ≡ checked_of t z) where
+    pub check_fails : refusal_of t z ≡ 0 → ⊥
+    check_fails = (told_refused (refusal_of t z) e).0
+
+    pub check_named : r ≡ named (refusal_of t z)
+    check_named = (told_refused (refusal_of t z) e).1
+
+    pub check_number : refusal_number_of r ≡ refusal_of t z
+    check_number = ap refusal_number_of check_named ∙ refusal_named check_fails
 
 -- ---- the two forms of column memory: where check 4 says the same, all checks do
 pub refusal_forms : (c : Call) (z s : Sizes) → sizes_fine_of packed c.tile.width c.tile.height z ≡ sizes_fine_of old c.tile.width c.tile.height s → refusal_of (call_in packed c) z ≡ refusal_of (call_in old c) s

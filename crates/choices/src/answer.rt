@@ -1,41 +1,67 @@
 // How a picture call ends.
 ghost use Rattle.std.specs.Prelude.{◌≡◌};
-ghost use Rattle.choices.specs.Choices.{number_of, values_of, stopped_of};
+ghost use Rattle.choices.specs.Choices.{refusal_number_of, number_of, values_of, stopped_of};
 
 use macroblock::ending::Finish;
 
-// How the picture call ended: every macroblock is finished; an argument was refused, 1 to 5; the first partition or a token
-// partition ran out in macroblock k.
-#[derive(Clone, Copy)]
-pub enum Decoded {
-    Whole(usize),
-    Refused(u32),
+// Why an argument is refused: what the five checks find, in their order; the last where a macroblock refuses what it is given.
+#[derive(Clone, Copy, Debug, PartialEq, Eq)]
+pub enum Refusal {
+    Sides,
+    Count,
+    Entries,
+    Memory,
+    Partitions,
+    Argument,
+}
+
+impl Refusal {
+    pub fn number(self) -> u32
+        ensures { result ≡ refusal_number_of self }
+    {
+        match self {
+            Refusal::Sides => 1,
+            Refusal::Count => 2,
+            Refusal::Entries => 3,
+            Refusal::Memory => 4,
+            Refusal::Partitions => 5,
+            Refusal::Argument => 9,
+        }
+    }
+}
+
+// Why a picture call ended early: an argument was refused; the first partition or a token partition ran out in macroblock k.
+#[derive(Clone, Copy, Debug, PartialEq, Eq)]
+pub enum Stop {
+    Refused(Refusal),
     NoModes(usize),
     NoTokens(usize),
 }
 
-impl Decoded {
-    pub fn number(self) -> u32
-        ensures { result ≡ number_of self }
-    {
-        match self {
-            Decoded::Whole(_) => 0,
-            Decoded::Refused(n) => n,
-            Decoded::NoModes(_) => 6,
-            Decoded::NoTokens(_) => 7,
-        }
-    }
+// How the picture call ended: every macroblock is finished, so many; or why not.
+pub type Decoded = Result<usize, Stop>;
 
-    // The macroblocks finished, 0 where an argument was refused.
-    pub fn finished(self) -> usize
-        ensures { result ≡ values_of self }
-    {
-        match self {
-            Decoded::Whole(k) => k,
-            Decoded::Refused(_) => 0,
-            Decoded::NoModes(k) => k,
-            Decoded::NoTokens(k) => k,
-        }
+// Its number: 0 where every macroblock is finished.
+pub fn number(answer: Decoded) -> u32
+    ensures { result ≡ number_of answer }
+{
+    match answer {
+        Ok(_) => 0,
+        Err(Stop::Refused(refusal)) => refusal.number(),
+        Err(Stop::NoModes(_)) => 6,
+        Err(Stop::NoTokens(_)) => 7,
+    }
+}
+
+// The macroblocks finished, 0 where an argument was refused.
+pub fn finished(answer: Decoded) -> usize
+    ensures { result ≡ values_of answer }
+{
+    match answer {
+        Ok(k) => k,
+        Err(Stop::Refused(_)) => 0,
+        Err(Stop::NoModes(k)) => k,
+        Err(Stop::NoTokens(k)) => k,
     }
 }
 
@@ -44,9 +70,9 @@ pub fn stopped(answer: Finish, k: usize) -> Decoded
     ensures { result ≡ stopped_of answer k }
 {
     match answer {
-        Finish::Done(_) => Decoded::Whole(k),
-        Finish::NoModes => Decoded::NoModes(k),
-        Finish::NoTokens => Decoded::NoTokens(k),
-        Finish::Refused => Decoded::Refused(9),
+        Finish::Done(_) => Ok(k),
+        Finish::NoModes => Err(Stop::NoModes(k)),
+        Finish::NoTokens => Err(Stop::NoTokens(k)),
+        Finish::Refused => Err(Stop::Refused(Refusal::Argument)),
     }
 }

@@ -3,8 +3,7 @@ use Rattle.std.specs.Prelude.{◌≡◌}
 use Rattle.numbers.specs.Words.{ℕ, sym, ◌∙◌, ap₂, eq-eqb, ne_eqb, List, length, ℤ, ap, zero, suc, refl, get_or, replicate}
 use Rattle.tile.specs.declared.Tile.{Tile}
 use Rattle.lent.specs.Memory.{Memory}
-use Rattle.choices.specs.Choices.{call_of, number_of, values_of}
-use Rattle.choices.specs.declared.answer.Decoded.{Decoded}
+use Rattle.choices.specs.Choices.{call_of, number_of, values_of, Decoded}
 use Rattle.picture.specs.Picture.{ended_of, picture_of, cost_of}
 use Rattle.macroblock.specs.declared.arguments.SymbolCounts.{SymbolCounts}
 use Rattle.boundary.specs.TileNumbers.{tile_of_numbers, numbers_of_tile, put_of, FieldsFit, shown_of_numbers}

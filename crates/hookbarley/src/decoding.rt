@@ -4,6 +4,7 @@ ghost use Rattle.lent.specs.Memory.{memory_of};
 ghost use Rattle.hookbarley.specs.Calls.{called_numbers, called_of};
 
 use boundary::tile_numbers::{TILE_NUMBERS, tile_of};
+use choices::answer;
 use picture::decode;
 use told::counts::tell_counts;
 
@@ -46,8 +47,8 @@ pub fn hookbarley_decode(
         modes,
         strengths,
     );
-    let answer = d.answer;
+    let ended = d.answer;
     let reads = d.reads;
-    tell_counts(answer.finished(), reads, finished, first_reads, token_reads);
-    answer.number()
+    tell_counts(answer::finished(ended), reads, finished, first_reads, token_reads);
+    answer::number(ended)
 }

@@ -7,6 +7,7 @@ ghost use Rattle.lent.specs.Memory.{memory_of};
 ghost use Rattle.macroblock.specs.Macroblock.{planes_of};
 ghost use Rattle.key_frame.specs.KeyFrame.{frame_planes, refused_shown, framed, frame_shown, key_framed, key_frame_of};
 
+use choices::answer::{finished, number};
 use choices::checks::refusal;
 use deblock::deblock;
 use frame::take::{Answer, refused};
@@ -30,7 +31,7 @@ fn nothing(number: u32) -> Shown
     ensures { result ≡ refused_shown number }
 {
     Shown {
-        number: number,
+        number,
         finished: 0,
         reads: SymbolCounts {
             first: 0,
@@ -86,10 +87,10 @@ fn show(
     let answer = d.answer;
     let reads = d.reads;
     Shown {
-        number: answer.number(),
-        finished: answer.finished(),
-        reads: reads,
-        taken: taken,
+        number: number(answer),
+        finished: finished(answer),
+        reads,
+        taken,
     }
 }
 
@@ -128,9 +129,8 @@ pub fn key_frame(
     if taken.number != 0 {
         return nothing(taken.number);
     }
-    let bad = refusal(bytes, tile, &entries, sizes);
-    if bad != 0 {
-        return nothing(bad);
+    if let Err(bad) = refusal(bytes, tile, &entries, sizes) {
+        return nothing(bad.number());
     }
     store(&mut header[..], &entries);
     show(bytes, taken, &entries, y, u, v, columns, modes, strengths)

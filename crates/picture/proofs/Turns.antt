@@ -1,5 +1,5 @@
 -- The turns of the picture's loop, on plain values.
-use Rattle.numbers.specs.Words.{ℕ, zero, suc, ◌+◌, ◌*◌, ◌≤◌, ◌<◌, add_assoc, add-zero, zero-add, arith, ◌≡◌, refl, sym, ◌∙◌, ap, List, length, set}
+use Rattle.numbers.specs.Words.{ℕ, zero, suc, ◌+◌, ◌*◌, ◌≤◌, ◌<◌, add_assoc, add-zero, zero-add, arith, ◌≡◌, refl, sym, ◌∙◌, ap, List, length, set, Ok}
 use Rattle.reader.specs.declared.boolean.Reader.{Reader}
 use Rattle.reader.specs.Reading.{no_reader_of}
 use Rattle.reader.specs.ReadingLaws.{Bytes}
@@ -8,10 +8,8 @@ use Rattle.macroblock.specs.declared.ending.Finish.TheVariants as F
 use Rattle.macroblock.specs.declared.arguments.Readers.{Readers}
 use Rattle.macroblock.specs.declared.ending.Finish.{Finish}
 use Rattle.macroblock.specs.Macroblock.{Finished, Step, finished, no_modes, no_tokens, finish_number_of, no_reads, AtMost}
-use Rattle.choices.specs.declared.answer.Decoded.TheVariants as D
 use Rattle.lent.specs.Memory.{Memory}
-use Rattle.choices.specs.declared.answer.Decoded.{Decoded}
-use Rattle.choices.specs.Choices.{stopped_of}
+use Rattle.choices.specs.Choices.{stopped_of, Decoded}
 use Rattle.picture.specs.declared.rows.PictureStop.{PictureStop}
 use Rattle.picture.specs.Picture.{Picture, State, column_of, partition_of, planes_in, step_at, next_of, Turned, turned, plus, reads_at, reads_from, Shared, Live}
 use Rattle.picture.specs.Halt.{Halted, state_of, halted_at, halt_of}
@@ -125,7 +123,7 @@ module _ {P : Picture} {E : Total} {k : ℕ} {S : State} {reads : SymbolCounts} 
         go (suc m) a b d no_modes t e = absurd (let n = number no_modes e in omega arith)
         go (suc m) a b d no_tokens t e = absurd (let n = number no_tokens e in omega arith)
 
-pub going_end : {P : Picture} {E : Total} {k : ℕ} {S : State} {reads : SymbolCounts} → Going P E k S reads → P.wide * P.high ≤ k → {d : Decoded} → d ≡ D.Whole (P.wide * P.high)
+pub going_end : {P : Picture} {E : Total} {k : ℕ} {S : State} {reads : SymbolCounts} → Going P E k S reads → P.wide * P.high ≤ k → {d : Decoded} → d ≡ Ok (P.wide * P.high)
     → (record { answer = d; state = S } ≡ E.ended) × (reads ≡ E.reads)
 going_end {P} {E} {k} {S} {reads} g h {d} q = go g.rest g.sum g.same g.paid
   where
@@ -133,7 +131,7 @@ going_end {P} {E} {k} {S} {reads} g h {d} q = go g.rest g.sum g.same g.paid
     go zero a b e =
         let c : P.wide * P.high ≡ k = omega arith in
         let z : reads ≡ plus reads no_reads = λ i. record { first = sym (add-zero reads.first) i; tokens = sym (add-zero reads.tokens) i } in (
-          ap (λ (x : Decoded). record { answer = x; state = S }) (q ∙ ap D.Whole c) ∙ sym (halt_none P k S) ∙ b,
+          ap (λ (x : Decoded). record { answer = x; state = S }) (q ∙ ap Ok c) ∙ sym (halt_none P k S) ∙ b,
           z ∙ ap (plus reads) (sym (reads_none P k S)) ∙ e,
         )
     go (suc m) a b e = absurd (omega arith)

@@ -1,6 +1,6 @@
 -- The laws of the picture call: a refused argument, and what good arguments give to the first macroblock.
 use Rattle.std.specs.Prelude.{◌*◌, ◌/◌, ◌≡◌}
-use Rattle.numbers.specs.Words.{ℕ, zero, suc, arith, refl, sym, ◌∙◌, ap, List, length, replicate, length-replicate}
+use Rattle.numbers.specs.Words.{ℕ, zero, suc, arith, refl, sym, ◌∙◌, ap, List, length, replicate, length-replicate, Err}
 use Rattle.reader.specs.Reading.{no_reader_of}
 use Rattle.reader.specs.ReadingLaws.{Bytes}
 use Rattle.coefficients.specs.declared.block.Table.{Table}
@@ -14,18 +14,18 @@ use Rattle.header.specs.Frame.{frame_of, framed_of}
 use Rattle.header.specs.FrameLaws.{frame_good, frame_sound}
 use Rattle.tile.specs.PartitionsLaws.{readers_length}
 use Rattle.tile.specs.Tile.{blocks_of}
-use Rattle.choices.specs.declared.answer.Decoded.TheVariants as D
+use Rattle.choices.specs.declared.answer.Stop.TheVariants as Stop
 use Rattle.lent.specs.Memory.{Memory, sizes_of, blank_of}
-use Rattle.choices.specs.Choices.{Call, refusal_of}
+use Rattle.choices.specs.Choices.{named, Call, refusal_of}
 use Rattle.choices.specs.ChoicesLaws.{fine_side, fine_count, fine_lengths, fine_header, fine_partitions, fine_readers}
 use Rattle.picture.specs.Picture.{Picture, Ended, cut_out, pictured_of, start_of, run_of, picture_of, Shared, Live}
 
 module _ (t : Call) (m : Memory) {n : ℕ} (e : n ≡ refusal_of t (sizes_of m)) where
-  pub picture_bad : (n ≡ 0 → ⊥) → record { answer = D.Refused n; mem = m } ≡ picture_of t m
+  pub picture_bad : (n ≡ 0 → ⊥) → record { answer = Err (Stop.Refused (named n)); mem = m } ≡ picture_of t m
   unfolding picture_of
   picture_bad f = go n e f
     where
-      go : (k : ℕ) → k ≡ refusal_of t (sizes_of m) → (k ≡ 0 → ⊥) → record { answer = D.Refused k; mem = m } ≡ picture_of t m
+      go : (k : ℕ) → k ≡ refusal_of t (sizes_of m) → (k ≡ 0 → ⊥) → record { answer = Err (Stop.Refused (named k)); mem = m } ≡ picture_of t m
       go zero e f = absurd (f refl)
       go (suc k) e f = rw (← e, picture_of)
 

@@ -12,8 +12,7 @@ use Rattle.tile.specs.PartitionsLaws.{part_bytes}
 use Rattle.macroblock.specs.Macroblock.{Finished, Step, finished, no_modes, no_tokens, no_reads, reads_of, AtMost}
 use Rattle.macroblock.specs.declared.arguments.SymbolCounts.{SymbolCounts}
 use Rattle.macroblock.specs.CountsLaws.{reads_most}
-use Rattle.choices.specs.declared.answer.Decoded.{Decoded}
-use Rattle.choices.specs.Choices.{Call, refusal_of}
+use Rattle.choices.specs.Choices.{Call, refusal_of, Decoded}
 use Rattle.picture.specs.declared.turn.Task.{Task}
 use Rattle.picture.specs.Picture.{Picture, State, column_of, partition_of, readers_at, around_at, step_at, next_of, cut_out, pictured_of, start_of, begun_of, run_of, picture_of, Shared, Live, plus, reads_at, reads_from, cost_of, asked_of}
 use Rattle.picture.specs.PictureLaws.{task_at, around_task, column_below, partition_below, ready_at, ends_at, live_next, run_none, run_finished, run_no_modes, run_no_tokens}

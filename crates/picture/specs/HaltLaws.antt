@@ -1,24 +1,29 @@
 -- The laws of the picture call with its state: one turn of its recursion; its answer and memory are the picture call's; the call.
 use Rattle.std.specs.Prelude.{◌+◌, ◌*◌, ◌≤◌, ◌<◌, ◌≡◌}
-use Rattle.numbers.specs.Words.{ℕ, zero, suc, arith, refl, sym, ◌∙◌, ap}
+use Rattle.numbers.specs.Words.{ℕ, zero, suc, arith, refl, sym, ◌∙◌, ap, Ok, Err}
 use Rattle.reader.specs.ReadingLaws.{Bytes}
 use Rattle.coefficients.specs.declared.block.Table.{Table}
 use Rattle.coefficients.specs.Block.{table_of}
 use Rattle.header.specs.declared.frame.Framed.{Framed}
 use Rattle.header.specs.Frame.{framed_of}
-use Rattle.macroblock.specs.Macroblock.{Finished, Step, finished, no_modes, no_tokens}
+use Rattle.modes.specs.Modes.{empty_context}
+use Rattle.macroblock.specs.Macroblock.{Finished, Step, finished, no_modes, no_tokens, no_reads}
 use Rattle.lent.specs.Memory.{Memory, sizes_of, blank_of}
-use Rattle.tile.specs.Tile.{span_at_of, blocks_of}
+use Rattle.tile.specs.Tile.{span_at_of, blocks_of, readers_of}
 use Rattle.tile.specs.PartitionsLaws.{part_bytes}
-use Rattle.choices.specs.declared.answer.Decoded.TheVariants as D
-use Rattle.choices.specs.Choices.{Call, refusal_of, values_of}
-use Rattle.picture.specs.Picture.{Picture, State, Ended, cut_out, pictured_of, start_of, begun_of, partition_of, step_at, next_of, run_of, picture_of, Shared, Live}
+use Rattle.choices.specs.declared.answer.Refusal.{Refusal}
+use Rattle.choices.specs.declared.answer.Stop.TheVariants as Stop
+use Rattle.choices.specs.Choices.{Call, refusal_of, named, checked_of, values_of}
+use Rattle.choices.specs.ChoicesLaws.{check_fails, check_named}
+use Rattle.picture.specs.Picture.{Picture, State, Ended, cut_out, pictured_of, start_of, begun_of, partition_of, step_at, next_of, run_of, picture_of, cost_of, Shared, Live}
 use Rattle.picture.specs.PictureLaws.{live_next, ends_at, partition_below, run_none, run_finished, run_no_modes, run_no_tokens}
 use Rattle.picture.specs.CallLaws.{picture_bad, picture_good, picture_found, shared_start, live_start}
-use Rattle.picture.specs.Halt.{Halted, halt_of, halted_of}
+use Rattle.picture.specs.CountsLaws.{cost_bad}
+use Rattle.picture.specs.declared.rows.PictureStop.{PictureStop}
+use Rattle.picture.specs.Halt.{Halted, halted_at, halt_of, halted_of}
 
 -- ---- one turn
-pub halt_none : (P : Picture) (k : ℕ) (S : State) → halt_of 0 P k S ≡ record { answer = D.Whole k; state = S }
+pub halt_none : (P : Picture) (k : ℕ) (S : State) → halt_of 0 P k S ≡ record { answer = Ok k; state = S }
 unfolding halt_of
 halt_none P k S = refl
 
@@ -27,11 +32,11 @@ module _ (n : ℕ) (P : Picture) (k : ℕ) (S : State) where
   unfolding halt_of
   halt_finished x e = rw (e, halt_of)
 
-  pub halt_no_modes : step_at P k S ≡ no_modes → halt_of (suc n) P k S ≡ record { answer = D.NoModes k; state = S }
+  pub halt_no_modes : step_at P k S ≡ no_modes → halt_of (suc n) P k S ≡ record { answer = Err (Stop.NoModes k); state = S }
   unfolding halt_of
   halt_no_modes e = rw (e, halt_of)
 
-  pub halt_no_tokens : step_at P k S ≡ no_tokens → halt_of (suc n) P k S ≡ record { answer = D.NoTokens k; state = S }
+  pub halt_no_tokens : step_at P k S ≡ no_tokens → halt_of (suc n) P k S ≡ record { answer = Err (Stop.NoTokens k); state = S }
   unfolding halt_of
   halt_no_tokens e = rw (e, halt_of)
 
@@ -50,11 +55,11 @@ halt_run (suc n) P k S = go (λ T. halt_run n P (k + 1) T) (step_at P k S) refl
 
 -- ---- the call
 module _ (t : Call) (m : Memory) {n : ℕ} (e : n ≡ refusal_of t (sizes_of m)) where
-  pub halted_bad : (n ≡ 0 → ⊥) → record { answer = D.Refused n; state = start_of t.bytes t.tile m } ≡ halted_of t m
+  pub halted_bad : (n ≡ 0 → ⊥) → record { answer = Err (Stop.Refused (named n)); state = start_of t.bytes t.tile m } ≡ halted_of t m
   unfolding halted_of
   halted_bad f = go n e f
     where
-      go : (k : ℕ) → k ≡ refusal_of t (sizes_of m) → (k ≡ 0 → ⊥) → record { answer = D.Refused k; state = start_of t.bytes t.tile m } ≡ halted_of t m
+      go : (k : ℕ) → k ≡ refusal_of t (sizes_of m) → (k ≡ 0 → ⊥) → record { answer = Err (Stop.Refused (named k)); state = start_of t.bytes t.tile m } ≡ halted_of t m
       go zero e f = absurd (f refl)
       go (suc k) e f = rw (← e, halted_of)
 
@@ -77,6 +82,16 @@ module _ (t : Call) (m : Memory) (e : refusal_of t (sizes_of m) ≡ 0) {f : Fram
       q
       ∙ (λ i. halt_of (blocks_of t.tile.width t.tile.height) (picture_found t m e g y h i) 0 (start_of t.bytes t.tile (h i)))
       ∙ sym (halted_good t m (sym e) refl)
+
+-- an argument refused, as the code finds it
+pub halted_refused : (t : Call) (m : Memory) {r : Refusal} → Err r ≡ checked_of t (sizes_of m) → {q : PictureStop} → q ≡ record { answer = Err (Stop.Refused r); reads = no_reads; reader = t.tile.reader; readers = readers_of t.bytes t.tile; left = empty_context }
+    → (halted_at q.answer q.reader q.readers q.left m ≡ halted_of t m) × (q.reads ≡ cost_of t m)
+halted_refused t m {r} e {q} f =
+    let z = sizes_of m in
+    let b = check_fails t z e in (
+      ap (λ (q : PictureStop). halted_at q.answer q.reader q.readers q.left m) f ∙ ap (λ (r : Refusal). record { answer = Err (Stop.Refused r); state = start_of t.bytes t.tile m }) (check_named t z e) ∙ halted_bad t m refl b,
+      ap (λ (q : PictureStop). q.reads) f ∙ sym (cost_bad t m refl b),
+    )
 
 -- ---- the state can be gone on from: what every macroblock finds, and no more than n of them are finished
 pub record Alive (P : Picture) (n : ℕ) (h : Halted) : Type 0 where

@@ -1,6 +1,6 @@
 -- The picture call, and what its loops keep.
 use Rattle.std.specs.Prelude.{◌+◌, ◌*◌, ◌/◌, ◌%◌, ◌<◌, ◌≤◌, ◌≡◌}
-use Rattle.numbers.specs.Words.{ℕ, zero, suc, List, get_or, set, true, length}
+use Rattle.numbers.specs.Words.{ℕ, zero, suc, List, get_or, set, true, length, Ok, Err}
 use Rattle.reader.specs.declared.boolean.Reader.{Reader}
 use Rattle.reader.specs.Reading.{no_reader_of}
 use Rattle.coefficients.specs.Block.{header_table}
@@ -12,12 +12,11 @@ use Rattle.macroblock.specs.declared.arguments.Place.{Place}
 use Rattle.macroblock.specs.declared.arguments.Readers.{Readers}
 use Rattle.macroblock.specs.declared.arguments.Around.{Around}
 use Rattle.macroblock.specs.Macroblock.{Planes, planes_of, Finished, Step, finished, no_modes, no_tokens, step_of, no_reads, reads_of}
-use Rattle.choices.specs.declared.answer.Decoded.{Decoded}
-use Rattle.choices.specs.declared.answer.Decoded.TheVariants as D
+use Rattle.choices.specs.declared.answer.Stop.TheVariants as Stop
 use Rattle.lent.specs.Memory.{Memory, sizes_of, blank_of, Form, column_at, column_set, mode_set, strength_set, records_in, form_width, mode_width, strength_width, Columns}
 use Rattle.tile.specs.declared.Tile.{Tile}
 use Rattle.tile.specs.Tile.{contents_of, token_contents, readers_of, pick_of, blocks_of}
-use Rattle.choices.specs.Choices.{beside_of, Call, refusal_of}
+use Rattle.choices.specs.Choices.{beside_of, Call, named, refusal_of, Decoded}
 use Rattle.macroblock.specs.declared.ending.Finish.TheVariants as F
 use Rattle.macroblock.specs.declared.ending.Finish.{Finish}
 use Rattle.header.specs.Header.{probability_count}
@@ -140,12 +139,12 @@ ended_of answer mem = record { answer = answer; mem = mem }
 -- n macroblocks from number k on (modes section 19.3, 7239-7272, tokens 7316-7352), until one is refused: modes that run out (6), tokens that run
 -- out (7)
 unfoldable pub run_of : ℕ → Picture → ℕ → State → Ended
-run_of zero P k S = record { answer = D.Whole k; mem = S.mem }
+run_of zero P k S = record { answer = Ok k; mem = S.mem }
 run_of (suc n) P k S =
     elim (step_at P k S) [
       | finished x ↦ run_of n P (k + 1) (next_of P k S x)
-      | no_modes ↦ record { answer = D.NoModes k; mem = S.mem }
-      | no_tokens ↦ record { answer = D.NoTokens k; mem = S.mem }
+      | no_modes ↦ record { answer = Err (Stop.NoModes k); mem = S.mem }
+      | no_tokens ↦ record { answer = Err (Stop.NoTokens k); mem = S.mem }
     ]
 
 -- ---- THE CALL: a bad argument is refused by number (1 to 5) and nothing lent changes; else the macroblocks from blank memory
@@ -153,7 +152,7 @@ unfoldable pub picture_of : Call → Memory → Ended
 picture_of c m =
     elim (refusal_of c (sizes_of m)) [
       | zero ↦ run_of (blocks_of c.tile.width c.tile.height) (pictured_of c) 0 (begun_of c m)
-      | suc n ↦ record { answer = D.Refused (suc n); mem = m }
+      | suc n ↦ record { answer = Err (Stop.Refused (named (suc n))); mem = m }
     ]
 
 -- ==== One macroblock as the loops take it: its answer, what it leaves to its right, and the lent memory after it.
@@ -240,7 +239,7 @@ cost_of c m =
 
 -- the macroblocks that were read: those finished and, after 6 or 7, one more
 abbrev pub asked_of : Decoded → ℕ
-asked_of (D.Whole k) = k
-asked_of (D.Refused n) = 0
-asked_of (D.NoModes k) = suc k
-asked_of (D.NoTokens k) = suc k
+asked_of (Ok k) = k
+asked_of (Err (Stop.Refused n)) = 0
+asked_of (Err (Stop.NoModes k)) = suc k
+asked_of (Err (Stop.NoTokens k)) = suc k

@@ -1,6 +1,6 @@
 -- The laws of the picture: one turn of its recursion; what every macroblock finds and leaves; what a macroblock's call asks.
 use Rattle.std.specs.Prelude.{◌+◌, ◌*◌, ◌≤◌, ◌<◌, ◌≡◌}
-use Rattle.numbers.specs.Words.{ℕ, zero, suc, div-lt_iff_lt-mul, mod-lt, mul_comm, arith, refl, ◌∙◌, true, ⊎_elim, eq_or, List, get_or, set, length-set, get_or-set_other, get_or-set_same}
+use Rattle.numbers.specs.Words.{ℕ, zero, suc, div-lt_iff_lt-mul, mod-lt, mul_comm, arith, refl, ◌∙◌, true, ⊎_elim, eq_or, List, get_or, set, length-set, get_or-set_other, get_or-set_same, Ok, Err}
 use Rattle.reader.specs.Reading.{no_reader_of}
 use Rattle.reader.specs.ReadingLaws.{Bytes, Valid}
 use Rattle.modes.specs.Modes.{kinds_of, context_fine_of, Shaped}
@@ -14,7 +14,7 @@ use Rattle.lent.specs.MacroblocksLaws.{mode_set_length, strength_set_length}
 use Rattle.tile.specs.PartitionsLaws.{pick_below}
 use Rattle.macroblock.specs.Macroblock.{Finished, finished, no_modes, no_tokens, step_of, Ready, Laid}
 use Rattle.macroblock.specs.DecodeLaws.{flags_of}
-use Rattle.choices.specs.declared.answer.Decoded.TheVariants as D
+use Rattle.choices.specs.declared.answer.Stop.TheVariants as Stop
 use Rattle.picture.specs.declared.turn.Task.{Task}
 use Rattle.picture.specs.Picture.{Turned, turned, Room, Shared, Live, Picture, State, column_of, row_of, partition_of, planes_in, place_of, readers_at, around_at, step_at, next_of, run_of}
 use Rattle.choices.specs.ChoicesLaws.{beside_none, beside_left}
@@ -22,7 +22,7 @@ use Rattle.picture.specs.TurnLaws.{Ends, ends_of}
 use Rattle.choices.specs.Choices.{beside_of}
 
 -- ---- one turn
-pub run_none : (P : Picture) (k : ℕ) (S : State) → run_of 0 P k S ≡ record { answer = D.Whole k; mem = S.mem }
+pub run_none : (P : Picture) (k : ℕ) (S : State) → run_of 0 P k S ≡ record { answer = Ok k; mem = S.mem }
 unfolding run_of
 run_none P k S = refl
 
@@ -31,11 +31,11 @@ module _ (n : ℕ) (P : Picture) (k : ℕ) (S : State) where
   unfolding run_of
   run_finished x e = rw (e, run_of)
 
-  pub run_no_modes : step_at P k S ≡ no_modes → run_of (suc n) P k S ≡ record { answer = D.NoModes k; mem = S.mem }
+  pub run_no_modes : step_at P k S ≡ no_modes → run_of (suc n) P k S ≡ record { answer = Err (Stop.NoModes k); mem = S.mem }
   unfolding run_of
   run_no_modes e = rw (e, run_of)
 
-  pub run_no_tokens : step_at P k S ≡ no_tokens → run_of (suc n) P k S ≡ record { answer = D.NoTokens k; mem = S.mem }
+  pub run_no_tokens : step_at P k S ≡ no_tokens → run_of (suc n) P k S ≡ record { answer = Err (Stop.NoTokens k); mem = S.mem }
   unfolding run_of
   run_no_tokens e = rw (e, run_of)
 

@@ -9,14 +9,14 @@ ghost use Rattle.lent.specs.Memory.{memory_of};
 ghost use Rattle.tile.specs.Tile.{readers_of};
 ghost use Rattle.modes.specs.Modes.{empty_context};
 ghost use Rattle.macroblock.specs.Macroblock.{no_reads};
-ghost use Rattle.choices.specs.declared.answer.Decoded.TheVariants as D;
+ghost use Rattle.choices.specs.declared.answer.Stop.TheVariants as Stop;
 ghost use Rattle.choices.specs.Choices.{call_of};
 ghost use Rattle.picture.specs.Picture.{ended_of, picture_of, cost_of};
 ghost use Rattle.picture.specs.Halt.{halted_at, halted_of};
 
 use crate::rows::{PictureRead, PictureStop, rows};
 use blank::blank;
-use choices::answer::Decoded;
+use choices::answer::{Refusal, Stop};
 use choices::checks::refusal;
 use coefficients::block::probabilities;
 use header::frame::take;
@@ -27,9 +27,9 @@ use tile::Tile;
 use tile::partitions::openers;
 
 // A call whose argument `bad` is refused stops in the state before the first macroblock, and reads nothing.
-fn refused(bytes: &[u8], tile: Tile, bad: u32) -> PictureStop
+fn refused(bytes: &[u8], tile: Tile, bad: Refusal) -> PictureStop
     ensures { result ≡ record {
-      answer = D.Refused bad;
+      answer = Err (Stop.Refused bad);
       reads = no_reads;
       reader = tile.reader;
       readers = readers_of bytes.now tile;
@@ -38,7 +38,7 @@ fn refused(bytes: &[u8], tile: Tile, bad: u32) -> PictureStop
 {
     let first = tile.reader;
     PictureStop {
-        answer: Decoded::Refused(bad),
+        answer: Err(Stop::Refused(bad)),
         reads: SymbolCounts {
             first: 0,
             tokens: 0,
@@ -71,7 +71,7 @@ pub fn halt(
         (memory_of y.old u.old v.old
         columns.old modes.old strengths.old)) }
 {
-    let bad = refusal(
+    let checked = refusal(
         bytes,
         tile,
         header,
@@ -84,7 +84,7 @@ pub fn halt(
             strengths: strengths.len(),
         },
     );
-    if bad != 0 {
+    if let Err(bad) = checked {
         return refused(bytes, tile, bad);
     }
     blank(
@@ -136,10 +136,8 @@ pub fn decode(
         columns.old modes.old strengths.old)) }
 {
     let stop = halt(bytes, tile, header, y, u, v, columns, modes, strengths);
-    let answer = stop.answer;
-    let reads = stop.reads;
     PictureRead {
-        answer: answer,
-        reads: reads,
+        answer: stop.answer,
+        reads: stop.reads,
     }
 }

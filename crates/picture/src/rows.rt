@@ -56,11 +56,11 @@ fn stop(
     ensures { result ≡ record { answer = answer; reads = reads; reader = reader; readers = readers; left = left } }
 {
     PictureStop {
-        answer: answer,
-        reads: reads,
-        reader: reader,
-        readers: readers,
-        left: left,
+        answer,
+        reads,
+        reader,
+        readers,
+        left,
     }
 }
 
@@ -131,5 +131,5 @@ pub(crate) fn rows(
         left = m.left;
         k = k + 1;
     }
-    stop(Decoded::Whole(blocks), reads, r, readers, left)
+    stop(Ok(blocks), reads, r, readers, left)
 }

@@ -45,15 +45,15 @@ pub(crate) fn task_of(readers: Readers, frame: Frame, left: Context, wide: usize
     } }
 {
     Task {
-        readers: readers,
-        frame: frame,
-        left: left,
+        readers,
+        frame,
+        left,
         place: Place {
             column: k % wide,
             row: k / wide,
             width: wide * 16,
         },
-        k: k,
+        k,
     }
 }
 
@@ -65,7 +65,7 @@ fn around(columns: &[u8], column: usize, left: Context) -> Around
     let found = read_column(columns, column);
     let top = found.context;
     Around {
-        top: top,
+        top,
         left: beside(column, left),
     }
 }
@@ -116,9 +116,9 @@ pub(crate) fn turn(
     let Finish::Done(after) = answer else {
         let before = task.left;
         return Ending {
-            answer: answer,
+            answer,
             left: before,
-            reads: reads,
+            reads,
         };
     };
     let below = m.top;
@@ -132,6 +132,6 @@ pub(crate) fn turn(
     Ending {
         answer: Finish::Done(after),
         left: right,
-        reads: reads,
+        reads,
     }
 }

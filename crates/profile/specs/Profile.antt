@@ -6,8 +6,7 @@ use Rattle.numbers.specs.Words.{ℕ, zero, suc, Bool, true, false, not, eqb, ltb
 use Rattle.header.specs.Header.{segments_on, map_on, sharpness, present_at_of}
 use Rattle.tile.specs.declared.Tile.{Tile}
 use Rattle.lent.specs.Memory.{Memory, sizes_of, mode_found}
-use Rattle.choices.specs.Choices.{Call, failed, refusal_of, number_of, values_of}
-use Rattle.choices.specs.declared.answer.Decoded.{Decoded}
+use Rattle.choices.specs.Choices.{Call, failed, refusal_of, number_of, values_of, Decoded}
 use Rattle.picture.specs.Picture.{picture_of}
 pub use Rattle.profile.specs.declared.Profiled.{Profiled}
 use Rattle.profile.specs.declared.Profiled.TheVariants as P

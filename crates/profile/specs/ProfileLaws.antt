@@ -3,8 +3,7 @@ use Rattle.std.specs.Prelude.{◌+◌, ◌≤◌, ◌<◌, ◌≡◌}
 use Rattle.numbers.specs.Words.{ℕ, zero, suc, add-one, arith, refl, sym, ◌∙◌, ap, true, false, ltb, le-ltb, lt-ltb, List, ℤ}
 use Rattle.tile.specs.declared.Tile.{Tile}
 use Rattle.lent.specs.Memory.{Memory, sizes_of}
-use Rattle.choices.specs.Choices.{Call, failed, refusal_of, number_of, values_of}
-use Rattle.choices.specs.declared.answer.Decoded.{Decoded}
+use Rattle.choices.specs.Choices.{Call, failed, refusal_of, number_of, values_of, Decoded}
 use Rattle.picture.specs.Picture.{Ended, picture_of}
 use Rattle.profile.specs.declared.Profiled.TheVariants as P
 use Rattle.profile.specs.Profile.{Profiled, size_fits_of, count_fits_of, segments_fit_of, sharpness_fits_of, tile_rules_of, header_rules_of, both_at, first_both_of, judged_of, decoded_of, profiled, profile_of}

@@ -3,7 +3,7 @@ ghost use Rattle.std.specs.Prelude.{◌≡◌};
 ghost use Rattle.profile.specs.Profile.{both_at, first_both_of, judged_of, decoded_of};
 
 use crate::Profiled;
-use choices::answer::Decoded;
+use choices::answer::{Decoded, finished, number};
 use lent::macroblocks::read_mode_record;
 
 // Whether macroblock k is both, by its mode record.
@@ -42,10 +42,10 @@ fn judged(modes: &[u8], blocks: usize) -> Profiled
 pub(crate) fn decoded(answer: Decoded, modes: &[u8]) -> Profiled
     ensures { result ≡ decoded_of answer modes.now }
 {
-    let number = answer.number();
+    let number = number(answer);
     if number != 0 {
         return Profiled::Rule(5);
     }
-    let blocks = answer.finished();
+    let blocks = finished(answer);
     judged(modes, blocks)
 }

@@ -94,9 +94,8 @@ pub fn profile(
         modes: modes.len(),
         strengths: strengths.len(),
     };
-    let bad = refusal(bytes, tile, header, sizes);
-    if bad != 0 {
-        return Profiled::Refused(bad);
+    if let Err(bad) = refusal(bytes, tile, header, sizes) {
+        return Profiled::Refused(bad.number());
     }
     let late = header_rules(header);
     if late != 0 {

@@ -1,15 +1,14 @@
 -- The proofs of what is promised of rebuilt macroblocks (Remade.antt).
 use Rattle.std.specs.Prelude.{◌+◌, ◌-◌, ◌*◌, ◌/◌, ◌≤◌, ◌<◌, ◌≡◌, ◌⊎◌}
-use Rattle.numbers.specs.Words.{ℕ, zero, suc, arith, refl, sym, ◌∙◌, ap, subst, true, inl, inr, lit<, lt_or, List, replicate}
+use Rattle.numbers.specs.Words.{ℕ, zero, suc, arith, refl, sym, ◌∙◌, ap, subst, true, inl, inr, lit<, lt_or, List, replicate, Ok, Err}
 use Rattle.reader.specs.ReadingLaws.{Bytes}
 use Rattle.modes.specs.Modes.{kinds_of}
 use Rattle.macroblock.specs.Macroblock.{Finished, Step, finished, no_modes, no_tokens, strength_made, end_of}
 use Rattle.macroblock.specs.RebuiltLaws.{rebuilt_from}
 use Rattle.lent.specs.Memory.{mode_width, strength_width, mode_record, strength_record, Memory}
 use Rattle.lent.specs.RecordsLaws.{record_set_in}
-use Rattle.choices.specs.declared.answer.Decoded.{Decoded}
-use Rattle.choices.specs.declared.answer.Decoded.TheVariants as D
-use Rattle.choices.specs.Choices.{Call, values_of}
+use Rattle.choices.specs.declared.answer.Stop.TheVariants as Stop
+use Rattle.choices.specs.Choices.{Call, values_of, Decoded}
 use Rattle.picture.specs.Picture.{Picture, State, Ended, pictured_of, begun_of, column_of, partition_of, planes_in, place_of, readers_at, around_at, next_of, Shared, Live}
 use Rattle.picture.specs.PictureLaws.{live_next, room_at}
 use Rattle.picture.specs.Halt.{halted_of}
@@ -86,16 +85,16 @@ counted_empty P k S e = (rebuilt_from P.first (readers_at S (partition_of P k)) 
 
 -- ---- the call
 gone_upto : (M : ℕ) (P : Picture) (a : Decoded) (S : State) → Upto P (values_of a) S (gone_on M P a S)
-gone_upto M P (D.Whole k) S = record { steps = 0; state = S; reached = begun; count = omega arith; mem = refl }
-gone_upto M P (D.Refused n) S = record { steps = 0; state = S; reached = begun; count = omega arith; mem = refl }
-gone_upto M P (D.NoModes k) S = record { steps = 0; state = S; reached = begun; count = omega arith; mem = refl }
-gone_upto M P (D.NoTokens k) S = subst (λ (j : ℕ). Upto P k S (rest_of (M - k) P j S)) {x = k + 0} {y = k} (omega arith) (upto P k S (M - k) 0 S begun)
+gone_upto M P (Ok k) S = record { steps = 0; state = S; reached = begun; count = omega arith; mem = refl }
+gone_upto M P (Err (Stop.Refused n)) S = record { steps = 0; state = S; reached = begun; count = omega arith; mem = refl }
+gone_upto M P (Err (Stop.NoModes k)) S = record { steps = 0; state = S; reached = begun; count = omega arith; mem = refl }
+gone_upto M P (Err (Stop.NoTokens k)) S = subst (λ (j : ℕ). Upto P k S (rest_of (M - k) P j S)) {x = k + 0} {y = k} (omega arith) (upto P k S (M - k) 0 S begun)
 
 gone_rest : (M : ℕ) (P : Picture) (a : Decoded) (S : State) → values_of a < (gone_on M P a S).count → gone_on M P a S ≡ rest_of (M - values_of a) P (values_of a) S
-gone_rest M P (D.Whole k) S h = absurd (omega arith)
-gone_rest M P (D.Refused n) S h = absurd (omega arith)
-gone_rest M P (D.NoModes k) S h = absurd (omega arith)
-gone_rest M P (D.NoTokens k) S h = refl
+gone_rest M P (Ok k) S h = absurd (omega arith)
+gone_rest M P (Err (Stop.Refused n)) S h = absurd (omega arith)
+gone_rest M P (Err (Stop.NoModes k)) S h = absurd (omega arith)
+gone_rest M P (Err (Stop.NoTokens k)) S h = refl
 
 module _ (t : Call) (m : Memory) (marks : List ℕ) (e : RescueFine t m marks) where
   abbrev k : ℕ

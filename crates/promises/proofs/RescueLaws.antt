@@ -1,6 +1,6 @@
 -- The proofs of what is promised of the rescue call (Rescue.antt).
 use Rattle.std.specs.Prelude.{◌+◌, ◌-◌, ◌*◌, ◌/◌, ◌≤◌, ◌<◌, ◌≡◌, ◌⊎◌}
-use Rattle.numbers.specs.Words.{ℕ, add-mul, div-lt_iff_lt-mul, mul_comm, mul-le-mul_right, one-mul, arith, refl, sym, ◌∙◌, ap, subst, inl, inr, ⊎_elim, lt_or, eq_or, List, length, get_or, Off}
+use Rattle.numbers.specs.Words.{ℕ, add-mul, div-lt_iff_lt-mul, mul_comm, mul-le-mul_right, one-mul, arith, refl, sym, ◌∙◌, ap, subst, inl, inr, ⊎_elim, lt_or, eq_or, List, length, get_or, Off, Ok, Err}
 use Rattle.reader.specs.ReadingLaws.{Bytes}
 use Rattle.modes.specs.Modes.{kinds_of}
 use Rattle.planes.specs.Places.{Outside}
@@ -8,9 +8,8 @@ use Rattle.macroblock.specs.Macroblock.{Finished}
 use Rattle.macroblock.specs.StepLaws.{Kept, Elsewhere}
 use Rattle.lent.specs.Memory.{mode_width, strength_width, mode_record, strength_record, Memory, sizes_of}
 use Rattle.lent.specs.RecordsLaws.{record_set_off}
-use Rattle.choices.specs.declared.answer.Decoded.{Decoded}
-use Rattle.choices.specs.declared.answer.Decoded.TheVariants as D
-use Rattle.choices.specs.Choices.{Call, refusal_of, number_of, values_of}
+use Rattle.choices.specs.declared.answer.Stop.TheVariants as Stop
+use Rattle.choices.specs.Choices.{Call, refusal_of, number_of, values_of, Decoded}
 use Rattle.choices.specs.ChoicesLaws.{refusal_most}
 use Rattle.picture.specs.Picture.{Picture, State, Ended, pictured_of, begun_of, column_of, row_of, planes_in, place_of, next_of, picture_of, Shared, Live}
 use Rattle.picture.specs.Halt.{Halted, halt_of, halted_of}
@@ -70,29 +69,29 @@ module _ (t : Call) (m : Memory) (marks : List ℕ) where
 
 -- ---- how far it comes after the stop
 gone_count : (M : ℕ) (P : Picture) (a : Decoded) (S : State) → values_of a ≤ M → (values_of a ≤ (gone_on M P a S).count) × ((gone_on M P a S).count ≤ M)
-gone_count M P (D.Whole k) S h = (omega arith, h)
-gone_count M P (D.Refused n) S h = (omega arith, h)
-gone_count M P (D.NoModes k) S h = (omega arith, h)
-gone_count M P (D.NoTokens k) S h = let r = rest_least (M - k) P k S in (r.0, omega (arith, r.1))
+gone_count M P (Ok k) S h = (omega arith, h)
+gone_count M P (Err (Stop.Refused n)) S h = (omega arith, h)
+gone_count M P (Err (Stop.NoModes k)) S h = (omega arith, h)
+gone_count M P (Err (Stop.NoTokens k)) S h = let r = rest_least (M - k) P k S in (r.0, omega (arith, r.1))
 
 gone_none : (M : ℕ) (P : Picture) (a : Decoded) (S : State) → (number_of a ≡ 7 → ⊥) → ((gone_on M P a S).count ≡ values_of a) × ((gone_on M P a S).mem ≡ S.mem)
-gone_none M P (D.Whole k) S n = (refl, refl)
-gone_none M P (D.Refused i) S n = (refl, refl)
-gone_none M P (D.NoModes k) S n = (refl, refl)
-gone_none M P (D.NoTokens k) S n = absurd (n refl)
+gone_none M P (Ok k) S n = (refl, refl)
+gone_none M P (Err (Stop.Refused i)) S n = (refl, refl)
+gone_none M P (Err (Stop.NoModes k)) S n = (refl, refl)
+gone_none M P (Err (Stop.NoTokens k)) S n = absurd (n refl)
 
 gone_keeps : {P : Picture} (s : Shared P) → Bytes P.first → (g : Memory → ℕ) (a : Decoded) (S : State) → Live P S → values_of a ≤ P.wide * P.high
     → ((j : ℕ) → values_of a ≤ j → j < (gone_on (P.wide * P.high) P a S).count → KeepsToo P g j) → g (gone_on (P.wide * P.high) P a S).mem ≡ g S.mem
-gone_keeps s b g (D.Whole k) S l h f = refl
-gone_keeps s b g (D.Refused n) S l h f = refl
-gone_keeps s b g (D.NoModes k) S l h f = refl
-gone_keeps {P} s b g (D.NoTokens k) S l h f = rest_keeps s b g (P.wide * P.high - k) k S l (omega arith) f
+gone_keeps s b g (Ok k) S l h f = refl
+gone_keeps s b g (Err (Stop.Refused n)) S l h f = refl
+gone_keeps s b g (Err (Stop.NoModes k)) S l h f = refl
+gone_keeps {P} s b g (Err (Stop.NoTokens k)) S l h f = rest_keeps s b g (P.wide * P.high - k) k S l (omega arith) f
 
 gone_same : (P Q : Picture) → P.first ≡ Q.first → P.frame ≡ Q.frame → P.wide ≡ Q.wide → P.form ≡ Q.form → (M : ℕ) (a : Decoded) (S T : State) → S.reader ≡ T.reader → S.left ≡ T.left → S.mem ≡ T.mem → gone_on M P a S ≡ gone_on M Q a T
-gone_same P Q i f w o M (D.Whole k) S T r l m = ap (saved_at k) m
-gone_same P Q i f w o M (D.Refused n) S T r l m = ap (saved_at 0) m
-gone_same P Q i f w o M (D.NoModes k) S T r l m = ap (saved_at k) m
-gone_same P Q i f w o M (D.NoTokens k) S T r l m = rest_same P Q i f w o (M - k) k S T r l m
+gone_same P Q i f w o M (Ok k) S T r l m = ap (saved_at k) m
+gone_same P Q i f w o M (Err (Stop.Refused n)) S T r l m = ap (saved_at 0) m
+gone_same P Q i f w o M (Err (Stop.NoModes k)) S T r l m = ap (saved_at k) m
+gone_same P Q i f w o M (Err (Stop.NoTokens k)) S T r l m = rest_same P Q i f w o (M - k) k S T r l m
 
 -- ---- a macroblock that is rebuilt leaves all others
 module _ {P : Picture} {S₀ : State} (z : Sound P S₀) (k : ℕ) (h : k < P.wide * P.high) where

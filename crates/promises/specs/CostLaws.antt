@@ -1,15 +1,14 @@
 -- The proofs of M-103's promises: `cost_at_most`, `cost_is`, `same_costs` and `old_memory_costs_the_same`.
 use Rattle.std.specs.Prelude.{◌+◌, ◌*◌, ◌/◌, ◌≤◌, ◌<◌, ◌≡◌, ◌⊎◌, ◌++◌}
-use Rattle.numbers.specs.Words.{ℕ, zero, suc, mul_comm, mul-le-mul_right, arith, refl, sym, ◌∙◌, ap, ap₂, subst, ⊎_elim, lt_or, eq_or, List, length, length-append}
+use Rattle.numbers.specs.Words.{ℕ, zero, suc, mul_comm, mul-le-mul_right, arith, refl, sym, ◌∙◌, ap, ap₂, subst, ⊎_elim, lt_or, eq_or, List, length, length-append, Ok, Err}
 use Rattle.reader.specs.Reading.{Given, given, missing, CodedSymbol, count}
 use Rattle.reader.specs.ReadingLaws.{Bytes}
 use Rattle.modes.specs.Modes.{Macroblock}
 use Rattle.lent.specs.Memory.{Memory}
 use Rattle.macroblock.specs.declared.arguments.SymbolCounts.{SymbolCounts}
 use Rattle.macroblock.specs.Macroblock.{Finished, Step, finished, no_modes, no_tokens, macroblock_token_reads, reads_of, AtMost}
-use Rattle.choices.specs.declared.answer.Decoded.{Decoded}
-use Rattle.choices.specs.declared.answer.Decoded.TheVariants as D
-use Rattle.choices.specs.Choices.{Call, number_of, values_of}
+use Rattle.choices.specs.declared.answer.Stop.TheVariants as Stop
+use Rattle.choices.specs.Choices.{Call, number_of, values_of, Decoded}
 use Rattle.picture.specs.Picture.{Picture, State, column_of, partition_of, readers_at, around_at, step_at, next_of, pictured_of, start_of, begun_of, picture_of, plus, reads_at, reads_from, cost_of, asked_of}
 use Rattle.picture.specs.CountsLaws.{reads_none, reads_finished, reads_no_modes, reads_no_tokens, reads_at_lem, cost_bad, cost_good, cost_most}
 use Rattle.promises.specs.Refusals.{Fine, blank_same, sizes_same}
@@ -22,16 +21,16 @@ use Rattle.promises.specs.Cost.{CostAtMost, mode_symbols, symbols_after, token_s
 
 -- ---- the bound
 asked_whole : (d : Decoded) (k : ℕ) → number_of d ≡ 0 → values_of d ≡ k → asked_of d ≤ k
-asked_whole (D.Whole n) k e f = omega arith
-asked_whole (D.Refused n) k e f = omega arith
-asked_whole (D.NoModes n) k e f = absurd (omega arith)
-asked_whole (D.NoTokens n) k e f = absurd (omega arith)
+asked_whole (Ok n) k e f = omega arith
+asked_whole (Err (Stop.Refused n)) k e f = omega arith
+asked_whole (Err (Stop.NoModes n)) k e f = absurd (omega arith)
+asked_whole (Err (Stop.NoTokens n)) k e f = absurd (omega arith)
 
 asked_next : (d : Decoded) (k : ℕ) → values_of d ≡ k → asked_of d ≤ k + 1
-asked_next (D.Whole n) k f = omega arith
-asked_next (D.Refused n) k f = omega arith
-asked_next (D.NoModes n) k f = omega arith
-asked_next (D.NoTokens n) k f = omega arith
+asked_next (Ok n) k f = omega arith
+asked_next (Err (Stop.Refused n)) k f = omega arith
+asked_next (Err (Stop.NoModes n)) k f = omega arith
+asked_next (Err (Stop.NoTokens n)) k f = omega arith
 
 more : {j : ℕ} {reads : SymbolCounts} (k : ℕ) → j ≤ k → AtMost j reads → (reads.first ≤ 119 * k) × (reads.tokens ≤ 7296 * k)
 more k h a = (omega (arith, a.first), omega (arith, a.tokens))

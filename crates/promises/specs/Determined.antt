@@ -53,14 +53,14 @@ use Rattle.macroblock.specs.Rebuilt.{rebuild_call_of}
 use Rattle.filter.specs.Strengths.{strength_answer, strength_fine_of}
 use Rattle.header.specs.declared.frame.Frame.{Frame}
 use Rattle.filter.specs.declared.strengths.Strength.{Strength}
-use Rattle.choices.specs.Choices.{call_of, refusal_of, number_of, values_of, stopped_of, beside_of}
+use Rattle.choices.specs.declared.answer.Refusal.{Refusal}
+use Rattle.choices.specs.Choices.{call_of, refusal_number_of, checked_of, number_of, values_of, stopped_of, beside_of, Decoded}
 use Rattle.casefile.specs.Run.{ran_of}
 use Rattle.deblock.specs.Deblock.{deblock_of}
 use Rattle.samples.specs.FilterCalls.{deblock_called_of, filtered_of}
 use Rattle.told.specs.Told.{counts_of, rescue_told_of, profile_told_of}
 use Rattle.hookbarley.specs.Calls.{called_of, rescue_called_of, profile_called_of, survey_called_of, recode_called_of, show_called_of}
 use Rattle.samples.specs.ExplainCalls.{explain_called_of}
-use Rattle.choices.specs.declared.answer.Decoded.{Decoded}
 use Rattle.picture.specs.Picture.{picture_of, cost_of}
 use Rattle.picture.specs.Halt.{halted_of}
 use Rattle.rescue.specs.declared.Rescued.{Rescued}
@@ -544,21 +544,25 @@ pub rebuilt_rebuild : (first : List ℕ) (readers : Readers) (frame : Frame) (ar
 rebuilt_rebuild first readers frame around place y u v = determined (rebuild_call_of first readers frame around place (planes_of y u v))
 
 -- ---- choices
+-- choices::answer::Refusal::number
+pub choices_refusal_number : (self : Refusal) → One (λ o. o ≡ refusal_number_of self)
+choices_refusal_number self = determined (refusal_number_of self)
+
 -- choices::checks::refusal
-pub choices_refusal : (bytes : List ℕ) (tile : Tile) (header : List ℤ) (sizes : Sizes) → One (λ o. o ≡ refusal_of (call_of bytes tile header) sizes)
-choices_refusal bytes tile header sizes = determined (refusal_of (call_of bytes tile header) sizes)
+pub choices_refusal : (bytes : List ℕ) (tile : Tile) (header : List ℤ) (sizes : Sizes) → One (λ o. o ≡ checked_of (call_of bytes tile header) sizes)
+choices_refusal bytes tile header sizes = determined (checked_of (call_of bytes tile header) sizes)
 
 -- choices::beside::beside
 pub choices_beside : (column : ℕ) (left : Context) → One (λ o. o ≡ beside_of column left)
 choices_beside column left = determined (beside_of column left)
 
--- choices::answer::Decoded::number
-pub choices_number : (self : Decoded) → One (λ o. o ≡ number_of self)
-choices_number self = determined (number_of self)
+-- choices::answer::number
+pub choices_number : (answer : Decoded) → One (λ o. o ≡ number_of answer)
+choices_number answer = determined (number_of answer)
 
--- choices::answer::Decoded::finished
-pub choices_finished : (self : Decoded) → One (λ o. o ≡ values_of self)
-choices_finished self = determined (values_of self)
+-- choices::answer::finished
+pub choices_finished : (answer : Decoded) → One (λ o. o ≡ values_of answer)
+choices_finished answer = determined (values_of answer)
 
 -- choices::answer::stopped
 pub choices_stopped : (answer : Finish) (k : ℕ) → One (λ o. o ≡ stopped_of answer k)

@@ -1,10 +1,10 @@
 -- The laws of the state that a picture stops in: it is the one reached last; and two pictures that share all but some token partitions stop
 -- together, or both come as far as they agree.
 use Rattle.std.specs.Prelude.{◌+◌, ◌-◌, ◌≤◌, ◌<◌, ◌≡◌, ◌⊎◌}
-use Rattle.numbers.specs.Words.{ℕ, suc, arith, refl, sym, ◌∙◌, ap, inl, inr, lt_or}
+use Rattle.numbers.specs.Words.{ℕ, suc, arith, refl, sym, ◌∙◌, ap, inl, inr, lt_or, Ok, Err}
+use Rattle.choices.specs.Choices.{Decoded}
 use Rattle.macroblock.specs.Macroblock.{Step, no_modes, no_tokens}
-use Rattle.choices.specs.declared.answer.Decoded.{Decoded}
-use Rattle.choices.specs.declared.answer.Decoded.TheVariants as D
+use Rattle.choices.specs.declared.answer.Stop.TheVariants as Stop
 use Rattle.picture.specs.Picture.{Picture, State, Ended, partition_of, step_at, next_of}
 use Rattle.picture.specs.Halt.{Halted, halt_of}
 use Rattle.picture.specs.HaltLaws.{halt_none, halt_finished, halt_no_modes, halt_no_tokens}
@@ -20,17 +20,17 @@ halt_from {P} {S₀} (after {k} {S} {x} r e) n =
     ∙ halt_from r (suc n) ∙ halt_finished n P k S x e ∙ ap (λ (i : ℕ). halt_of n P i (next_of P k S x)) {x = k + 1} {y = suc k} (omega arith)
 
 module _ (P : Picture) (S₀ : State) (M : ℕ) where
-  pub halts_whole : {S : State} → Reached P S₀ M S → halt_of M P 0 S₀ ≡ record { answer = D.Whole M; state = S }
+  pub halts_whole : {S : State} → Reached P S₀ M S → halt_of M P 0 S₀ ≡ record { answer = Ok M; state = S }
   halts_whole {S} r = ap (λ (i : ℕ). halt_of i P 0 S₀) {x = M} {y = M + 0} (omega arith) ∙ halt_from r 0 ∙ halt_none P M S
 
   module _ {k : ℕ} {S : State} (h : k < M) (r : Reached P S₀ k S) where
     one_more : halt_of M P 0 S₀ ≡ halt_of (suc (M - suc k)) P k S
     one_more = ap (λ (i : ℕ). halt_of i P 0 S₀) {x = M} {y = k + suc (M - suc k)} (omega arith) ∙ halt_from r (suc (M - suc k))
 
-    pub halts_modes : step_at P k S ≡ no_modes → halt_of M P 0 S₀ ≡ record { answer = D.NoModes k; state = S }
+    pub halts_modes : step_at P k S ≡ no_modes → halt_of M P 0 S₀ ≡ record { answer = Err (Stop.NoModes k); state = S }
     halts_modes e = one_more ∙ halt_no_modes (M - suc k) P k S e
 
-    pub halts_tokens : step_at P k S ≡ no_tokens → halt_of M P 0 S₀ ≡ record { answer = D.NoTokens k; state = S }
+    pub halts_tokens : step_at P k S ≡ no_tokens → halt_of M P 0 S₀ ≡ record { answer = Err (Stop.NoTokens k); state = S }
     halts_tokens e = one_more ∙ halt_no_tokens (M - suc k) P k S e
 
 -- ---- macroblocks below b read only partitions in which both agree
@@ -71,8 +71,8 @@ module _ {U : ℕ → Type 0} {P Q : Picture} (t : Twins U P Q) (b : ℕ) (used 
         go : (b < M) ⊎ (M ≤ b) → Halts M
         go (inl l) = further (omega arith) l r
         go (inr l) = let c = other t b used inside s₀ l r in together (both_at_lem (halts_whole P S₀ M r) (halts_whole Q T₀ M c.reached) c.same)
-    by_ending (modes_out {k} {S} h r g) = stopped k S (D.NoModes k) no_modes h r (missing_modes P k S g) (λ R X Y i e. halts_modes R X M h i e)
-    by_ending (tokens_out {k} {S} {m} {r} h i g d) = stopped k S (D.NoTokens k) no_tokens h i (missing_tokens P k S m r g d) (λ R X Y i e. halts_tokens R X M h i e)
+    by_ending (modes_out {k} {S} h r g) = stopped k S (Err (Stop.NoModes k)) no_modes h r (missing_modes P k S g) (λ R X Y i e. halts_modes R X M h i e)
+    by_ending (tokens_out {k} {S} {m} {r} h i g d) = stopped k S (Err (Stop.NoTokens k)) no_tokens h i (missing_tokens P k S m r g d) (λ R X Y i e. halts_tokens R X M h i e)
 
     pub halts : Halts M
     halts = by_ending (ending P S₀ M)

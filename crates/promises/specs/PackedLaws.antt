@@ -13,7 +13,6 @@ use Rattle.macroblock.specs.declared.arguments.SymbolCounts.{SymbolCounts}
 use Rattle.macroblock.specs.declared.arguments.Around.{Around}
 use Rattle.macroblock.specs.declared.arguments.Readers.{Readers}
 use Rattle.macroblock.specs.Macroblock.{reads_of, Planes, Finished, Step, finished, no_modes, no_tokens, step_of}
-use Rattle.choices.specs.declared.answer.Decoded.TheVariants as D
 use Rattle.choices.specs.Choices.{Call, call_in, refusal_of, beside_of}
 use Rattle.choices.specs.ChoicesLaws.{refusal_forms, fine_lengths}
 use Rattle.picture.specs.CallLaws.{picture_bad, picture_good, shared_start, live_start}

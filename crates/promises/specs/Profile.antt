@@ -1,10 +1,9 @@
 -- What is promised of the cockpit profile (request M-111): it says yes exactly when all six rules hold, and else names the first that fails.
 -- ProfileLaws proves it.
 use Rattle.std.specs.Prelude.{◌<◌, ◌≡◌, ◌⊎◌}
-use Rattle.numbers.specs.Words.{ℕ, true, pos}
+use Rattle.numbers.specs.Words.{ℕ, true, pos, Ok}
 use Rattle.header.specs.Header.{segments_on, map_on, sharpness, entry}
 use Rattle.lent.specs.Memory.{Memory}
-use Rattle.choices.specs.declared.answer.Decoded.TheVariants as D
 use Rattle.choices.specs.Choices.{Call}
 use Rattle.picture.specs.Picture.{picture_of}
 use Rattle.profile.specs.declared.Profiled.TheVariants as P
@@ -94,5 +93,5 @@ Refusing t m = let n = profile_number_of (profile_of t m).answer in (n ≡ 0) �
 -- the picture call after 0 holds
 pub record FitsWhole (t : Call) (m : Memory) : Type 0 where
   pub fine : Fine t m
-  pub answer : (picture_of t m).answer ≡ D.Whole 256
+  pub answer : (picture_of t m).answer ≡ Ok 256
   pub memory : (profile_of t m).mem ≡ (picture_of t m).mem

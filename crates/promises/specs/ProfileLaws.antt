@@ -1,13 +1,12 @@
 -- The proofs of what is promised of the cockpit profile (Profile.antt).
 use Rattle.std.specs.Prelude.{◌+◌, ◌*◌, ◌/◌, ◌≤◌, ◌<◌, ◌≡◌, ◌&&◌, ◌⊎◌}
-use Rattle.numbers.specs.Words.{ℕ, zero, suc, arith, refl, sym, ◌∙◌, ap, ap₂, subst, Bool, true, false, inl, inr, ⊎_elim, lit<, lt_or, eq_or, never, not_so, both_left, both_right, both_true, bit_of, List, length, get_or}
+use Rattle.numbers.specs.Words.{ℕ, zero, suc, arith, refl, sym, ◌∙◌, ap, ap₂, subst, Bool, true, false, inl, inr, ⊎_elim, lit<, lt_or, eq_or, never, not_so, both_left, both_right, both_true, bit_of, List, length, get_or, Ok}
 use Rattle.reader.specs.ReadingLaws.{Bytes}
 use Rattle.lent.specs.Memory.{record_at, records_in, mode_width, is_on, Memory, sizes_of}
 use Rattle.lent.specs.RecordsLaws.{record_byte}
 use Rattle.lent.specs.MacroblocksLaws.{mode_read}
 use Rattle.lent.specs.declared.macroblocks.ModeRecord.{ModeRecord}
 use Rattle.tile.specs.Tile.{Sides, Counted}
-use Rattle.choices.specs.declared.answer.Decoded.TheVariants as D
 use Rattle.choices.specs.Choices.{Call, refusal_of, number_of, values_of}
 use Rattle.picture.specs.Picture.{Picture, State, Ended, picture_of}
 use Rattle.profile.specs.declared.Profiled.{Profiled}
@@ -68,10 +67,10 @@ module _ (t : Call) (m : Memory) where
   whole_fine : Whole t m → Fine t m
   whole_fine w = ⊎_elim (λ e. e) (λ b. absurd (omega (arith, (refused_changes_nothing t m b).least, w))) (eq_or (refusal_of t (sizes_of m)) 0)
 
-  all_done : Fine t m → Whole t m → (picture_of t m).answer ≡ D.Whole (macroblocks t)
+  all_done : Fine t m → Whole t m → (picture_of t m).answer ≡ Ok (macroblocks t)
   all_done e w = go (stops_at t m e).one w
     where
-      go : {P : Picture} {S : State} {n : ℕ} {o : Ended} → Ending P S n o → number_of o.answer ≡ 0 → o.answer ≡ D.Whole n
+      go : {P : Picture} {S : State} {n : ℕ} {o : Ended} → Ending P S n o → number_of o.answer ≡ 0 → o.answer ≡ Ok n
       go (whole r) f = refl
       go (modes_out l r h) f = absurd (omega arith)
       go (tokens_out l r h j) f = absurd (omega arith)
@@ -277,6 +276,6 @@ module _ (t : Call) (m : Memory) (b : Bytes t.bytes) where
       let e = whole_fine t m q.whole in
       record {
         fine = e;
-        answer = all_done t m e q.whole ∙ ap₂ (λ (w h : ℕ). D.Whole (w / 16 * (h / 16))) q.square.width q.square.height;
+        answer = all_done t m e q.whole ∙ ap₂ (λ (w h : ℕ). Ok (w / 16 * (h / 16))) q.square.width q.square.height;
         memory = ap (λ (E : ProfileEnded). E.mem) (profile_judges.yes q);
       }

@@ -1,13 +1,13 @@
 -- How far a picture comes: the state that its k-th macroblock finds, what that macroblock asks, and how the picture ends.
 use Rattle.std.specs.Prelude.{◌<◌, ◌≡◌}
-use Rattle.numbers.specs.Words.{ℕ, suc, get_or}
+use Rattle.numbers.specs.Words.{ℕ, suc, get_or, Ok, Err}
 use Rattle.reader.specs.declared.boolean.Reader.{Reader}
 use Rattle.reader.specs.Reading.{Given, given, missing, no_reader_of, run}
 use Rattle.modes.specs.Modes.{Macroblock, modes_of}
 use Rattle.residual.specs.Residual.{Model, residual_of}
 use Rattle.header.specs.Frame.{factors_at}
 use Rattle.macroblock.specs.Macroblock.{Finished, finished}
-use Rattle.choices.specs.declared.answer.Decoded.TheVariants as D
+use Rattle.choices.specs.declared.answer.Stop.TheVariants as Stop
 use Rattle.picture.specs.Picture.{Picture, State, Ended, column_of, partition_of, around_at, step_at, next_of}
 
 -- from the state S₀, k macroblocks are finished one after the other, and the next one finds the state S
@@ -29,7 +29,7 @@ tokens_asked P k S m =
 -- how a picture of M macroblocks ends: all are finished; or every one before k is, and k asks for a byte that its partition lacks,
 -- for its modes, or else for its tokens. Memory is as the last one that is finished left it.
 pub data Ending (P : Picture) (S₀ : State) (M : ℕ) : Ended → Type 0 where
-  whole : {S : State} → Reached P S₀ M S → Ending P S₀ M (record { answer = D.Whole M; mem = S.mem })
-  modes_out : {k : ℕ} {S : State} → k < M → Reached P S₀ k S → modes_asked P k S ≡ missing → Ending P S₀ M (record { answer = D.NoModes k; mem = S.mem })
+  whole : {S : State} → Reached P S₀ M S → Ending P S₀ M (record { answer = Ok M; mem = S.mem })
+  modes_out : {k : ℕ} {S : State} → k < M → Reached P S₀ k S → modes_asked P k S ≡ missing → Ending P S₀ M (record { answer = Err (Stop.NoModes k); mem = S.mem })
   tokens_out : {k : ℕ} {S : State} {m : Macroblock} {r : Reader} → k < M → Reached P S₀ k S → modes_asked P k S ≡ given m r → tokens_asked P k S m ≡ missing
-      → Ending P S₀ M (record { answer = D.NoTokens k; mem = S.mem })
+      → Ending P S₀ M (record { answer = Err (Stop.NoTokens k); mem = S.mem })

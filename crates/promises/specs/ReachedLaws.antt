@@ -1,12 +1,12 @@
 -- The laws of a picture's run: it passes through every state that is reached, and it ends in one of three ways.
 use Rattle.std.specs.Prelude.{◌+◌, ◌-◌, ◌≤◌, ◌<◌, ◌≡◌, ◌⊎◌}
-use Rattle.numbers.specs.Words.{ℕ, zero, suc, add-one, arith, refl, sym, ◌∙◌, ap, subst, inl, inr, lt_or}
+use Rattle.numbers.specs.Words.{ℕ, zero, suc, add-one, arith, refl, sym, ◌∙◌, ap, subst, inl, inr, lt_or, Ok, Err}
 use Rattle.reader.specs.declared.boolean.Reader.{Reader}
 use Rattle.reader.specs.Reading.{given, missing}
 use Rattle.modes.specs.Modes.{Macroblock}
 use Rattle.macroblock.specs.Macroblock.{Finished, Step, finished, no_modes, no_tokens}
 use Rattle.macroblock.specs.StepLaws.{NoTokens, step_no_modes, step_no_tokens, step_refused_modes, step_refused_tokens}
-use Rattle.choices.specs.declared.answer.Decoded.TheVariants as D
+use Rattle.choices.specs.declared.answer.Stop.TheVariants as Stop
 use Rattle.choices.specs.Choices.{values_of}
 use Rattle.picture.specs.Picture.{Picture, State, Ended, column_of, partition_of, planes_in, place_of, readers_at, around_at, step_at, next_of, run_of}
 use Rattle.picture.specs.PictureLaws.{step_at_lem, run_none, run_finished, run_no_modes, run_no_tokens}
@@ -68,17 +68,17 @@ module _ (P : Picture) (S₀ : State) (M : ℕ) where
   ending = ends M 0 S₀ (omega arith) start
 
   -- and in no other: what is reached decides
-  pub ends_whole : {S : State} → Reached P S₀ M S → run_of M P 0 S₀ ≡ record { answer = D.Whole M; mem = S.mem }
+  pub ends_whole : {S : State} → Reached P S₀ M S → run_of M P 0 S₀ ≡ record { answer = Ok M; mem = S.mem }
   ends_whole {S} r = rest_of M (omega arith) r ∙ ap (λ (i : ℕ). run_of i P M S) {x = M - M} {y = 0} (omega arith) ∙ run_none P M S
 
   module _ {k : ℕ} {S : State} (h : k < M) (r : Reached P S₀ k S) where
     one_more : run_of M P 0 S₀ ≡ run_of (suc (M - suc k)) P k S
     one_more = rest_of M (omega arith) r ∙ ap (λ (i : ℕ). run_of i P k S) {x = M - k} {y = suc (M - suc k)} (omega arith)
 
-    pub stops_modes : step_at P k S ≡ no_modes → run_of M P 0 S₀ ≡ record { answer = D.NoModes k; mem = S.mem }
+    pub stops_modes : step_at P k S ≡ no_modes → run_of M P 0 S₀ ≡ record { answer = Err (Stop.NoModes k); mem = S.mem }
     stops_modes e = one_more ∙ run_no_modes (M - suc k) P k S e
 
-    pub stops_tokens : step_at P k S ≡ no_tokens → run_of M P 0 S₀ ≡ record { answer = D.NoTokens k; mem = S.mem }
+    pub stops_tokens : step_at P k S ≡ no_tokens → run_of M P 0 S₀ ≡ record { answer = Err (Stop.NoTokens k); mem = S.mem }
     stops_tokens e = one_more ∙ run_no_tokens (M - suc k) P k S e
 
 -- ---- what was reached before

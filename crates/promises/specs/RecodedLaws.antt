@@ -13,7 +13,6 @@ use Rattle.tile.specs.declared.Span.{Span}
 use Rattle.tile.specs.Tile.{no_span, contents_of, span_at_of, token_contents, blocks_of, Inside}
 use Rattle.tile.specs.PartitionsLaws.{span_at_lem, pick_below, readers_length, readers_at_lem, reader_first}
 use Rattle.macroblock.specs.Macroblock.{Finished, Step, finished, no_modes, no_tokens}
-use Rattle.choices.specs.declared.answer.Decoded.TheVariants as D
 use Rattle.choices.specs.Choices.{Call, refusal_of, number_of}
 use Rattle.choices.specs.ChoicesLaws.{refusal_none, fine_side, fine_entries, fine_lengths}
 use Rattle.picture.specs.Picture.{Picture, State, partition_of, step_at, next_of, pictured_of, begun_of, picture_of}

@@ -1,12 +1,12 @@
 -- Demand 1, arguments: a bad one is refused by number and nothing lent changes; with good ones it does not matter what memory held.
 use Rattle.std.specs.Prelude.{◌≤◌, ◌≡◌}
-use Rattle.numbers.specs.Words.{ℕ, zero, suc, arith, refl, sym, ◌∙◌, ap, length, replicate}
-use Rattle.choices.specs.declared.answer.Decoded.TheVariants as D
+use Rattle.numbers.specs.Words.{ℕ, zero, suc, arith, refl, sym, ◌∙◌, ap, length, replicate, Err}
+use Rattle.choices.specs.declared.answer.Stop.TheVariants as Stop
 use Rattle.lent.specs.declared.sizes.Sizes.{Sizes}
 use Rattle.lent.specs.Memory.{Memory, sizes_of, blank_of}
 use Rattle.tile.specs.Tile.{blocks_of, Sides, Counted, Cut}
-use Rattle.choices.specs.Choices.{Call, Bounded, Lengths, refusal_of, number_of, values_of}
-use Rattle.choices.specs.ChoicesLaws.{refusal_most, refusal_none, refused_side, refused_count, refused_entries, refused_lengths, refused_partitions, fine_side, fine_count, fine_entries, fine_lengths, fine_partitions}
+use Rattle.choices.specs.Choices.{Call, Bounded, Lengths, refusal_of, named, number_of, values_of}
+use Rattle.choices.specs.ChoicesLaws.{refusal_named, refusal_most, refusal_none, refused_side, refused_count, refused_entries, refused_lengths, refused_partitions, fine_side, fine_count, fine_entries, fine_lengths, fine_partitions}
 use Rattle.picture.specs.CallLaws.{picture_bad, picture_good}
 use Rattle.picture.specs.Picture.{Ended, pictured_of, start_of, begun_of, run_of, picture_of}
 
@@ -24,7 +24,7 @@ number t m = number_of (picture_of t m).answer
 
 -- ---- the call's answer where an argument is refused: a number in 1..5, no macroblock finished, and the memory as it was lent
 pub record Refused (t : Call) (m : Memory) : Type 0 where
-  pub is : picture_of t m ≡ record { answer = D.Refused (refusal_of t (sizes_of m)); mem = m }
+  pub is : picture_of t m ≡ record { answer = Err (Stop.Refused (named (refusal_of t (sizes_of m)))); mem = m }
   pub least : 1 ≤ number t m
   pub most : number t m ≤ 5
   pub none : values_of (picture_of t m).answer ≡ 0
@@ -45,7 +45,7 @@ pub refused_changes_nothing : (t : Call) (m : Memory) → Bad t m → Refused t 
 refused_changes_nothing t m b =
     let z = sizes_of m in
     let r = picture_bad t m refl b in
-    let a : refusal_of t z ≡ number t m = ap (λ (o : Ended). number_of o.answer) r in
+    let a : refusal_of t z ≡ number t m = sym (refusal_named t z b) ∙ ap (λ (o : Ended). number_of o.answer) r in
     record {
       is = sym r;
       least = omega (arith, b);
@@ -103,7 +103,9 @@ first_check_decides t m = record {
 
     -- the call answers the number of the check
     answered : {n : ℕ} → r ≡ suc n → number t m ≡ suc n
-    answered e = sym (ap (λ (o : Ended). number_of o.answer) (picture_bad t m refl (λ g. omega arith))) ∙ e
+    answered e =
+        let b : r ≡ 0 → ⊥ = λ g. omega arith in
+        sym (ap (λ (o : Ended). number_of o.answer) (picture_bad t m refl b)) ∙ refusal_named t z b ∙ e
 
 -- and good arguments are not refused
 pub good_arguments : (t : Call) (m : Memory) → Sides t.tile.width t.tile.height → Counted t.tile.count → Bounded t.header → Lengths t (sizes_of m) → Cut t.bytes t.tile → Fine t m

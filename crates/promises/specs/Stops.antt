@@ -1,10 +1,10 @@
 -- Demand 1, partitions that end too soon: the picture stops at the first macroblock that asks for a byte that is not there, and only so.
 use Rattle.std.specs.Prelude.{◌<◌, ◌≡◌}
-use Rattle.numbers.specs.Words.{ℕ, sym, ◌∙◌, subst}
+use Rattle.numbers.specs.Words.{ℕ, sym, ◌∙◌, subst, Ok, Err}
 use Rattle.reader.specs.declared.boolean.Reader.{Reader}
 use Rattle.reader.specs.Reading.{given, missing}
 use Rattle.modes.specs.Modes.{Macroblock}
-use Rattle.choices.specs.declared.answer.Decoded.TheVariants as D
+use Rattle.choices.specs.declared.answer.Stop.TheVariants as Stop
 use Rattle.lent.specs.Memory.{Memory}
 use Rattle.tile.specs.Tile.{blocks_of}
 use Rattle.choices.specs.Choices.{Call}
@@ -26,10 +26,10 @@ Ends t m = Ending (pictured_of t) (begun_of t m) (macroblocks t) (picture_of t m
 -- And where one of them is so, that is what the call answers.
 pub record Stops (t : Call) (m : Memory) : Type 0 where
   pub one : Ends t m
-  pub whole : {S : State} → Reached (pictured_of t) (begun_of t m) (macroblocks t) S → picture_of t m ≡ record { answer = D.Whole (macroblocks t); mem = S.mem }
-  pub modes : {k : ℕ} {S : State} → k < macroblocks t → Reached (pictured_of t) (begun_of t m) k S → modes_asked (pictured_of t) k S ≡ missing → picture_of t m ≡ record { answer = D.NoModes k; mem = S.mem }
+  pub whole : {S : State} → Reached (pictured_of t) (begun_of t m) (macroblocks t) S → picture_of t m ≡ record { answer = Ok (macroblocks t); mem = S.mem }
+  pub modes : {k : ℕ} {S : State} → k < macroblocks t → Reached (pictured_of t) (begun_of t m) k S → modes_asked (pictured_of t) k S ≡ missing → picture_of t m ≡ record { answer = Err (Stop.NoModes k); mem = S.mem }
   pub tokens : {k : ℕ} {S : State} {x : Macroblock} {r : Reader} → k < macroblocks t → Reached (pictured_of t) (begun_of t m) k S
-      → modes_asked (pictured_of t) k S ≡ given x r → tokens_asked (pictured_of t) k S x ≡ missing → picture_of t m ≡ record { answer = D.NoTokens k; mem = S.mem }
+      → modes_asked (pictured_of t) k S ≡ given x r → tokens_asked (pictured_of t) k S x ≡ missing → picture_of t m ≡ record { answer = Err (Stop.NoTokens k); mem = S.mem }
 
 pub stops_at : (t : Call) (m : Memory) → Fine t m → Stops t m
 stops_at t m e =

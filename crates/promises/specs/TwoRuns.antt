@@ -1,6 +1,6 @@
 -- Two pictures that share all but some token partitions: as long as only partitions are read in which they agree, they go the same way.
 use Rattle.std.specs.Prelude.{◌-◌, ◌*◌, ◌/◌, ◌%◌, ◌≤◌, ◌<◌, ◌≡◌, ◌⊎◌}
-use Rattle.numbers.specs.Words.{ℕ, arith, refl, sym, ◌∙◌, ap, inl, inr, lt_or, eq_or, List, length, get_or, set, length-set, get_or-set_other, get_or-set_same}
+use Rattle.numbers.specs.Words.{ℕ, arith, refl, sym, ◌∙◌, ap, inl, inr, lt_or, eq_or, List, length, get_or, set, length-set, get_or-set_other, get_or-set_same, Ok, Err}
 use Rattle.reader.specs.Reading.{no_reader_of}
 use Rattle.tile.specs.Tile.{pick_of}
 use Rattle.lent.specs.Memory.{column_at, Memory}
@@ -9,12 +9,11 @@ use Rattle.macroblock.specs.declared.arguments.Around.{Around}
 use Rattle.macroblock.specs.declared.arguments.Place.{Place}
 use Rattle.macroblock.specs.declared.arguments.Readers.{Readers}
 use Rattle.macroblock.specs.Macroblock.{reads_of, Planes, Finished, Step, no_modes, no_tokens, step_of}
-use Rattle.choices.specs.declared.answer.Decoded.{Decoded}
-use Rattle.choices.specs.declared.answer.Decoded.TheVariants as D
+use Rattle.choices.specs.declared.answer.Stop.TheVariants as Stop
 use Rattle.picture.specs.Picture.{reads_at, Picture, State, Ended, column_of, partition_of, planes_in, place_of, readers_at, around_at, step_at, written, next_of, run_of}
 use Rattle.picture.specs.CountsLaws.{reads_at_lem}
 use Rattle.picture.specs.PictureLaws.{step_at_lem}
-use Rattle.choices.specs.Choices.{beside_of}
+use Rattle.choices.specs.Choices.{beside_of, Decoded}
 use Rattle.promises.specs.Reached.{Reached, start, after, Ending, whole, modes_out, tokens_out}
 use Rattle.promises.specs.ReachedLaws.{missing_modes, missing_tokens, ending, ends_whole, stops_modes, stops_tokens, reached_before}
 
@@ -126,9 +125,9 @@ module _ {U : ℕ → Type 0} {P Q : Picture} (t : Twins U P Q) (b : ℕ) (used 
         go (inl l) = further (omega arith) l r
         go (inr l) =
             let c = other l r in
-            alike (ends_whole P S₀ M r ∙ ap (λ (m : Memory). record { answer = D.Whole M; mem = m }) c.same.mem ∙ sym (ends_whole Q T₀ M c.reached))
-    by_ending (modes_out {k} {S} h r g) = stopped k S (D.NoModes k) no_modes h r (missing_modes P k S g) (λ R X Y i e. stops_modes R X M h i e)
-    by_ending (tokens_out {k} {S} {m} {r} h i g d) = stopped k S (D.NoTokens k) no_tokens h i (missing_tokens P k S m r g d) (λ R X Y i e. stops_tokens R X M h i e)
+            alike (ends_whole P S₀ M r ∙ ap (λ (m : Memory). record { answer = Ok M; mem = m }) c.same.mem ∙ sym (ends_whole Q T₀ M c.reached))
+    by_ending (modes_out {k} {S} h r g) = stopped k S (Err (Stop.NoModes k)) no_modes h r (missing_modes P k S g) (λ R X Y i e. stops_modes R X M h i e)
+    by_ending (tokens_out {k} {S} {m} {r} h i g d) = stopped k S (Err (Stop.NoTokens k)) no_tokens h i (missing_tokens P k S m r g d) (λ R X Y i e. stops_tokens R X M h i e)
 
     pub split : Split M
     split = by_ending (ending P S₀ M)

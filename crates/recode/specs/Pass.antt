@@ -1,9 +1,8 @@
 -- What a pass over a tile's tokens promises: one that writes, one that only counts, and the call's.
 use Rattle.std.specs.Prelude.{◌≤◌, ◌≡◌, ◌++◌}
-use Rattle.numbers.specs.Words.{ℕ, List, length, drop, ℤ}
+use Rattle.numbers.specs.Words.{ℕ, List, length, drop, ℤ, Ok}
 use Rattle.lent.specs.Memory.{Memory}
 use Rattle.tile.specs.declared.Tile.{Tile}
-use Rattle.choices.specs.declared.answer.Decoded.TheVariants as D
 use Rattle.choices.specs.Choices.{Call, call_of}
 use Rattle.picture.specs.Picture.{picture_of}
 use Rattle.recode.specs.declared.tokens.TokensRecoded.{TokensRecoded}
@@ -25,15 +24,15 @@ pub record Passed (c : Call) (m end : Memory) (room : List ℕ) (n : ℕ) (after
 -- its contract, for a tile that is answered 0
 abbrev pub Passes : List ℕ → Tile → List ℤ → (columns room : List ℕ) → ℕ → (after new : List ℕ) → Type 0
 Passes bytes tile header columns room n after new =
-    (m : Memory) (M : ℕ) (end : Memory) → length m.columns ≡ length columns → picture_of (call_of bytes tile header) m ≡ record { answer = D.Whole M; mem = end } → Passed (call_of bytes tile header) m end room n after new
+    (m : Memory) (M : ℕ) (end : Memory) → length m.columns ≡ length columns → picture_of (call_of bytes tile header) m ≡ record { answer = Ok M; mem = end } → Passed (call_of bytes tile header) m end room n after new
 
 -- one that only counts
 abbrev pub Measures : List ℕ → Tile → List ℤ → (columns : List ℕ) → ℕ → (after : List ℕ) → Type 0
 Measures bytes tile header columns n after =
-    (m : Memory) (M : ℕ) (end : Memory) → length m.columns ≡ length columns → picture_of (call_of bytes tile header) m ≡ record { answer = D.Whole M; mem = end } → (after ≡ end.columns) × (n ≡ length (one_partition (call_of bytes tile header) m))
+    (m : Memory) (M : ℕ) (end : Memory) → length m.columns ≡ length columns → picture_of (call_of bytes tile header) m ≡ record { answer = Ok M; mem = end } → (after ≡ end.columns) × (n ≡ length (one_partition (call_of bytes tile header) m))
 
 -- what is written of a tile that is answered 0, of at most so many token symbols
 abbrev pub Writes : List ℕ → Tile → List ℤ → (most : ℕ) → (columns out : List ℕ) → TokensRecoded → (after new : List ℕ) → Type 0
 Writes bytes tile header most columns out q after new =
-    (m : Memory) (M : ℕ) (end : Memory) → length m.columns ≡ length columns → picture_of (call_of bytes tile header) m ≡ record { answer = D.Whole M; mem = end } → length (tokens_read (call_of bytes tile header) m) ≤ most
+    (m : Memory) (M : ℕ) (end : Memory) → length m.columns ≡ length columns → picture_of (call_of bytes tile header) m ≡ record { answer = Ok M; mem = end } → length (tokens_read (call_of bytes tile header) m) ≤ most
     → (after ≡ end.columns) × (tokens_ended q end new ≡ tokens_into (call_of bytes tile header) m end out)

@@ -1,6 +1,6 @@
 -- The call: its two passes over the tokens, its room, its refusals.
 use Rattle.std.specs.Prelude.{◌+◌, ◌-◌, ◌≤◌, ◌<◌, ◌≡◌, ◌++◌}
-use Rattle.numbers.specs.Words.{ℕ, zero, suc, arith, refl, sym, ◌∙◌, ap, subst, ⊎_elim, lit<, lt_or, eq_or, le-leb, lt-leb, List, append_assoc, append-nil, length, take, drop, replicate, drop_of_length-le, length-append, length-drop, take-append-drop, drop-append_seam, drop-drop, length-take-le, take_all, ℤ}
+use Rattle.numbers.specs.Words.{ℕ, zero, suc, arith, refl, sym, ◌∙◌, ap, subst, ⊎_elim, lit<, lt_or, eq_or, le-leb, lt-leb, List, append_assoc, append-nil, length, take, drop, replicate, drop_of_length-le, length-append, length-drop, take-append-drop, drop-append_seam, drop-drop, length-take-le, take_all, ℤ, Ok, Err}
 use Rattle.reader.specs.ReadingLaws.{Bytes}
 use Rattle.coefficients.specs.declared.block.Table.{Table}
 use Rattle.coefficients.specs.Block.{table_of}
@@ -12,10 +12,10 @@ use Rattle.tile.specs.Tile.{span_at_of, blocks_of}
 use Rattle.tile.specs.PartitionsLaws.{part_bytes}
 use Rattle.macroblock.specs.declared.arguments.SymbolCounts.{SymbolCounts}
 use Rattle.macroblock.specs.Macroblock.{Step, finished, no_modes, no_tokens}
-use Rattle.choices.specs.declared.answer.Decoded.{Decoded}
-use Rattle.choices.specs.declared.answer.Decoded.TheVariants as D
-use Rattle.choices.specs.Choices.{Call, call_of, call_in, refusal_of, number_of}
-use Rattle.choices.specs.ChoicesLaws.{refusal_most, fine_side, fine_count}
+use Rattle.choices.specs.declared.answer.Refusal.{Refusal}
+use Rattle.choices.specs.declared.answer.Stop.TheVariants as Stop
+use Rattle.choices.specs.Choices.{Call, call_of, call_in, refusal_of, named, refusal_number_of, number_of, Decoded}
+use Rattle.choices.specs.ChoicesLaws.{refusal_most, refusal_named, fine_side, fine_count}
 use Rattle.picture.specs.CallLaws.{picture_bad, picture_good, picture_found, shared_start, live_start, shared_found, live_found, run_found}
 use Rattle.picture.specs.Picture.{cost_of, Picture, State, Ended, cut_out, pictured_of, start_of, begun_of, step_at, next_of, run_of, picture_of, Live}
 use Rattle.picture.specs.CountsLaws.{cost_good}
@@ -34,23 +34,23 @@ pub use Rattle.recode.specs.Pass.{Small, Passed, Passes, Measures, Writes}
 
 -- ---- a picture call answered 0
 -- its arguments passed the checks
-pub whole_fine : (c : Call) (m : Memory) {M : ℕ} {end : Memory} → picture_of c m ≡ record { answer = D.Whole M; mem = end } → refusal_of c (sizes_of m) ≡ 0
+pub whole_fine : (c : Call) (m : Memory) {M : ℕ} {end : Memory} → picture_of c m ≡ record { answer = Ok M; mem = end } → refusal_of c (sizes_of m) ≡ 0
 whole_fine c m e = ⊎_elim (λ (f : refusal_of c (sizes_of m) ≡ 0). f) (λ (f : refusal_of c (sizes_of m) ≡ 0 → ⊥). absurd (whole_not_refused (picture_bad c m refl f ∙ e))) (eq_or (refusal_of c (sizes_of m)) 0)
 
 -- its answer is Whole
 pub record IsWhole (e : Ended) : Type 0 where
   pub count : ℕ
-  pub same : e ≡ record { answer = D.Whole count; mem = e.mem }
+  pub same : e ≡ record { answer = Ok count; mem = e.mem }
 
 pub sound_start : (c : Call) (m : Memory) → refusal_of c (sizes_of m) ≡ 0 → Bytes c.bytes → Sound (pictured_of c)
 sound_start c m e y = record { shared = shared_start c m e; first = part_bytes c.bytes c.tile.first y; tokens = λ q h. part_bytes c.bytes (span_at_of c.tile q) y }
 
 -- its answers: all macroblocks, modes or tokens that ran out, or an argument refused
 data Answered : Ended → Type 0 where
-  all : (k : ℕ) (m : Memory) → Answered (record { answer = D.Whole k; mem = m })
-  modes_out : (k : ℕ) (m : Memory) → Answered (record { answer = D.NoModes k; mem = m })
-  tokens_out : (k : ℕ) (m : Memory) → Answered (record { answer = D.NoTokens k; mem = m })
-  bad : (n : ℕ) (m : Memory) → n ≤ 5 → (n ≡ 0 → ⊥) → Answered (record { answer = D.Refused n; mem = m })
+  all : (k : ℕ) (m : Memory) → Answered (record { answer = Ok k; mem = m })
+  modes_out : (k : ℕ) (m : Memory) → Answered (record { answer = Err (Stop.NoModes k); mem = m })
+  tokens_out : (k : ℕ) (m : Memory) → Answered (record { answer = Err (Stop.NoTokens k); mem = m })
+  bad : (r : Refusal) (m : Memory) → refusal_number_of r ≤ 5 → (refusal_number_of r ≡ 0 → ⊥) → Answered (record { answer = Err (Stop.Refused r); mem = m })
 
 run_answered : (n : ℕ) (P : Picture) (k : ℕ) (S : State) → Answered (run_of n P k S)
 run_answered zero P k S = subst Answered (sym (run_none P k S)) (all k S.mem)
@@ -65,7 +65,10 @@ answered : (c : Call) (m : Memory) → Answered (picture_of c m)
 answered c m =
     ⊎_elim
     (λ (f : refusal_of c (sizes_of m) ≡ 0). subst Answered (sym (picture_good c m refl f)) (run_answered _ (pictured_of c) 0 (begun_of c m)))
-    (λ (f : refusal_of c (sizes_of m) ≡ 0 → ⊥). subst Answered (picture_bad c m refl f) (bad (refusal_of c (sizes_of m)) m (refusal_most c (sizes_of m)) f))
+    (λ (f : refusal_of c (sizes_of m) ≡ 0 → ⊥). 
+      let e = refusal_named c (sizes_of m) f in
+      let l = refusal_most c (sizes_of m) in
+      subst Answered (picture_bad c m refl f) (bad (named (refusal_of c (sizes_of m))) m (omega arith) (λ z. f (sym e ∙ z))))
     (eq_or (refusal_of c (sizes_of m)) 0)
 
 pub picture_whole : (c : Call) (m : Memory) → number_of (picture_of c m).answer ≡ 0 → IsWhole (picture_of c m)
@@ -75,7 +78,7 @@ picture_whole c m = go (answered c m)
     go (all k m) e = record { count = k; same = refl }
     go (modes_out k m) e = absurd (let z : 6 ≡ 0 = e in omega arith)
     go (tokens_out k m) e = absurd (let z : 7 ≡ 0 = e in omega arith)
-    go (bad n m l f) e = absurd (f e)
+    go (bad r m l f) e = absurd (f e)
 
 -- its numbers are below 8
 pub picture_below : (c : Call) (m : Memory) → number_of (picture_of c m).answer < 8
@@ -85,7 +88,7 @@ picture_below c m = go (answered c m)
     go (all k m) = lit< tt
     go (modes_out k m) = lit< tt
     go (tokens_out k m) = lit< tt
-    go (bad n m l f) = omega arith
+    go (bad r m l f) = omega arith
 
 dropped : (i : ℕ) (l : List ℕ) → length (drop i l) ≡ length l - i
 dropped i l = rw length-drop
@@ -134,7 +137,7 @@ module _ (c : Call) (m end : Memory) (out : List ℕ) where
   into_fits h e f = rw (le-leb (length (one_partition c m)) (length out) h, tokens_into) (λ i. tokens_ended (record { number = 0; len = e i }) end (f i))
 
 -- a partition is four bytes and at most one a symbol
-pub partition_most : (c : Call) (m : Memory) {M : ℕ} {end : Memory} → Bytes c.bytes → picture_of c m ≡ record { answer = D.Whole M; mem = end } → (4 ≤ length (one_partition c m)) × (length (one_partition c m) ≤ length (tokens_read c m) + 4)
+pub partition_most : (c : Call) (m : Memory) {M : ℕ} {end : Memory} → Bytes c.bytes → picture_of c m ≡ record { answer = Ok M; mem = end } → (4 ≤ length (one_partition c m)) × (length (one_partition c m) ≤ length (tokens_read c m) + 4)
 unfolding tokens_read
 partition_most c m y w =
     let e : refusal_of c (sizes_of m) ≡ 0 = whole_fine c m w in

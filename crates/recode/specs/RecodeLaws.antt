@@ -1,6 +1,6 @@
 -- The laws of a tile's token symbols: those of one macroblock, and of a run.
 use Rattle.std.specs.Prelude.{◌+◌, ◌*◌, ◌≤◌, ◌<◌, ◌≡◌, ◌++◌}
-use Rattle.numbers.specs.Words.{ℕ, zero, suc, arith, refl, sym, ◌∙◌, ap, subst, List, [], length, get_or, length-append}
+use Rattle.numbers.specs.Words.{ℕ, zero, suc, arith, refl, sym, ◌∙◌, ap, subst, List, [], length, get_or, length-append, Ok, Err}
 use Rattle.reader.specs.declared.boolean.Reader.{Reader}
 use Rattle.reader.specs.Reading.{Given, given, missing, no_reader_of, CodedSymbol, trace, count}
 use Rattle.reader.specs.ReadingLaws.{Bytes, Each, nil, Byte, each_append, trace_within, trace_bytes}
@@ -11,7 +11,8 @@ use Rattle.lent.specs.Memory.{Memory}
 use Rattle.macroblock.specs.declared.arguments.SymbolCounts.{SymbolCounts}
 use Rattle.macroblock.specs.Macroblock.{macroblock_token_reads, reads_of, Finished, Step, finished, no_modes, no_tokens, Ready}
 use Rattle.macroblock.specs.StepLaws.{Both, step_both}
-use Rattle.choices.specs.declared.answer.Decoded.TheVariants as D
+use Rattle.choices.specs.declared.answer.Refusal.{Refusal}
+use Rattle.choices.specs.declared.answer.Stop.TheVariants as Stop
 use Rattle.picture.specs.Picture.{Picture, State, Ended, column_of, partition_of, planes_in, place_of, readers_at, around_at, step_at, next_of, Shared, Live, reads_at, reads_from}
 use Rattle.picture.specs.PictureLaws.{step_at_lem, column_below, partition_below, ready_at, ends_at, live_next}
 use Rattle.picture.specs.CountsLaws.{reads_none, reads_finished, reads_no_modes, reads_no_tokens, reads_at_lem}
@@ -60,14 +61,14 @@ module _ (P : Picture) (k : ℕ) (S : State) where
     live_after {x} e = live_next P S k z.shared l h x (ends_at P S k z.shared l h z.first (z.tokens (partition_of P k) below) x e)
 
 -- a run that ends whole is not one that stops
-pub whole_not_modes : {M k : ℕ} {m n : Memory} → ◌≡◌ {A = Ended} (record { answer = D.NoModes k; mem = m }) (record { answer = D.Whole M; mem = n }) → ⊥
-whole_not_modes e = let z : ◌≡◌ {A = ℕ} 0 1 = ap (λ (x : Ended). elim x.answer [ D.Whole k ↦ 1 | D.Refused k ↦ 0 | D.NoModes k ↦ 0 | D.NoTokens k ↦ 0 ]) e in omega arith
+pub whole_not_modes : {M k : ℕ} {m n : Memory} → ◌≡◌ {A = Ended} (record { answer = Err (Stop.NoModes k); mem = m }) (record { answer = Ok M; mem = n }) → ⊥
+whole_not_modes e = let z : ◌≡◌ {A = ℕ} 0 1 = ap (λ (x : Ended). elim x.answer [ Ok k ↦ 1 | Err s ↦ 0 ]) e in omega arith
 
-pub whole_not_tokens : {M k : ℕ} {m n : Memory} → ◌≡◌ {A = Ended} (record { answer = D.NoTokens k; mem = m }) (record { answer = D.Whole M; mem = n }) → ⊥
-whole_not_tokens e = let z : ◌≡◌ {A = ℕ} 0 1 = ap (λ (x : Ended). elim x.answer [ D.Whole k ↦ 1 | D.Refused k ↦ 0 | D.NoModes k ↦ 0 | D.NoTokens k ↦ 0 ]) e in omega arith
+pub whole_not_tokens : {M k : ℕ} {m n : Memory} → ◌≡◌ {A = Ended} (record { answer = Err (Stop.NoTokens k); mem = m }) (record { answer = Ok M; mem = n }) → ⊥
+whole_not_tokens e = let z : ◌≡◌ {A = ℕ} 0 1 = ap (λ (x : Ended). elim x.answer [ Ok k ↦ 1 | Err s ↦ 0 ]) e in omega arith
 
-pub whole_not_refused : {M k : ℕ} {m n : Memory} → ◌≡◌ {A = Ended} (record { answer = D.Refused k; mem = m }) (record { answer = D.Whole M; mem = n }) → ⊥
-whole_not_refused e = let z : ◌≡◌ {A = ℕ} 0 1 = ap (λ (x : Ended). elim x.answer [ D.Whole k ↦ 1 | D.Refused k ↦ 0 | D.NoModes k ↦ 0 | D.NoTokens k ↦ 0 ]) e in omega arith
+pub whole_not_refused : {M : ℕ} {r : Refusal} {m n : Memory} → ◌≡◌ {A = Ended} (record { answer = Err (Stop.Refused r); mem = m }) (record { answer = Ok M; mem = n }) → ⊥
+whole_not_refused e = let z : ◌≡◌ {A = ℕ} 0 1 = ap (λ (x : Ended). elim x.answer [ Ok k ↦ 1 | Err s ↦ 0 ]) e in omega arith
 
 -- ---- each symbol's probability is a byte, and there are at most 7296 a macroblock
 pub record Few (n : ℕ) (qs : List CodedSymbol) : Type 0 where

@@ -1,12 +1,11 @@
 -- All macroblocks read and written again: what the contract of the walk says, and the turns of its loop.
 use Rattle.std.specs.Prelude.{◌+◌, ◌*◌, ◌/◌, ◌%◌, ◌≤◌, ◌<◌, ◌≡◌}
-use Rattle.numbers.specs.Words.{ℕ, zero, suc, mul-le-mul, arith, refl, sym, ◌∙◌, ap, subst, true, ⊎_elim, eq_or, List, length, get_or, set}
+use Rattle.numbers.specs.Words.{ℕ, zero, suc, mul-le-mul, arith, refl, sym, ◌∙◌, ap, subst, true, ⊎_elim, eq_or, List, length, get_or, set, Ok}
 use Rattle.header.specs.declared.frame.Frame.{Frame}
 use Rattle.lent.specs.Memory.{Memory, packed, column_set}
 use Rattle.macroblock.specs.Macroblock.{Finished, Step, finished, no_modes, no_tokens}
 use Rattle.modes.specs.declared.contexts.Context.{Context}
 use Rattle.modes.specs.Modes.{empty_context, context_fine_of}
-use Rattle.choices.specs.declared.answer.Decoded.TheVariants as D
 use Rattle.picture.specs.Picture.{Picture, State, Ended, cut_out, start_of, column_of, partition_of, step_at, next_of, run_of, Live}
 use Rattle.picture.specs.PictureLaws.{room_at, ends_at, partition_below, run_none, run_finished, run_no_modes, run_no_tokens}
 use Rattle.reader.specs.declared.boolean.Reader.{Reader}
@@ -29,7 +28,7 @@ use Rattle.recode.specs.TurnCopies.{TurnCopies}
 pub record Walkable (P : Picture) (S : State) (M : ℕ) (end : Memory) (F : Encoder) : Type 0 where
   pub sound : Sound P
   pub live : Live P S
-  pub whole : run_of (P.wide * P.high) P 0 S ≡ record { answer = D.Whole M; mem = end }
+  pub whole : run_of (P.wide * P.high) P 0 S ≡ record { answer = Ok M; mem = end }
   pub paid : write_all fresh (tokens_from (P.wide * P.high) P 0 S) ≡ F
   pub small : length F.out < 9223372036854775808
 
@@ -49,7 +48,7 @@ pub record Here (P : Picture) (M : ℕ) (end : Memory) (F : Encoder) (old : List
   pub S : State
   pub rest : ℕ
   pub sum : k + rest ≡ P.wide * P.high
-  pub same : run_of rest P k S ≡ record { answer = D.Whole M; mem = end }
+  pub same : run_of rest P k S ≡ record { answer = Ok M; mem = end }
   pub live : Live P S
   pub e : Encoder
   pub paid : write_all e (tokens_from rest P k S) ≡ F
@@ -102,7 +101,7 @@ module _ (P : Picture) {M : ℕ} {end : Memory} {F : Encoder} {old : List ℕ} {
       (subst (λ (x : Reader). TurnCopies P.form P.first (P.token (partition_of P k)) P.table (record { first = x; token = get_or readers (partition_of P k) no_reader_of; writer = w; frame = P.frame; left = left; column = column_of P k }) columns room q after new) h.reader
       c)))
 
-  next : (n : ℕ) → k + suc n ≡ P.wide * P.high → run_of (suc n) P k h.S ≡ record { answer = D.Whole M; mem = end } → write_all h.e (tokens_from (suc n) P k h.S) ≡ F → (x : Finished) → step_at P k h.S ≡ finished x
+  next : (n : ℕ) → k + suc n ≡ P.wide * P.high → run_of (suc n) P k h.S ≡ record { answer = Ok M; mem = end } → write_all h.e (tokens_from (suc n) P k h.S) ≡ F → (x : Finished) → step_at P k h.S ≡ finished x
       → Here P M end F old (k + 1) q.first (set readers (partition_of P k) q.token) q.left q.writer after new
   next n a b p x e =
       let S = h.S in
@@ -138,13 +137,13 @@ module _ (P : Picture) {M : ℕ} {end : Memory} {F : Encoder} {old : List ℕ} {
   pub here_next : Here P M end F old (k + 1) q.first (set readers (partition_of P k) q.token) q.left q.writer after new
   here_next = go h.rest h.sum h.same h.paid
     where
-      by : (n : ℕ) → k + suc n ≡ P.wide * P.high → run_of (suc n) P k h.S ≡ record { answer = D.Whole M; mem = end } → write_all h.e (tokens_from (suc n) P k h.S) ≡ F → (x : Step) → step_at P k h.S ≡ x
+      by : (n : ℕ) → k + suc n ≡ P.wide * P.high → run_of (suc n) P k h.S ≡ record { answer = Ok M; mem = end } → write_all h.e (tokens_from (suc n) P k h.S) ≡ F → (x : Step) → step_at P k h.S ≡ x
           → Here P M end F old (k + 1) q.first (set readers (partition_of P k) q.token) q.left q.writer after new
       by n a b p (finished x) e = next n a b p x e
       by n a b p no_modes e = absurd (whole_not_modes (sym (run_no_modes n P k h.S e) ∙ b))
       by n a b p no_tokens e = absurd (whole_not_tokens (sym (run_no_tokens n P k h.S e) ∙ b))
 
-      go : (n : ℕ) → k + n ≡ P.wide * P.high → run_of n P k h.S ≡ record { answer = D.Whole M; mem = end } → write_all h.e (tokens_from n P k h.S) ≡ F
+      go : (n : ℕ) → k + n ≡ P.wide * P.high → run_of n P k h.S ≡ record { answer = Ok M; mem = end } → write_all h.e (tokens_from n P k h.S) ≡ F
           → Here P M end F old (k + 1) q.first (set readers (partition_of P k) q.token) q.left q.writer after new
       go zero a b p = absurd (omega arith)
       go (suc n) a b p = by n a b p (step_at P k h.S) refl
@@ -153,7 +152,7 @@ here_end : (P : Picture) {M : ℕ} {end : Memory} {F : Encoder} {old : List ℕ}
 unfolding tokens_from
 here_end P {M} {end} {F} {old} {k} {w = w} {columns} {room} h l = go h.rest h.sum h.same h.paid
   where
-    go : (n : ℕ) → k + n ≡ P.wide * P.high → run_of n P k h.S ≡ record { answer = D.Whole M; mem = end } → write_all h.e (tokens_from n P k h.S) ≡ F → Walked F end old w columns room
+    go : (n : ℕ) → k + n ≡ P.wide * P.high → run_of n P k h.S ≡ record { answer = Ok M; mem = end } → write_all h.e (tokens_from n P k h.S) ≡ F → Walked F end old w columns room
     go zero a b p =
         let m : h.S.mem ≡ end = ap (λ (x : Ended). x.mem) (sym (run_none P k h.S) ∙ b) in
         let f : h.e ≡ F = sym (write_none h.e) ∙ p in

@@ -8,6 +8,7 @@ ghost use Rattle.recode.specs.Pass.{Small, Passes, Measures, Writes};
 
 use crate::walk::walk;
 use blank::fill;
+use choices::answer::number;
 use coefficients::block::probabilities;
 use header::frame::take;
 use picture::decode;
@@ -112,7 +113,7 @@ pub fn recode_tokens(
     );
     let answer = read.answer;
     let reads = read.reads;
-    let number = answer.number();
+    let number = number(answer);
     if number != 0 {
         return TokensRecoded { number, len: 0 };
     }

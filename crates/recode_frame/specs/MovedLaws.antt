@@ -1,7 +1,7 @@
 -- A picture and the same picture with both partitions written again: it reads its modes as the grammar of all modes does, and any two
 -- partitions that answer its symbols make the same picture.
 use Rattle.std.specs.Prelude.{◌+◌, ◌*◌, ◌/◌, ◌%◌, ◌≤◌, ◌<◌, ◌≡◌, ◌++◌}
-use Rattle.numbers.specs.Words.{ℕ, zero, suc, arith, refl, sym, ◌∙◌, ap, subst, ⊎_elim, eq_or, List, [], length, get_or, set, replicate, get_or-replicate, length-replicate, length-set, get_or-set_other, get_or-set_same}
+use Rattle.numbers.specs.Words.{ℕ, zero, suc, arith, refl, sym, ◌∙◌, ap, subst, ⊎_elim, eq_or, List, [], length, get_or, set, replicate, get_or-replicate, length-replicate, length-set, get_or-set_other, get_or-set_same, Ok}
 use Rattle.header.specs.declared.frame.Announced.{Announced}
 use Rattle.header.specs.FrameLaws.{frame_announced}
 use Rattle.lent.specs.Memory.{Memory, sizes_of, column_at, column_set}
@@ -11,7 +11,6 @@ use Rattle.macroblock.specs.StepLaws.{step_done}
 use Rattle.modes.specs.declared.contexts.Context.{Context}
 use Rattle.modes.specs.Modes.{Macroblock, modes_of, bottom_of, right_of}
 use Rattle.residual.specs.Residual.{Model}
-use Rattle.choices.specs.declared.answer.Decoded.TheVariants as D
 use Rattle.picture.specs.Picture.{Picture, State, column_of, partition_of, planes_in, place_of, around_at, step_at, written, next_of, pictured_of, begun_of, run_of, picture_of, Live}
 use Rattle.picture.specs.CallLaws.{picture_good, shared_start, live_start}
 use Rattle.picture.specs.PictureLaws.{step_at_lem, column_below, partition_below, room_at, ends_at, run_none, run_finished, run_no_modes, run_no_tokens}
@@ -151,14 +150,14 @@ pub record MovedSame (n : ℕ) (P : Picture) (f s : List ℕ) (k : ℕ) (S T : S
   pub tokens : tokens_from n (moved P f s) k T ≡ tokens_from n P k S
 
 pub moved_same : {M : ℕ} {mem : Memory} (n : ℕ) (P : Picture) (f s : List ℕ) (k : ℕ) (S T : State) (p q p9 q9 : Reader) (tops : List (List ℕ)) (left : List ℕ) → Sound P → Live P S → k + n ≤ P.wide * P.high → Tops P S tops left → Beside S T p q
-    → Answers f p (trace (modes_from P.frame.announced P.wide n k tops left) P.first S.reader) p9 → Answers s q (tokens_from n P k S) q9 → run_of n P k S ≡ record { answer = D.Whole M; mem = mem } → MovedSame n P f s k S T
+    → Answers f p (trace (modes_from P.frame.announced P.wide n k tops left) P.first S.reader) p9 → Answers s q (tokens_from n P k S) q9 → run_of n P k S ≡ record { answer = Ok M; mem = mem } → MovedSame n P f s k S T
 unfolding tokens_from
 moved_same zero P f s k S T p q p9 q9 tops left z l h t b a1 a2 e =
-    record { picture = run_none (moved P f s) k T ∙ ap (λ (m : Memory). record { answer = D.Whole k; mem = m }) (sym b.mem) ∙ sym (run_none P k S); tokens = refl }
+    record { picture = run_none (moved P f s) k T ∙ ap (λ (m : Memory). record { answer = Ok k; mem = m }) (sym b.mem) ∙ sym (run_none P k S); tokens = refl }
 moved_same {M} {mem} (suc n) P f s k S T p q p9 q9 tops left z l h t b a1 a2 e = go (λ x y p2 q2 tops2 left2. moved_same n P f s (k + 1) (next_of P k S x) (next_of (moved P f s) k T y) p2 q2 p9 q9 tops2 left2 z) (step_at P k S) refl
   where
     go : ((x y : Finished) (p2 q2 : Reader) (tops2 : List (List ℕ)) (left2 : List ℕ) → Live P (next_of P k S x) → k + 1 + n ≤ P.wide * P.high → Tops P (next_of P k S x) tops2 left2 → Beside (next_of P k S x) (next_of (moved P f s) k T y) p2 q2
-        → Answers f p2 (trace (modes_from P.frame.announced P.wide n (k + 1) tops2 left2) P.first x.readers.first) p9 → Answers s q2 (tokens_from n P (k + 1) (next_of P k S x)) q9 → run_of n P (k + 1) (next_of P k S x) ≡ record { answer = D.Whole M; mem = mem }
+        → Answers f p2 (trace (modes_from P.frame.announced P.wide n (k + 1) tops2 left2) P.first x.readers.first) p9 → Answers s q2 (tokens_from n P (k + 1) (next_of P k S x)) q9 → run_of n P (k + 1) (next_of P k S x) ≡ record { answer = Ok M; mem = mem }
         → MovedSame n P f s (k + 1) (next_of P k S x) (next_of (moved P f s) k T y))
         → (x : Step) → step_at P k S ≡ x → MovedSame (suc n) P f s k S T
     go ih (finished x) g =
@@ -179,11 +178,11 @@ pub record ModesGiven (n : ℕ) (P : Picture) (k : ℕ) (S : State) (tops : List
   pub last : Reader
   pub gives : run (modes_from P.frame.announced P.wide n k tops left) P.first S.reader ≡ given tt last
 
-pub modes_given : {M : ℕ} {mem : Memory} (n : ℕ) (P : Picture) (k : ℕ) (S : State) (tops : List (List ℕ)) (left : List ℕ) → Sound P → Live P S → k + n ≤ P.wide * P.high → Tops P S tops left → run_of n P k S ≡ record { answer = D.Whole M; mem = mem } → ModesGiven n P k S tops left
+pub modes_given : {M : ℕ} {mem : Memory} (n : ℕ) (P : Picture) (k : ℕ) (S : State) (tops : List (List ℕ)) (left : List ℕ) → Sound P → Live P S → k + n ≤ P.wide * P.high → Tops P S tops left → run_of n P k S ≡ record { answer = Ok M; mem = mem } → ModesGiven n P k S tops left
 modes_given zero P k S tops left z l h t e = record { last = S.reader; gives = ap (λ (m : Reading (Unit {0})). run m P.first S.reader) (march_none P.frame.announced P.wide k tops left) ∙ run_done tt P.first S.reader }
 modes_given {M} {mem} (suc n) P k S tops left z l h t e = go (λ x tops2 left2. modes_given n P (k + 1) (next_of P k S x) tops2 left2 z) (step_at P k S) refl
   where
-    go : ((x : Finished) (tops2 : List (List ℕ)) (left2 : List ℕ) → Live P (next_of P k S x) → k + 1 + n ≤ P.wide * P.high → Tops P (next_of P k S x) tops2 left2 → run_of n P (k + 1) (next_of P k S x) ≡ record { answer = D.Whole M; mem = mem } → ModesGiven n P (k + 1) (next_of P k S x) tops2 left2)
+    go : ((x : Finished) (tops2 : List (List ℕ)) (left2 : List ℕ) → Live P (next_of P k S x) → k + 1 + n ≤ P.wide * P.high → Tops P (next_of P k S x) tops2 left2 → run_of n P (k + 1) (next_of P k S x) ≡ record { answer = Ok M; mem = mem } → ModesGiven n P (k + 1) (next_of P k S x) tops2 left2)
         → (x : Step) → step_at P k S ≡ x → ModesGiven (suc n) P k S tops left
     go ih (finished x) g =
         let i : k < P.wide * P.high = omega arith in

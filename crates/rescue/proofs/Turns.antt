@@ -1,5 +1,5 @@
 -- The turns of the loop after the stop, on plain values.
-use Rattle.numbers.specs.Words.{ℕ, zero, suc, ◌+◌, ◌-◌, ◌*◌, ◌≤◌, ◌<◌, arith, ◌≡◌, refl, sym, ◌∙◌, ap, subst, ⊎_elim, [], ◌∷◌, set}
+use Rattle.numbers.specs.Words.{ℕ, zero, suc, ◌+◌, ◌-◌, ◌*◌, ◌≤◌, ◌<◌, arith, ◌≡◌, refl, sym, ◌∙◌, ap, subst, ⊎_elim, [], ◌∷◌, set, Ok, Err}
 use types.Run.{OneOf}
 use denote.Enum.Declared.{tag_of}
 use Rattle.reader.specs.Reading.{no_reader_of}
@@ -9,10 +9,8 @@ use Rattle.macroblock.specs.declared.arguments.Readers.{Readers}
 use Rattle.macroblock.specs.declared.ending.Finish.{Finish}
 use Rattle.macroblock.specs.Macroblock.{Step, finished, no_modes, no_tokens, finish_number_of}
 use Rattle.macroblock.specs.contracts.ending.Finish as finish
-use Rattle.choices.specs.declared.answer.Decoded.TheVariants as D
-use Rattle.choices.specs.contracts.answer.Decoded as decoded
-use Rattle.choices.specs.declared.answer.Decoded.{Decoded}
-use Rattle.choices.specs.Choices.{values_of}
+use Rattle.choices.specs.declared.answer.Stop.TheVariants as Stop
+use Rattle.choices.specs.Choices.{values_of, Decoded}
 use Rattle.picture.specs.Picture.{Picture, State, column_of, partition_of, next_of, Turned, turned, Shared, Live}
 use Rattle.picture.specs.PictureLaws.{live_next}
 use Rattle.rescue.specs.Rescue.{rebuilt_at, Saved, saved_at, rest_of, gone_on}
@@ -26,17 +24,17 @@ not_done F.NoTokens e z = omega arith
 not_done F.Refused e z = omega arith
 
 -- where tokens did not run out the picture stays as it is
-pub gone_none : (M : ℕ) (P : Picture) (a : Decoded) (S : State) → OneOf (0 ∷ 1 ∷ 2 ∷ []) (tag_of decoded.the_type a) → {n : ℕ} → n ≡ values_of a → saved_at n S.mem ≡ gone_on M P a S
-gone_none M P (D.Whole k) S e f = rw f
-gone_none M P (D.Refused n) S e f = rw f
-gone_none M P (D.NoModes k) S e f = rw f
-gone_none M P (D.NoTokens k) S e f = absurd (⊎_elim (λ h. omega arith) (⊎_elim (λ h. omega arith) (λ h. omega arith)) e)
+pub gone_none : (M : ℕ) (P : Picture) (a : Decoded) (S : State) → ((k : ℕ) → a ≡ Err (Stop.NoTokens k) → ⊥) → {n : ℕ} → n ≡ values_of a → saved_at n S.mem ≡ gone_on M P a S
+gone_none M P (Ok k) S e f = rw f
+gone_none M P (Err (Stop.Refused n)) S e f = rw f
+gone_none M P (Err (Stop.NoModes k)) S e f = rw f
+gone_none M P (Err (Stop.NoTokens k)) S e f = absurd (e k refl)
 
 -- and where they did the rest is from modes
-pub gone_tokens : (M : ℕ) (P : Picture) {a : Decoded} (S : State) {k : ℕ} {E : Saved} → a ≡ D.NoTokens k → E ≡ rest_of (M - k) P k S → E ≡ gone_on M P a S
+pub gone_tokens : (M : ℕ) (P : Picture) {a : Decoded} (S : State) {k : ℕ} {E : Saved} → a ≡ Err (Stop.NoTokens k) → E ≡ rest_of (M - k) P k S → E ≡ gone_on M P a S
 gone_tokens M P S e f = f ∙ sym (ap (λ (a : Decoded). gone_on M P a S) e)
 
-pub tokens_upto : {a : Decoded} {k n : ℕ} → a ≡ D.NoTokens k → values_of a ≤ n → k ≤ n
+pub tokens_upto : {a : Decoded} {k n : ℕ} → a ≡ Err (Stop.NoTokens k) → values_of a ≤ n → k ≤ n
 tokens_upto {n} e h = subst (λ (a : Decoded). values_of a ≤ n) e h
 
 pub some_wide : (w h k : ℕ) → k < w * h → 0 < w

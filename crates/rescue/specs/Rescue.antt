@@ -2,7 +2,7 @@
 -- its modes, without a residual and counted empty, and no other partition's tokens are read; where the first partition runs out the rest stays
 -- grey. A mark for each macroblock says which it is.
 use Rattle.std.specs.Prelude.{◌+◌, ◌-◌, ◌&&◌, ◌∷◌}
-use Rattle.numbers.specs.Words.{ℕ, zero, suc, true, false, eqb, ltb, List, [], length, build}
+use Rattle.numbers.specs.Words.{ℕ, zero, suc, true, false, eqb, ltb, List, [], length, build, Ok, Err}
 use Rattle.reader.specs.declared.boolean.Reader.{Reader}
 use Rattle.reader.specs.ReadingLaws.{Valid}
 use Rattle.header.specs.Header.{entries_of}
@@ -11,9 +11,8 @@ use Rattle.lent.specs.declared.sizes.Sizes.{Sizes}
 use Rattle.lent.specs.Memory.{Memory, sizes_of}
 use Rattle.macroblock.specs.Macroblock.{Step, finished, no_modes, no_tokens}
 use Rattle.macroblock.specs.Rebuilt.{rebuilt_of}
-use Rattle.choices.specs.declared.answer.Decoded.TheVariants as D
-use Rattle.choices.specs.Choices.{Call, lengths_of, failed, values_of}
-use Rattle.choices.specs.declared.answer.Decoded.{Decoded}
+use Rattle.choices.specs.declared.answer.Stop.TheVariants as Stop
+use Rattle.choices.specs.Choices.{Call, lengths_of, failed, values_of, Decoded}
 use Rattle.picture.specs.Picture.{Picture, State, pictured_of, column_of, partition_of, planes_in, place_of, readers_at, around_at, next_of}
 use Rattle.picture.specs.Halt.{Halted, halted_of}
 use Rattle.rescue.specs.declared.Rescued.{Rescued}
@@ -61,10 +60,10 @@ rest_of (suc n) P k S =
 
 -- from the picture call's answer and state on, of M macroblocks: where tokens ran out (7) the rest from modes; else it stays as it is
 abbrev pub gone_on : (M : ℕ) → Picture → Decoded → State → Saved
-gone_on M P (D.Whole k) S = saved_at k S.mem
-gone_on M P (D.Refused n) S = saved_at 0 S.mem
-gone_on M P (D.NoModes k) S = saved_at k S.mem
-gone_on M P (D.NoTokens k) S = rest_of (M - k) P k S
+gone_on M P (Ok k) S = saved_at k S.mem
+gone_on M P (Err (Stop.Refused n)) S = saved_at 0 S.mem
+gone_on M P (Err (Stop.NoModes k)) S = saved_at k S.mem
+gone_on M P (Err (Stop.NoTokens k)) S = rest_of (M - k) P k S
 
 -- ---- the mark of macroblock i: 0 where it is among the `whole` that the picture call finishes, 1 where it is among the `saved`, else 2
 unfoldable pub mark_of_of : (whole saved i : ℕ) → ℕ

@@ -15,6 +15,7 @@ ghost use Rattle.rescue.specs.Rescue.{rescue_ended, rescue_of, rescue_number_of,
 use crate::checks::refusal_with_marks;
 use crate::marks::mark;
 use crate::rest::rest;
+use choices::answer::finished;
 use lent::sizes::Sizes;
 use picture::halt;
 use tile::Tile;
@@ -93,7 +94,7 @@ pub fn rescue(
         &mut strengths[..],
     );
     let answer = stop.answer;
-    let whole = answer.finished();
+    let whole = finished(answer);
     let saved = rest(
         bytes, tile, header, stop, y, u, v, columns, modes, strengths,
     );

@@ -9,7 +9,7 @@ ghost use Rattle.picture.specs.Halt.{state_of};
 ghost use Rattle.rescue.specs.Rescue.{saved_at, gone_on};
 
 use crate::turn::{task_of, turn};
-use choices::answer::Decoded;
+use choices::answer::{Stop, finished};
 use header::frame::take;
 use macroblock::arguments::Readers;
 use macroblock::ending::Finish;
@@ -43,8 +43,11 @@ pub(crate) fn rest(
         columns.old modes.old strengths.old)) }
 {
     let answer = stop.answer;
-    let Decoded::NoTokens(from) = answer else {
-        return answer.finished();
+    let Err(end) = answer else {
+        return finished(answer);
+    };
+    let Stop::NoTokens(from) = end else {
+        return finished(answer);
     };
     let wide = tile.width / 16;
     let blocks = wide * (tile.height / 16);

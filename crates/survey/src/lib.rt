@@ -11,6 +11,7 @@ ghost use Rattle.survey.specs.Survey.{survey_ended, survey_of, told_of};
 
 use crate::sums::{COUNTS, add};
 use crate::tally::tally;
+use choices::answer::{finished, number};
 use macroblock::arguments::SymbolCounts;
 use picture::decode;
 use tile::Tile;
@@ -78,8 +79,8 @@ pub fn survey(
     );
     let answer = d.answer;
     let reads = d.reads;
-    let number = answer.number();
-    let finished = answer.finished();
+    let number = number(answer);
+    let finished = finished(answer);
     let added = tally(number, finished, reads, modes, strengths);
     let full = add(&mut counts[..], &added);
     let told = told(number, full);

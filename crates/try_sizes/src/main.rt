@@ -5,25 +5,17 @@
 
 ghost use Rattle.std.specs.Prelude.{◌≡◌, length};
 
-use choices::answer::Decoded;
+use choices::answer::{finished, number};
 use picture::decode;
 use reader::boolean::open;
 use std::io;
 use tile::{Span, Tile};
 
-fn show(rt: &impl Print, n: usize) -> io::Result<()> {
-    print!(rt; " {n}")
-}
-
 fn header() -> [i32; 1096]
     ensures { 1096 ≡ length result }
 {
     let mut h = [0; 1096];
-    let mut i = 38;
-    while i < 1094 {
-        h[i] = 128;
-        i = i + 1;
-    }
+    h[38..1094].fill(128);
     h
 }
 
@@ -58,27 +50,6 @@ fn strengths() -> [u8; 6144]
     [0; 6144]
 }
 
-fn answer(rt: &impl Print, d: Decoded) -> io::Result<()> {
-    match d {
-        Decoded::Whole(k) => {
-            print!(rt; " 0")?;
-            show(rt, k)
-        }
-        Decoded::Refused(n) => {
-            show(rt, n as usize)?;
-            show(rt, 0)
-        }
-        Decoded::NoModes(k) => {
-            print!(rt; " 6")?;
-            show(rt, k)
-        }
-        Decoded::NoTokens(k) => {
-            print!(rt; " 7")?;
-            show(rt, k)
-        }
-    }
-}
-
 fn decoded(rt: &impl Print, width: usize, height: usize, count: usize) -> io::Result<()> {
     let bytes = zeros();
     let h = header();
@@ -90,9 +61,9 @@ fn decoded(rt: &impl Print, width: usize, height: usize, count: usize) -> io::Re
         first: all,
         tokens: [all; 8],
         reader: open(&bytes),
-        count: count,
-        width: width,
-        height: height,
+        count,
+        width,
+        height,
     };
     let mut y = luma();
     let mut u = zeros();
@@ -103,15 +74,11 @@ fn decoded(rt: &impl Print, width: usize, height: usize, count: usize) -> io::Re
     let d = decode(
         &bytes, given, &h, &mut y, &mut u, &mut v, &mut c, &mut m, &mut s,
     );
-    let end = d.answer;
-    answer(rt, end)
+    print!(rt; " {} {}", number(d.answer), finished(d.answer))
 }
 
 fn row(rt: &impl Print, width: usize, height: usize, count: usize) -> io::Result<()> {
-    print!(rt; "{width}")?;
-    show(rt, height)?;
-    show(rt, count)?;
-    print!(rt; ":")?;
+    print!(rt; "{width} {height} {count}:")?;
     decoded(rt, width, height, count)?;
     print!(rt; "\n")
 }

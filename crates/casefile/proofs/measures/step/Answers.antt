@@ -3,4 +3,4 @@ use Rattle.casefile.proofs.measures.step.Goals as goal
 
 pub returns : goal.returns
 unfolding fnv_step
-returns c = c.times.ensures
+returns c = rw c.from.ensures at c.times.ensures

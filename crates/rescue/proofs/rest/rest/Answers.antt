@@ -1,9 +1,10 @@
-use Rattle.numbers.specs.Words.{ℕ, ◌*◌, ◌/◌, ◌<◌, mul-le-mul, arith, ◌≡◌, ◌∙◌, ap}
+use Rattle.numbers.specs.Words.{ℕ, ◌*◌, ◌/◌, ◌<◌, mul-le-mul, arith, ◌≡◌, sym, ◌∙◌, ap, Err}
+use Rattle.choices.specs.declared.answer.Stop.{Stop}
 use Rattle.header.specs.declared.frame.Framed.{Framed}
 use Rattle.header.specs.FrameLaws.{frame_good}
 use Rattle.tile.specs.PartitionsLaws.{part_bytes, pick_below}
 use Rattle.lent.specs.Memory.{memory_of}
-use Rattle.choices.specs.Choices.{call_of}
+use Rattle.choices.specs.Choices.{call_of, values_of}
 use Rattle.picture.specs.Picture.{Picture, State, pictured_of, partition_of, Shared, Turned, turned_of}
 use Rattle.picture.specs.PictureLaws.{task_is}
 use Rattle.picture.specs.Halt.{state_of}
@@ -18,13 +19,18 @@ pick_eight {p} P k s e = let l : p < P.count = rw e (pick_below (k / P.wide) P.c
 pub returns-in_default : goal.returns-in_default
 returns-in_default c =
     let a = c.args in
-    gone_none _ _ a.stop.answer (state_of a.stop.reader a.stop.readers a.stop.left (memory_of a.y.now a.u.now a.v.now a.columns.now a.modes.now a.strengths.now)) (opened c.in_default.in_default-own.keys2) c.finished.ensures
+    gone_none _ _ a.stop.answer (state_of a.stop.reader a.stop.readers a.stop.left (memory_of a.y.now a.u.now a.v.now a.columns.now a.modes.now a.strengths.now)) (λ k e. let h = c.in_default.is in cc) c.finished.ensures
+
+pub returns-in_default-end : goal.returns-in_default-end
+returns-in_default-end c =
+    let a = c.args in
+    gone_none _ _ a.stop.answer (state_of a.stop.reader a.stop.readers a.stop.left (memory_of a.y.now a.u.now a.v.now a.columns.now a.modes.now a.strengths.now)) (λ k e. c.in_default-end.not-NoTokens k (let h = c.in-Err.is in cc)) (c.finished-in_default-end.ensures ∙ ap values_of (sym c.in-Err.is))
 
 pub overflow_mul-blocks : goal.overflow_mul-blocks
 overflow_mul-blocks c = omega (arith, mul-le-mul c.requires.shared.wide c.requires.shared.high)
 
 pub loop-k-init : goal.loop-k-init
-loop-k-init c = going_start _ _ _ (tokens_upto c.in-NoTokens.is c.requires.answer_bound) c.requires.live
+loop-k-init c = going_start _ _ _ (tokens_upto (c.in-Err.is ∙ ap (λ (s : Stop). Err s) c.in-NoTokens.is) c.requires.answer_bound) c.requires.live
 
 pub offset_bounds-readers-p : goal.offset_bounds-readers-p
 offset_bounds-readers-p c = omega (arith, pick_eight (pictured_of (call_of c.args.bytes.now c.args.tile c.args.header.now)) c.loop-k.k c.requires.shared c.pick-p.ensures)
@@ -68,7 +74,7 @@ returns-in_default-finish c =
     let n = c.turn-m.new in
     let T : Turned = turned_of c.turn-m.result.answer c.turn-m.result.left (memory_of n.y n.u n.v n.columns n.modes n.strengths) in
     let e = rebuilt_turn P l.k S _ c.turn-m.ensures (task_is P l.k S c.task_of.ensures c.pick-p.ensures f) c.part-first.ensures in
-    gone_tokens _ P (state_of a.stop.reader a.stop.readers a.stop.left (memory_of a.y.now a.u.now a.v.now a.columns.now a.modes.now a.strengths.now)) c.in-NoTokens.is
+    gone_tokens _ P (state_of a.stop.reader a.stop.readers a.stop.left (memory_of a.y.now a.u.now a.v.now a.columns.now a.modes.now a.strengths.now)) (c.in-Err.is ∙ ap (λ (s : Stop). Err s) c.in-NoTokens.is)
     (going_refused c.requires.shared l.invariant c.loop-k-test.true T e (not_done c.turn-m.result.answer (opened c.in_default-finish.in_default-finish-own.keys2)))
 
 pub returns : goal.returns
@@ -76,5 +82,5 @@ returns c =
     let P : Picture = pictured_of (call_of c.args.bytes.now c.args.tile c.args.header.now) in
     let a = c.args in
     let k : c.loop-k.k ≡ P.wide * P.high = omega (arith, c.loop-k.invariant.sum, c.loop-k-test.false) in
-    gone_tokens _ P (state_of a.stop.reader a.stop.readers a.stop.left (memory_of a.y.now a.u.now a.v.now a.columns.now a.modes.now a.strengths.now)) c.in-NoTokens.is
+    gone_tokens _ P (state_of a.stop.reader a.stop.readers a.stop.left (memory_of a.y.now a.u.now a.v.now a.columns.now a.modes.now a.strengths.now)) (c.in-Err.is ∙ ap (λ (s : Stop). Err s) c.in-NoTokens.is)
     (rw k at (going_end c.loop-k.invariant c.loop-k-test.false))
