@@ -1,6 +1,5 @@
 // The call on a key frame's own header.
 ghost use Rattle.std.specs.Prelude.{◌≡◌};
-ghost use Rattle.numbers.specs.Flags.{bit_of};
 ghost use Rattle.boundary.specs.FrameCalls.{numbers_of, tile_after, FrameCalled, frame_called_of};
 ghost use Rattle.boundary.specs.TileNumbers.{put_of};
 
@@ -8,19 +7,11 @@ use crate::tile_numbers::{TILE_NUMBERS, numbers, put_numbers};
 use frame::take::Answer;
 use take::take_into;
 
-fn flag(on: bool) -> usize
-    ensures { result ≡ bit_of on }
-{
-    if on { 1 } else { 0 }
-}
-
 // Stores what was taken of a frame as 28 numbers.
 fn put_taken(tile: &mut [usize], a: Answer)
     ensures { tile.new ≡ put_of tile.old (numbers_of a) }
 {
-    let taken = a.tile;
-    let shown = a.shown;
-    put_numbers(tile, numbers(taken, shown, flag(a.simple)));
+    put_numbers(tile, numbers(a.tile, a.shown, usize::from(a.simple)));
 }
 
 // The same after the call from a frame to the screen, which leaves them after a refusal.

@@ -10,17 +10,18 @@ use tile::{Span, Tile};
 pub const TILE_NUMBERS: usize = 28;
 
 // A number too large for its field becomes the field's largest, which no reader in range has.
+#[tactic(auto, unfolding(crate::specs::TileNumbers::field_of))]
 fn field(n: usize) -> u32
     ensures { result ≡ field_of n }
 {
-    if n < 4294967296 { n as u32 } else { 4294967295 }
+    u32::try_from(n).unwrap_or(u32::MAX)
 }
 
 // Number i, 0 past the end.
 fn number(n: &[usize], i: usize) -> usize
     ensures { result ≡ get_or n.now i 0 }
 {
-    if i < n.len() { n[i] } else { 0 }
+    n.get(i).copied().unwrap_or(0)
 }
 
 fn token_span(n: &[usize], i: usize) -> Span
@@ -63,15 +64,13 @@ fn reader_of(n: &[usize]) -> Reader
 pub fn tile_of(n: &[usize]) -> Tile
     ensures { result ≡ tile_of_numbers n.now }
 {
-    let reader = reader_of(n);
-    let tokens = eight_spans(n);
     Tile {
         first: Span {
             start: number(n, 6),
             len: number(n, 7),
         },
-        tokens: tokens,
-        reader: reader,
+        tokens: eight_spans(n),
+        reader: reader_of(n),
         count: number(n, 5),
         width: number(n, 0),
         height: number(n, 1),
@@ -118,15 +117,11 @@ pub fn numbers(tile: Tile, shown: ShownSize, simple: usize) -> [usize; 28]
 }
 
 // Stores the 28 numbers where there is room for 28.
+#[tactic(auto, unfolding(crate::specs::TileNumbers::put_of))]
 pub fn put_numbers(tile: &mut [usize], n: [usize; 28])
     ensures { tile.new ≡ put_of tile.old n }
 {
-    if tile.len() != TILE_NUMBERS {
-        return;
-    }
-    let mut i = 0;
-    while i < 28 {
-        tile[i] = n[i];
-        i = i + 1;
+    if tile.len() == TILE_NUMBERS {
+        tile.copy_from_slice(&n);
     }
 }

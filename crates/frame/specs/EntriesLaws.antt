@@ -1,5 +1,5 @@
 -- The entries of a header that was read: 1096 of them, each in -255..255.
-use Rattle.std.specs.Prelude.{◌-◌, ◌≤◌, ◌<◌, ◌≡◌, ◌∷◌, ◌-ℤ◌}
+use Rattle.std.specs.Prelude.{◌-◌, ◌<◌, ◌≡◌, ◌∷◌, ◌-ℤ◌}
 use Rattle.numbers.specs.Words.{ℕ, zero, suc, arith, refl, ◌∙◌, ap, ⊎_elim, lit<, lt_or, le-ltb, lt-ltb, List, [], length, get_or, set, set_keeps, length_build, get_or_build, get_or_build_past, get_or_constant, ℤ, pos, negsuc, In, Each, of_le, ≤ℤ-trans, num, plainly, round, know_sub, unsigned_below, answered, w32}
 use Rattle.frame.specs.Header.{CodedNumber, Four, Three, Segments, Filter, QuantIndices, Header, no_value}
 use Rattle.frame.specs.Fine.{Small, FineFour, FineThree, FineSegments, FineFilter, FineQuantIndices, FineTaken}

@@ -24,15 +24,11 @@ fn four_from(l: [CodedNumber; 38], i: usize, f: Four) -> [CodedNumber; 38]
     requires { i < 35 }
     ensures { result ≡ stored_entries (four_from_of i f) l }
 {
-    let a = f.a;
-    let b = f.b;
-    let c = f.c;
-    let d = f.d;
     let mut out = l;
-    out[i] = a;
-    out[i + 1] = b;
-    out[i + 2] = c;
-    out[i + 3] = d;
+    out[i] = f.a;
+    out[i + 1] = f.b;
+    out[i + 2] = f.c;
+    out[i + 3] = f.d;
     out
 }
 
@@ -72,9 +68,6 @@ fn with_segments(g: Segments, l: [CodedNumber; 38]) -> [CodedNumber; 38]
 fn with_filter(f: Filter, l: [CodedNumber; 38]) -> [CodedNumber; 38]
     ensures { result ≡ with_filter_of f l }
 {
-    let deltas = f.deltas;
-    let intra = deltas.intra;
-    let small = deltas.small;
     let mut out = l;
     out[entries::FRAME_LEVEL] = CodedNumber {
         sign: 0,
@@ -88,29 +81,24 @@ fn with_filter(f: Filter, l: [CodedNumber; 38]) -> [CodedNumber; 38]
         sign: 0,
         size: f.on,
     };
-    out[entries::INTRA_DELTA] = intra;
-    out[entries::SMALL_DELTA] = small;
+    out[entries::INTRA_DELTA] = f.deltas.intra;
+    out[entries::SMALL_DELTA] = f.deltas.small;
     out
 }
 
 fn with_quantizers(q: QuantIndices, l: [CodedNumber; 38]) -> [CodedNumber; 38]
     ensures { result ≡ with_quantizers_of q l }
 {
-    let ydc = q.ydc;
-    let y2dc = q.y2dc;
-    let y2ac = q.y2ac;
-    let uvdc = q.uvdc;
-    let uvac = q.uvac;
     let mut out = l;
     out[entries::BASE_INDEX] = CodedNumber {
         sign: 0,
         size: q.base,
     };
-    out[entries::YDC_DELTA] = ydc;
-    out[entries::Y2DC_DELTA] = y2dc;
-    out[entries::Y2AC_DELTA] = y2ac;
-    out[entries::UVDC_DELTA] = uvdc;
-    out[entries::UVAC_DELTA] = uvac;
+    out[entries::YDC_DELTA] = q.ydc;
+    out[entries::Y2DC_DELTA] = q.y2dc;
+    out[entries::Y2AC_DELTA] = q.y2ac;
+    out[entries::UVDC_DELTA] = q.uvdc;
+    out[entries::UVAC_DELTA] = q.uvac;
     out
 }
 
@@ -164,10 +152,8 @@ pub(crate) fn entries(h: Header) -> [i32; 1096]
     let first = numbers(h);
     let probs = h.probs;
     let mut out = [0i32; 1096];
-    let mut i = 0;
-    while i < entries::ENTRY_COUNT {
+    for i in 0..entries::ENTRY_COUNT {
         out[i] = value(number_at(first, &probs, h.skip, h.chance, i));
-        i = i + 1;
     }
     out
 }

@@ -3,7 +3,7 @@ ghost use Rattle.std.specs.Prelude.{◌≡◌};
 ghost use Rattle.frame.specs.Header.{when, no_deltas_of, deltas, deltas_update_of, filter};
 ghost use Rattle.reader.specs.Reads.{Reads};
 
-use crate::fields::{CodedNumber, Deltas, Filter, GotDeltas, GotFilter};
+use crate::fields::{CodedNumber, Deltas, Filter};
 use crate::literal::{four, literal};
 use reader::boolean::Reader;
 
@@ -17,69 +17,55 @@ fn no_deltas() -> Deltas
     }
 }
 
-fn deltas(s: &[u8], r: Reader) -> GotDeltas
-    ensures { Reads deltas s.now r result.value result.next }
+fn deltas(s: &[u8], r: Reader) -> (Deltas, Reader)
+    ensures { Reads deltas s.now r result.0 result.1 }
 {
-    let qf = four(s, r, 6);
-    let qm = four(s, qf.next, 6);
-    let frames = qf.value;
-    let modes = qm.value;
-    let intra = frames.a;
-    let small = modes.a;
-    let next = qm.next;
-    GotDeltas {
-        value: Deltas {
-            intra: intra,
-            small: small,
+    let (frames, r1) = four(s, r, 6);
+    let (modes, r2) = four(s, r1, 6);
+    (
+        Deltas {
+            intra: frames.a,
+            small: modes.a,
         },
-        next: next,
-    }
+        r2,
+    )
 }
 
-fn deltas_update(s: &[u8], r: Reader) -> GotDeltas
-    ensures { Reads deltas_update_of s.now r result.value result.next }
+fn deltas_update(s: &[u8], r: Reader) -> (Deltas, Reader)
+    ensures { Reads deltas_update_of s.now r result.0 result.1 }
 {
-    let update = literal(s, r, 1);
-    let next = update.next;
-    if update.value == 0 {
-        return GotDeltas {
-            value: no_deltas(),
-            next: next,
-        };
+    let (update, next) = literal(s, r, 1);
+    if update == 0 {
+        return (no_deltas(), next);
     }
     deltas(s, next)
 }
 
-fn deltas_when(s: &[u8], r: Reader, flag: u32) -> GotDeltas
-    ensures { Reads (when flag no_deltas_of deltas_update_of) s.now r result.value result.next }
+fn deltas_when(s: &[u8], r: Reader, flag: u32) -> (Deltas, Reader)
+    ensures { Reads (when flag no_deltas_of deltas_update_of) s.now r result.0 result.1 }
 {
     if flag == 0 {
-        return GotDeltas {
-            value: no_deltas(),
-            next: r,
-        };
+        return (no_deltas(), r);
     }
     deltas_update(s, r)
 }
 
-pub(crate) fn filter(s: &[u8], r: Reader) -> GotFilter
-    ensures { Reads filter s.now r result.value result.next }
+pub(crate) fn filter(s: &[u8], r: Reader) -> (Filter, Reader)
+    ensures { Reads filter s.now r result.0 result.1 }
 {
-    let kind = literal(s, r, 1);
-    let level = literal(s, kind.next, 6);
-    let sharpness = literal(s, level.next, 3);
-    let on = literal(s, sharpness.next, 1);
-    let qd = deltas_when(s, on.next, on.value);
-    let deltas = qd.value;
-    let next = qd.next;
-    GotFilter {
-        value: Filter {
-            kind: kind.value,
-            level: level.value,
-            sharpness: sharpness.value,
-            on: on.value,
-            deltas: deltas,
+    let (kind, r1) = literal(s, r, 1);
+    let (level, r2) = literal(s, r1, 6);
+    let (sharpness, r3) = literal(s, r2, 3);
+    let (on, r4) = literal(s, r3, 1);
+    let (deltas, r5) = deltas_when(s, r4, on);
+    (
+        Filter {
+            kind,
+            level,
+            sharpness,
+            on,
+            deltas,
         },
-        next: next,
-    }
+        r5,
+    )
 }

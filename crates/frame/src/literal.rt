@@ -4,7 +4,7 @@ ghost use Rattle.reader.specs.Reading.{no_reader_of};
 ghost use Rattle.frame.specs.Header.{literal, signed, four_signed};
 ghost use Rattle.reader.specs.Reads.{Reads};
 
-use crate::fields::{CodedNumber, Four, GotFour, GotNumber, GotSigned};
+use crate::fields::{CodedNumber, Four};
 use reader::boolean::Reader;
 use reader::extra::extra_bits;
 
@@ -21,67 +21,39 @@ pub(crate) fn nowhere() -> Reader
 }
 
 // L(n), for n up to 8.
-pub(crate) fn literal(s: &[u8], r: Reader, n: usize) -> GotNumber
+pub(crate) fn literal(s: &[u8], r: Reader, n: usize) -> (u32, Reader)
     requires { n ≤ 8 }
-    ensures { Reads (literal n) s.now r result.value result.next }
+    ensures { Reads (literal n) s.now r result.0 result.1 }
 {
     let halves = [128u8; 8];
     let Ok((value, next)) = extra_bits(s, r, &halves[..n]).answer else {
-        return GotNumber {
-            value: 0,
-            next: nowhere(),
-        };
+        return (0, nowhere());
     };
-    GotNumber { value, next }
+    (value, next)
 }
 
 // A flag; where it is set, n bits and a sign.
-pub(crate) fn signed(s: &[u8], r: Reader, n: usize) -> GotSigned
+pub(crate) fn signed(s: &[u8], r: Reader, n: usize) -> (CodedNumber, Reader)
     requires { n ≤ 8 }
-    ensures { Reads (signed n) s.now r result.value result.next }
+    ensures { Reads (signed n) s.now r result.0 result.1 }
 {
-    let given = literal(s, r, 1);
-    let r1 = given.next;
-    if given.value == 0 {
-        return GotSigned {
-            value: CodedNumber { sign: 0, size: 0 },
-            next: r1,
-        };
+    let (given, r1) = literal(s, r, 1);
+    if given == 0 {
+        return (CodedNumber { sign: 0, size: 0 }, r1);
     }
-    let size = literal(s, r1, n);
-    let r2 = size.next;
-    let sign = literal(s, r2, 1);
-    let r3 = sign.next;
-    GotSigned {
-        value: CodedNumber {
-            sign: sign.value,
-            size: size.value,
-        },
-        next: r3,
-    }
+    let (size, r2) = literal(s, r1, n);
+    let (sign, r3) = literal(s, r2, 1);
+    (CodedNumber { sign, size }, r3)
 }
 
 // Four of them.
-pub(crate) fn four(s: &[u8], r: Reader, n: usize) -> GotFour
+pub(crate) fn four(s: &[u8], r: Reader, n: usize) -> (Four, Reader)
     requires { n ≤ 8 }
-    ensures { Reads (four_signed n) s.now r result.value result.next }
+    ensures { Reads (four_signed n) s.now r result.0 result.1 }
 {
-    let qa = signed(s, r, n);
-    let qb = signed(s, qa.next, n);
-    let qc = signed(s, qb.next, n);
-    let qd = signed(s, qc.next, n);
-    let a = qa.value;
-    let b = qb.value;
-    let c = qc.value;
-    let d = qd.value;
-    let next = qd.next;
-    GotFour {
-        value: Four {
-            a: a,
-            b: b,
-            c: c,
-            d: d,
-        },
-        next: next,
-    }
+    let (a, r1) = signed(s, r, n);
+    let (b, r2) = signed(s, r1, n);
+    let (c, r3) = signed(s, r2, n);
+    let (d, r4) = signed(s, r3, n);
+    (Four { a, b, c, d }, r4)
 }

@@ -1,6 +1,6 @@
 // The token partitions (RFC 6386, section 9.5): after the first partition stand the sizes of all but the last, three bytes each; then
 // the partitions one after the other, the last up to the end.
-ghost use Rattle.std.specs.Prelude.{◌≡◌, ◌<◌, ◌≤◌, ◌-◌};
+ghost use Rattle.std.specs.Prelude.{◌≡◌, ◌<◌, ◌≤◌};
 ghost use Rattle.frame.specs.Places.{partition_count, partition_size, partition_start, partition_span, token_spans};
 
 use crate::tag::three;
@@ -18,16 +18,7 @@ pub(crate) fn count(partitions: u32) -> usize
     requires { partitions < 4 }
     ensures { (result ≡ partition_count partitions) × (1 ≤ result) × (result ≤ 8) }
 {
-    if partitions == 0 {
-        return 1;
-    }
-    if partitions == 1 {
-        return 2;
-    }
-    if partitions == 2 {
-        return 4;
-    }
-    8
+    1 << partitions
 }
 
 // The size of partition i that stands in the table; none of the last.
@@ -37,16 +28,6 @@ fn sized(b: &[u8], table: usize, count: usize, i: usize) -> usize
 {
     if i + 1 < count {
         return three(b, table + 3 * i);
-    }
-    0
-}
-
-// What is left of n bytes from `at` on.
-fn rest(n: usize, at: usize) -> usize
-    ensures { result ≡ n - at }
-{
-    if at <= n {
-        return n - at;
     }
     0
 }
@@ -67,7 +48,7 @@ fn cut(b: &[u8], table: usize, count: usize, i: usize, at: usize) -> Span
     }
     Span {
         start: at,
-        len: rest(b.len(), at),
+        len: b.len().saturating_sub(at),
     }
 }
 
@@ -78,14 +59,9 @@ pub(crate) fn places(b: &[u8], table: usize, count: usize) -> Found
 {
     let mut tokens = [Span { start: 0, len: 0 }; 8];
     let mut at = table + 3 * (count - 1);
-    let mut i = 0;
-    while i < 8 {
+    for i in 0..8 {
         tokens[i] = cut(b, table, count, i, at);
-        at = at + sized(b, table, count, i);
-        i = i + 1;
+        at += sized(b, table, count, i);
     }
-    Found {
-        tokens: tokens,
-        last: at,
-    }
+    Found { tokens, last: at }
 }

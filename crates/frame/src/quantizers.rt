@@ -2,34 +2,28 @@
 ghost use Rattle.frame.specs.Header.{quantizers};
 ghost use Rattle.reader.specs.Reads.{Reads};
 
-use crate::fields::{GotQuantizers, QuantIndices};
+use crate::fields::QuantIndices;
 use crate::literal::{literal, signed};
 use reader::boolean::Reader;
 
-pub(crate) fn quantizers(s: &[u8], r: Reader) -> GotQuantizers
-    ensures { Reads quantizers s.now r result.value result.next }
+pub(crate) fn quantizers(s: &[u8], r: Reader) -> (QuantIndices, Reader)
+    ensures { Reads quantizers s.now r result.0 result.1 }
 {
-    let base = literal(s, r, 7);
-    let qa = signed(s, base.next, 4);
-    let qb = signed(s, qa.next, 4);
-    let qc = signed(s, qb.next, 4);
-    let qd = signed(s, qc.next, 4);
-    let qe = signed(s, qd.next, 4);
-    let a = qa.value;
-    let b = qb.value;
-    let c = qc.value;
-    let d = qd.value;
-    let e = qe.value;
-    let next = qe.next;
-    GotQuantizers {
-        value: QuantIndices {
-            base: base.value,
-            ydc: a,
-            y2dc: b,
-            y2ac: c,
-            uvdc: d,
-            uvac: e,
+    let (base, r1) = literal(s, r, 7);
+    let (ydc, r2) = signed(s, r1, 4);
+    let (y2dc, r3) = signed(s, r2, 4);
+    let (y2ac, r4) = signed(s, r3, 4);
+    let (uvdc, r5) = signed(s, r4, 4);
+    let (uvac, r6) = signed(s, r5, 4);
+    (
+        QuantIndices {
+            base,
+            ydc,
+            y2dc,
+            y2ac,
+            uvdc,
+            uvac,
         },
-        next: next,
-    }
+        r6,
+    )
 }

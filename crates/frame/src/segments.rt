@@ -3,60 +3,43 @@ ghost use Rattle.std.specs.Prelude.{◌≡◌};
 ghost use Rattle.frame.specs.Header.{when, no_features_of, features, map_prob_of, no_probs_of, map_probs_of, no_segments_of, update, segments};
 ghost use Rattle.reader.specs.Reads.{Reads};
 
-use crate::fields::{
-    CodedNumber, Features, Four, GotFeatures, GotNumber, GotSegments, GotThree, Segments, Three,
-};
+use crate::fields::{CodedNumber, Features, Four, Segments, Three};
 use crate::literal::{four, literal};
 use reader::boolean::Reader;
 
-fn features(s: &[u8], r: Reader) -> GotFeatures
-    ensures { Reads features s.now r result.value result.next }
+fn features(s: &[u8], r: Reader) -> (Features, Reader)
+    ensures { Reads features s.now r result.0 result.1 }
 {
-    let absolute = literal(s, r, 1);
-    let qq = four(s, absolute.next, 7);
-    let ql = four(s, qq.next, 6);
-    let quantizers = qq.value;
-    let levels = ql.value;
-    let next = ql.next;
-    GotFeatures {
-        value: Features {
-            absolute: absolute.value,
-            quantizers: quantizers,
-            levels: levels,
+    let (absolute, r1) = literal(s, r, 1);
+    let (quantizers, r2) = four(s, r1, 7);
+    let (levels, r3) = four(s, r2, 6);
+    (
+        Features {
+            absolute,
+            quantizers,
+            levels,
         },
-        next: next,
-    }
+        r3,
+    )
 }
 
-fn map_prob(s: &[u8], r: Reader) -> GotNumber
-    ensures { Reads map_prob_of s.now r result.value result.next }
+fn map_prob(s: &[u8], r: Reader) -> (u32, Reader)
+    ensures { Reads map_prob_of s.now r result.0 result.1 }
 {
-    let given = literal(s, r, 1);
-    let next = given.next;
-    if given.value == 0 {
-        return GotNumber {
-            value: 255,
-            next: next,
-        };
+    let (given, next) = literal(s, r, 1);
+    if given == 0 {
+        return (255, next);
     }
     literal(s, next, 8)
 }
 
-fn map_probs(s: &[u8], r: Reader) -> GotThree
-    ensures { Reads map_probs_of s.now r result.value result.next }
+fn map_probs(s: &[u8], r: Reader) -> (Three, Reader)
+    ensures { Reads map_probs_of s.now r result.0 result.1 }
 {
-    let a = map_prob(s, r);
-    let b = map_prob(s, a.next);
-    let c = map_prob(s, b.next);
-    let next = c.next;
-    GotThree {
-        value: Three {
-            a: a.value,
-            b: b.value,
-            c: c.value,
-        },
-        next: next,
-    }
+    let (a, r1) = map_prob(s, r);
+    let (b, r2) = map_prob(s, r1);
+    let (c, r3) = map_prob(s, r2);
+    (Three { a, b, c }, r3)
 }
 
 // Nothing announced: zeros.
@@ -83,49 +66,40 @@ fn no_probs() -> Three
     Three { a: 0, b: 0, c: 0 }
 }
 
-fn features_when(s: &[u8], r: Reader, flag: u32) -> GotFeatures
-    ensures { Reads (when flag no_features_of features) s.now r result.value result.next }
+fn features_when(s: &[u8], r: Reader, flag: u32) -> (Features, Reader)
+    ensures { Reads (when flag no_features_of features) s.now r result.0 result.1 }
 {
     if flag == 0 {
-        return GotFeatures {
-            value: no_features(),
-            next: r,
-        };
+        return (no_features(), r);
     }
     features(s, r)
 }
 
-fn probs_when(s: &[u8], r: Reader, flag: u32) -> GotThree
-    ensures { Reads (when flag no_probs_of map_probs_of) s.now r result.value result.next }
+fn probs_when(s: &[u8], r: Reader, flag: u32) -> (Three, Reader)
+    ensures { Reads (when flag no_probs_of map_probs_of) s.now r result.0 result.1 }
 {
     if flag == 0 {
-        return GotThree {
-            value: no_probs(),
-            next: r,
-        };
+        return (no_probs(), r);
     }
     map_probs(s, r)
 }
 
-fn update(s: &[u8], r: Reader, on: u32) -> GotSegments
-    ensures { Reads (update on) s.now r result.value result.next }
+fn update(s: &[u8], r: Reader, on: u32) -> (Segments, Reader)
+    ensures { Reads (update on) s.now r result.0 result.1 }
 {
-    let map = literal(s, r, 1);
-    let changes = literal(s, map.next, 1);
-    let qf = features_when(s, changes.next, changes.value);
-    let qo = probs_when(s, qf.next, map.value);
-    let features = qf.value;
-    let probs = qo.value;
-    let next = qo.next;
-    GotSegments {
-        value: Segments {
-            on: on,
-            map: map.value,
-            features: features,
-            probs: probs,
+    let (map, r1) = literal(s, r, 1);
+    let (changes, r2) = literal(s, r1, 1);
+    let (features, r3) = features_when(s, r2, changes);
+    let (probs, r4) = probs_when(s, r3, map);
+    (
+        Segments {
+            on,
+            map,
+            features,
+            probs,
         },
-        next: next,
-    }
+        r4,
+    )
 }
 
 fn no_segments() -> Segments
@@ -139,16 +113,12 @@ fn no_segments() -> Segments
     }
 }
 
-pub(crate) fn segments(s: &[u8], r: Reader) -> GotSegments
-    ensures { Reads segments s.now r result.value result.next }
+pub(crate) fn segments(s: &[u8], r: Reader) -> (Segments, Reader)
+    ensures { Reads segments s.now r result.0 result.1 }
 {
-    let on = literal(s, r, 1);
-    let next = on.next;
-    if on.value == 0 {
-        return GotSegments {
-            value: no_segments(),
-            next: next,
-        };
+    let (on, next) = literal(s, r, 1);
+    if on == 0 {
+        return (no_segments(), next);
     }
-    update(s, next, on.value)
+    update(s, next, on)
 }

@@ -4,17 +4,11 @@ ghost use Rattle.frame.specs.Tag.{two_at, three_at, first_size_of, width_of, hei
 
 use numbers::byte_or_zero;
 
-fn wide(x: u8) -> usize
-    ensures { (result ≡ x) × (result < 256) }
-{
-    x as usize
-}
-
 // The byte at i; past the end it is zero.
 fn byte(b: &[u8], i: usize) -> usize
     ensures { (result ≡ get_or b.now i 0) × (result < 256) }
 {
-    wide(byte_or_zero(b, i))
+    usize::from(byte_or_zero(b, i))
 }
 
 // Two bytes, and three, the lowest first.

@@ -42,7 +42,7 @@ pub fn refused(number: u32) -> Answer
     ensures { result ≡ refused_answer number }
 {
     Answer {
-        number: number,
+        number,
         tile: Tile {
             first: Span { start: 0, len: 0 },
             tokens: [Span { start: 0, len: 0 }; 8],
@@ -79,7 +79,6 @@ fn placed(b: &[u8], h: Header, reader: Reader) -> Taken
     if b.len() < found.last {
         return nothing(13);
     }
-    let filter = h.filter;
     let tokens = found.tokens;
     let across = width(b);
     let down = height(b);
@@ -91,8 +90,8 @@ fn placed(b: &[u8], h: Header, reader: Reader) -> Taken
                     start: 10,
                     len: size,
                 },
-                tokens: tokens,
-                reader: reader,
+                tokens,
+                reader,
                 count: n,
                 width: rounded(across),
                 height: rounded(down),
@@ -101,7 +100,7 @@ fn placed(b: &[u8], h: Header, reader: Reader) -> Taken
                 width: across,
                 height: down,
             },
-            simple: filter.kind != 0,
+            simple: h.filter.kind != 0,
         },
         header: entries(h),
     }
@@ -111,9 +110,7 @@ fn placed(b: &[u8], h: Header, reader: Reader) -> Taken
 pub fn read(b: &[u8], s: &[u8]) -> Taken
     ensures { result ≡ coded_of b.now (run header s.now (first_reader s.now)) }
 {
-    let q = coded(s, open(s));
-    let reader = q.next;
-    let h = q.value;
+    let (h, reader) = coded(s, open(s));
     if !valid(s, reader) {
         return nothing(14);
     }

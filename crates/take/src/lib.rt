@@ -39,14 +39,8 @@ pub fn take(bytes: &[u8]) -> Taken
 pub fn store(header: &mut [i32], entries: &[i32])
     ensures { header.new ≡ stored_of header.old entries.now }
 {
-    let n = header.len();
-    if n != entries.len() {
-        return;
-    }
-    let mut i = 0;
-    while i < n {
-        header[i] = entries[i];
-        i = i + 1;
+    if header.len() == entries.len() {
+        header.copy_from_slice(entries);
     }
 }
 
@@ -61,8 +55,7 @@ pub fn take_into(bytes: &[u8], header: &mut [i32]) -> Answer
     let t = take(bytes);
     let answer = t.answer;
     if answer.number == 0 {
-        let entries = t.header;
-        store(header, &entries);
+        store(header, &t.header);
     }
     answer
 }

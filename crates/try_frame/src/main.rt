@@ -21,12 +21,9 @@ fn show_span(rt: &impl Print, s: Span) -> io::Result<()> {
 }
 
 fn show_tokens(rt: &impl Print, t: Tile) -> io::Result<()> {
-    let tokens = t.tokens;
-    for i in 0..8 {
-        if i < t.count {
-            print!(rt; "\ntoken")?;
-            show_span(rt, tokens[i])?;
-        }
+    for span in t.tokens.iter().take(t.count) {
+        print!(rt; "\ntoken")?;
+        show_span(rt, *span)?;
     }
     Ok(())
 }

@@ -4,4 +4,4 @@ use Rattle.frame.proofs.coded.coded.Goals as goal
 
 pub returns : goal.returns
 unfolding header
-returns c = reads_then _ c.literal-colour.ensures (reads_then _ c.literal-clamping.ensures (reads_then _ c.segments-qs.ensures (reads_then _ c.filter-qf.ensures (reads_then _ c.literal-partitions.ensures (reads_then _ c.quantizers-qq.ensures (reads_then _ c.literal-refresh.ensures (reads_then _ c.probs-qo.ensures (reads_then _ c.literal-skip.ensures (reads_then _ c.chance_when-chance.ensures (reads_done _ _ _))))))))))
+returns c = reads_then _ c.literal-colour.ensures (reads_then _ c.literal-clamping.ensures (reads_then _ c.segments.ensures (reads_then _ c.filter.ensures (reads_then _ c.literal-partitions.ensures (reads_then _ c.quantizers.ensures (reads_then _ c.literal-refresh.ensures (reads_then _ c.probs.ensures (reads_then _ c.literal-skip.ensures (reads_then _ c.chance_when-chance.ensures (reads_done _ _ _))))))))))

@@ -1,5 +1,5 @@
 use Rattle.frame.specs.EntriesLaws.{value_stored, number_small}
-use Rattle.numbers.specs.Words.{◌-◌, arith, refl, filled_none, filled_next, filled_all}
+use Rattle.numbers.specs.Words.{arith, refl, filled_none, filled_next, filled_all}
 use Rattle.frame.specs.Entries.{entries}
 use Rattle.frame.proofs.entries.entries.Goals as goal
 

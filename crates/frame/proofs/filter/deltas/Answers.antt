@@ -4,4 +4,4 @@ use Rattle.frame.proofs.filter.deltas.Goals as goal
 
 pub returns : goal.returns
 unfolding deltas
-returns c = reads_then _ c.four-qf.ensures (reads_then _ c.four-qm.ensures (reads_done _ _ _))
+returns c = reads_then _ c.four.ensures (reads_then _ c.four-2.ensures (reads_done _ _ _))

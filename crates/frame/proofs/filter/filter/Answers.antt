@@ -4,4 +4,4 @@ use Rattle.frame.proofs.filter.filter.Goals as goal
 
 pub returns : goal.returns
 unfolding filter
-returns c = reads_then _ c.literal-kind.ensures (reads_then _ c.literal-level.ensures (reads_then _ c.literal-sharpness.ensures (reads_then _ c.literal-on.ensures (reads_then _ c.deltas_when-qd.ensures (reads_done _ _ _)))))
+returns c = reads_then _ c.literal-kind.ensures (reads_then _ c.literal-level.ensures (reads_then _ c.literal-sharpness.ensures (reads_then _ c.literal-on.ensures (reads_then _ c.deltas_when.ensures (reads_done _ _ _)))))

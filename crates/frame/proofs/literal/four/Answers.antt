@@ -4,4 +4,4 @@ use Rattle.frame.proofs.literal.four.Goals as goal
 
 pub returns : goal.returns
 unfolding four_signed
-returns c = reads_then _ c.signed-qa.ensures (reads_then _ c.signed-qb.ensures (reads_then _ c.signed-qc.ensures (reads_then _ c.signed-qd.ensures (reads_done _ _ _))))
+returns c = reads_then _ c.signed.ensures (reads_then _ c.signed-2.ensures (reads_then _ c.signed-3.ensures (reads_then _ c.signed-4.ensures (reads_done _ _ _))))

@@ -8,4 +8,4 @@ pub returns-then-i-count : goal.returns-then-i-count
 returns-then-i-count c = span_sized _ _ _ _ _ c.if-i-count.true c.three.ensures.0
 
 pub returns : goal.returns
-returns c = span_last _ _ _ _ _ c.if-count-i.false c.if-i-count.false c.rest.ensures
+returns c = span_last _ _ _ _ _ c.if-count-i.false c.if-i-count.false c.saturating_sub.ensures

@@ -1,4 +1,4 @@
-use Rattle.numbers.specs.Words.{◌-◌, arith, refl}
+use Rattle.numbers.specs.Words.{arith, refl}
 use Rattle.frame.proofs.Turns.{placing_start, placing_next, placing_end}
 use Rattle.frame.proofs.places.places.Goals as goal
 

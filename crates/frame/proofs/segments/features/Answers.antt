@@ -4,4 +4,4 @@ use Rattle.frame.proofs.segments.features.Goals as goal
 
 pub returns : goal.returns
 unfolding features
-returns c = reads_then _ c.literal-absolute.ensures (reads_then _ c.four-qq.ensures (reads_then _ c.four-ql.ensures (reads_done _ _ _)))
+returns c = reads_then _ c.literal-absolute.ensures (reads_then _ c.four.ensures (reads_then _ c.four-2.ensures (reads_done _ _ _)))

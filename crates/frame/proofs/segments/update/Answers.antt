@@ -4,4 +4,4 @@ use Rattle.frame.proofs.segments.update.Goals as goal
 
 pub returns : goal.returns
 unfolding update
-returns c = reads_then _ c.literal-map.ensures (reads_then _ c.literal-changes.ensures (reads_then _ c.features_when-qf.ensures (reads_then _ c.probs_when-qo.ensures (reads_done _ _ _))))
+returns c = reads_then _ c.literal-map.ensures (reads_then _ c.literal-changes.ensures (reads_then _ c.features_when.ensures (reads_then _ c.probs_when.ensures (reads_done _ _ _))))

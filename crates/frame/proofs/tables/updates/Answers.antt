@@ -1,13 +1,8 @@
-use Rattle.numbers.specs.Words.{◌-◌, refl, ◌∙◌, ap, lit<, length, laid_none, laid_next, laid_all}
+-- One test of the code's whole table.
+use Rattle.numbers.specs.Words.{◌∙◌}
 use Rattle.frame.specs.Tables.{update_probs}
 use Rattle.frame.proofs.tables.updates.Goals as goal
 
-pub loop-i-init : goal.loop-i-init
-unfolding update_probs
-loop-i-init c = laid_none 11 _ 1056 _ (lit< tt) c.update_rows-rows.ensures.0 (ap length c.update_rows-rows.ensures.1) refl
-
-pub loop-i-preserved : goal.loop-i-preserved
-loop-i-preserved c = laid_next c.loop-i.invariant c.loop-i-test.true
-
 pub returns : goal.returns
-returns c = laid_all c.loop-i.invariant c.loop-i-test.false ∙ c.update_rows-rows.ensures.1
+unfolding update_probs
+returns c = c.copy_from_slice.ensures.after ∙ c.as_flattened.ensures.value

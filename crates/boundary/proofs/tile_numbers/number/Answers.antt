@@ -1,5 +1,0 @@
-use Rattle.numbers.specs.Words.{sym, get_or-eq_default}
-use Rattle.boundary.proofs.tile_numbers.number.Goals as goal
-
-pub returns-else-i-n : goal.returns-else-i-n
-returns-else-i-n c = sym (get_or-eq_default c.args.n.now 0 c.if-i-n.false)

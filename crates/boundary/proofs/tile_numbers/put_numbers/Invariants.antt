@@ -1,8 +1,0 @@
-use Rattle.numbers.specs.Words.{◌-◌, get_or, Filled}
-use Rattle.boundary.proofs.tile_numbers.put_numbers.Given as goal
-
-abbrev pub invariant-loop-i : goal.invariant-loop-i
-invariant-loop-i l = Filled l.tile 28 (λ k. get_or l.n k 0) l.i
-
-abbrev pub decreases-loop-i : goal.decreases-loop-i
-decreases-loop-i l = 28 - l.i
