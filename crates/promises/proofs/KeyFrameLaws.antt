@@ -10,7 +10,7 @@ use Rattle.lent.specs.Memory.{Memory, sizes_of, packed, Sized}
 use Rattle.planes.specs.Paint.{sample_at}
 use Rattle.macroblock.specs.Macroblock.{Planes}
 use Rattle.choices.specs.Choices.{refusal_of, number_of, values_of}
-use Rattle.choices.specs.ChoicesLaws.{fine_lengths}
+use Rattle.choices.specs.ChoicesLaws.{refusal_named, fine_lengths}
 use Rattle.picture.specs.Picture.{Ended, picture_of, planes_in, cost_of}
 use Rattle.deblock.specs.Deblock.{deblock_of}
 use Rattle.frame.specs.declared.take.Answer.{Answer}
@@ -71,7 +71,7 @@ module _ (b : List ℕ) (y : Bytes b) (old : List ℤ) (m : Memory) where
       let f : number c m ≡ 4 = (first_check_decides c m).four p.sides p.counted p.each (λ l. n l.sizes) in
       ⊎_elim
       (λ z. absurd (n (fine_lengths c (sizes_of m) z).sizes))
-      (λ z. sym (ap (λ (o : Ended). number_of o.answer) (refused_changes_nothing c m z).is) ∙ f)
+      (λ z. sym (refusal_named c (sizes_of m) z) ∙ sym (ap (λ (o : Ended). number_of o.answer) (refused_changes_nothing c m z).is) ∙ f)
       (eq_or (refusal_of c (sizes_of m)) 0)
 
   pub key_frame_ends : KeyFrameEnds b old m

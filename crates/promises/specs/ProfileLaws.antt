@@ -8,6 +8,7 @@ use Rattle.lent.specs.MacroblocksLaws.{mode_read}
 use Rattle.lent.specs.declared.macroblocks.ModeRecord.{ModeRecord}
 use Rattle.tile.specs.Tile.{Sides, Counted}
 use Rattle.choices.specs.Choices.{Call, refusal_of, number_of, values_of}
+use Rattle.choices.specs.ChoicesLaws.{refusal_named}
 use Rattle.picture.specs.Picture.{Picture, State, Ended, picture_of}
 use Rattle.profile.specs.declared.Profiled.{Profiled}
 use Rattle.profile.specs.declared.Profiled.TheVariants as P
@@ -134,7 +135,7 @@ module _ (t : Call) (m : Memory) where
       by_refusal : Bad t m → profiled (P.Refused (number t m)) m ≡ profile_of t m
       by_refusal b =
           ap (λ (o : Ended). profiled (P.Refused (number_of o.answer)) m) (refused_changes_nothing t m b).is
-          ∙ profile_refused t m tile_passes refl refl b
+          ∙ profile_refused t m tile_passes refl (refusal_named t (sizes_of m) b) (λ z. b (sym (refusal_named t (sizes_of m) b) ∙ z))
 
       refusal_late : Bad t m → (number t m ≡ 3) ⊎ (number t m ≡ 4) ⊎ (number t m ≡ 5)
       refusal_late b =
