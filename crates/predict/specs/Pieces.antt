@@ -1,14 +1,7 @@
 -- What single functions of the code take and give, where the definitions of prediction have no name for it.
 use Rattle.std.specs.Prelude.{◌+◌, ◌/◌, ◌%◌, ◌≡◌, ◌⊎◌, ◌∷◌}
-use Rattle.numbers.specs.Words.{ℕ, true, cond, ltb, List, [], get_or, build, all_of, ℤ, pos, lt_z}
+use Rattle.numbers.specs.Words.{ℕ, true, ltb, List, [], get_or, build, all_of}
 use Rattle.predict.specs.Predict.{Size, at, mean3, two, tm_one}
-
--- ---- a number taken into 0..255, from below and then from above
-abbrev pub no_less_of : ℤ → ℤ
-no_less_of v = cond (lt_z v (pos 0)) (pos 0) v
-
-abbrev pub no_more_of : ℤ → ℤ
-no_more_of v = cond (lt_z (pos 255) v) (pos 255) v
 
 -- ---- means
 -- how many samples a mean is taken of: one side of a square, or two

@@ -1,22 +1,9 @@
--- What callers and proofs cite of the prediction: a number clipped, facts of the width, the mean of DC, TM row by row, a sub-block in a direction from the
+-- What callers and proofs cite of the prediction: facts of the width, TM row by row, a sub-block in a direction from the
 -- means that the code picks, and that each answer is sixteen samples.
-use Rattle.std.specs.Prelude.{◌+◌, ◌-◌, ◌/◌, ◌%◌, ◌≤◌, ◌<◌, ◌≡◌, ◌∷◌, ◌≤ℤ◌}
-use Rattle.numbers.specs.Words.{ℕ, arith, refl, sym, ◌∙◌, ap, ap₂, Bool, true, false, cond, inl, inr, ⊎_elim, eqb, ltb, lt_or, cond_at, eqb-true, ltb-true, List, [], length, get_or, get_or-eq_default, length_build, build_listed, all_of_any, ℤ, pos, lt_z, ≤ℤ_refl, In, nlt_le, clamp_z, clamp_tests}
-use Rattle.predict.specs.declared.Border.{Border}
-use Rattle.predict.specs.Predict.{Size, at, mean2, mean3, two, three, tm_one, dc_block_of, tm_block_of, ve_block, he_block, rd_block, vr_block, ld_block, vl_block, hd_block, hu_block, small_blocks_of, small_block_of, sum_of_first, dc_of}
-use Rattle.predict.specs.Pieces.{no_less_of, no_more_of, Count, mean_over, tm_at, tm_of, tm_row_of, joined_of, Eleven, stretched_of, twos_of, threes_of, both_of, row_picked, rows_picked, picked_of}
-
--- ---- a number taken into 0..255, from below and then from above
-pub no_less_in : {l h v : ℤ} → pos 0 ≤ℤ h → In l h v → In (pos 0) h (no_less_of v)
-no_less_in {l} {h} {v} p i =
-    cond_at (lt_z v (pos 0)) (In (pos 0) h) (λ e. record { low = ≤ℤ_refl (pos 0); high = p }) (λ e. record { low = nlt_le v (pos 0) e; high = i.high })
-
-pub clipped_so : (v : ℤ) → no_more_of (no_less_of v) ≡ clamp_z (pos 0) (pos 255) v
-clipped_so v = rw (clamp_tests (pos 0) (pos 255) v) (go (lt_z v (pos 0)))
-  where
-    go : (b : Bool) → no_more_of (cond b (pos 0) v) ≡ cond b (pos 0) (no_more_of v)
-    go true = refl
-    go false = refl
+use Rattle.std.specs.Prelude.{◌+◌, ◌-◌, ◌/◌, ◌%◌, ◌≤◌, ◌<◌, ◌≡◌, ◌∷◌}
+use Rattle.numbers.specs.Words.{ℕ, arith, refl, sym, ◌∙◌, ap, ap₂, inl, inr, ⊎_elim, eqb, ltb, lt_or, eqb-true, ltb-true, List, [], length, get_or, get_or-eq_default, length_build, build_listed, all_of_any}
+use Rattle.predict.specs.Predict.{Size, at, mean2, mean3, two, three, tm_one, dc_block_of, tm_block_of, ve_block, he_block, rd_block, vr_block, ld_block, vl_block, hd_block, hu_block, small_blocks_of, small_block_of}
+use Rattle.predict.specs.Pieces.{Count, tm_at, tm_of, tm_row_of, joined_of, Eleven, stretched_of, twos_of, threes_of, both_of, row_picked, rows_picked, picked_of}
 
 -- ---- the width
 pub size_le : {n : ℕ} → Size n → n ≤ 16
@@ -24,27 +11,6 @@ size_le s = ⊎_elim (λ e. omega arith) (λ e. omega arith) s
 
 pub count_twice : {n : ℕ} → Size n → Count (n + n)
 count_twice s = ⊎_elim (λ e. inl (inr (omega arith))) (λ e. inr (omega arith)) s
-
-pub count_else : {n : ℕ} → Count n → (n ≡ 8 → ⊥) → (n ≡ 16 → ⊥) → n ≡ 32
-count_else s f g = ⊎_elim (λ t. ⊎_elim (λ e. absurd (f e)) (λ e. absurd (g e)) t) (λ e. e) s
-
--- ---- DC, over the width
-module _ (n : ℕ) (e : Border) where
-  pub dc_both : e.above_inside ≡ true → e.left_inside ≡ true → dc_of n e ≡ mean_over (sum_of_first e.above n + sum_of_first e.left n) (n + n)
-  unfolding dc_of
-  dc_both o b = rw (o, b) (ap (λ (h : ℕ). (sum_of_first e.above n + sum_of_first e.left n + h) / (n + n)) (omega arith))
-
-  pub dc_over : e.above_inside ≡ true → e.left_inside ≡ false → dc_of n e ≡ mean_over (sum_of_first e.above n) n
-  unfolding dc_of
-  dc_over o b = rw (o, b)
-
-  pub dc_beside : e.above_inside ≡ false → e.left_inside ≡ true → dc_of n e ≡ mean_over (sum_of_first e.left n) n
-  unfolding dc_of
-  dc_beside o b = rw (o, b)
-
-  pub dc_none : e.above_inside ≡ false → e.left_inside ≡ false → dc_of n e ≡ 128
-  unfolding dc_of
-  dc_none o b = rw (o, b)
 
 -- ---- TM
 pub tm_rows : (l a : List ℕ) (p : ℕ) {w x y z : List ℕ}

@@ -4,11 +4,11 @@
 ghost use Rattle.std.specs.Prelude.{◌≡◌, cond, ◌<◌, ◌≤◌, ◌+◌, ◌*◌};
 ghost use Rattle.numbers.specs.Clamp.{clip_z};
 ghost use Rattle.predict.specs.Predict.{Size, at, mean2, mean3, two, tm_one, tm_wide_of, dc_block_of, tm_block_of, small_block_of, sum_of_first, dc_of};
-ghost use Rattle.predict.specs.Pieces.{Count, mean_over, joined_of, tm_row_of, tm_of, Eleven, stretched_of, three_from_of, twos_of, threes_of, both_of, row_picked, picked_of, no_less_of, no_more_of};
+ghost use Rattle.predict.specs.Pieces.{Count, mean_over, joined_of, tm_row_of, tm_of, Eleven, stretched_of, three_from_of, twos_of, threes_of, both_of, row_picked, picked_of};
 
 // What lies around a macroblock's square: the row above, the column to the left (of both the first 8 or 16), the corner, and
 // whether the row above and the column to the left are inside the picture.
-#[derive(Clone, Copy)]
+#[derive(Clone, Copy, Debug, PartialEq, Eq)]
 pub struct Border {
     pub above: [u8; 16],
     pub left: [u8; 16],
@@ -18,42 +18,24 @@ pub struct Border {
 }
 
 // ---- a number as a sample
-// One test after the other, so that the compiler can take several samples at once.
-fn no_less(v: i16) -> i16
-    ensures { result ≡ no_less_of v }
-{
-    if v < 0 { 0 } else { v }
-}
-
-fn no_more(v: i16) -> i16
-    ensures { result ≡ no_more_of v }
-{
-    if 255 < v { 255 } else { v }
-}
-
+// One bound after the other, so that the compiler can take several samples at once.
 pub fn clipped(v: i16) -> u8
     ensures { result ≡ clip_z v }
 {
-    no_more(no_less(v)) as u8
+    v.max(0).min(255) as u8
 }
 
 // ---- means, rounded
-fn wide(x: u8) -> u32
-    ensures { (result ≡ x) × (result < 256) }
-{
-    x as u32
-}
-
 fn mean2(x: u8, y: u8) -> u8
     ensures { result ≡ mean2 x y }
 {
-    ((wide(x) + wide(y) + 1) / 2) as u8
+    ((u32::from(x) + u32::from(y) + 1) / 2) as u8
 }
 
 fn mean3(x: u8, y: u8, z: u8) -> u8
     ensures { result ≡ mean3 x y z }
 {
-    ((wide(x) + wide(y) + wide(y) + wide(z) + 2) / 4) as u8
+    ((u32::from(x) + 2 * u32::from(y) + u32::from(z) + 2) / 4) as u8
 }
 
 // Of `count` samples with the sum `total`. Each way divides by a constant, which is a shift.
@@ -85,7 +67,7 @@ fn joined(w: [u8; 4], x: [u8; 4], y: [u8; 4], z: [u8; 4]) -> [u8; 16]
 fn tm_sample(l: u8, a: u8, corner: u8) -> u8
     ensures { result ≡ tm_one l a corner }
 {
-    clipped(l as i16 + a as i16 - corner as i16)
+    clipped(i16::from(l) + i16::from(a) - i16::from(corner))
 }
 
 // The same for a row with l on its left and a above it, and for a block of four rows.
@@ -116,15 +98,17 @@ fn total(e: [u8; 13], i: usize) -> u32
     requires { i < 10 }
     ensures { (result ≡ at e i + at e (i + 1) + at e (i + 2) + at e (i + 3)) × (result ≤ 1020) }
 {
-    wide(e[i]) + wide(e[i + 1]) + wide(e[i + 2]) + wide(e[i + 3])
+    u32::from(e[i]) + u32::from(e[i + 1]) + u32::from(e[i + 2]) + u32::from(e[i + 3])
 }
 
+#[tactic(auto, unfolding(crate::specs::Predict::dc_block_of))]
 fn dc_block(e: [u8; 13]) -> [u8; 16]
     ensures { result ≡ dc_block_of e }
 {
     [mean(total(e, 0) + total(e, 5), 8); 16]
 }
 
+#[tactic(auto, using(crate::specs::PredictLaws::tm_edge))]
 fn tm_block(e: [u8; 13]) -> [u8; 16]
     ensures { result ≡ tm_block_of e }
 {
@@ -194,10 +178,10 @@ fn pick_row(m: [u8; 11], places: [u8; 16], k: usize) -> [u8; 4]
     ensures { result ≡ row_picked m places k }
 {
     [
-        m[places[k] as usize],
-        m[places[k + 1] as usize],
-        m[places[k + 2] as usize],
-        m[places[k + 3] as usize],
+        m[usize::from(places[k])],
+        m[usize::from(places[k + 1])],
+        m[usize::from(places[k + 2])],
+        m[usize::from(places[k + 3])],
     ]
 }
 
@@ -250,20 +234,20 @@ pub fn small_block(mode: u8, e: [u8; 13]) -> [u8; 16]
 
 // ---- section 12.2: a square
 // The sum of the first `size`.
+#[tactic(auto, using(crate::specs::PredictLaws::size_le), unfolding(crate::specs::Predict::sum_of_first))]
 fn sum(l: [u8; 16], size: usize) -> u32
     requires { Size size }
     ensures { (result ≡ sum_of_first l size) × (result ≤ 255 * size) }
 {
     let mut total = 0;
-    let mut i = 0;
-    while i < size {
-        total += wide(l[i]);
-        i += 1;
+    for i in 0..size {
+        total += u32::from(l[i]);
     }
     total
 }
 
 // The mean of what is inside.
+#[tactic(auto, using(crate::specs::PredictLaws::size_le, crate::specs::PredictLaws::count_twice), unfolding(crate::specs::Predict::dc_of))]
 fn inside_mean(size: usize, e: Border) -> u8
     requires { Size size }
     ensures { result ≡ dc_of size e }
