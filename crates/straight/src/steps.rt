@@ -14,25 +14,26 @@ fn lowered(x: u8) -> i8
     ensures value { result ≡ pos x -ℤ pos 128 }
     ensures fact { In (negsuc 127) (pos 127) result }
 {
-    (x as i16 - 128) as i8
+    (i16::from(x) - 128) as i8
 }
 
 fn lifted(x: i8) -> u8
     ensures { pos result ≡ x +ℤ pos 128 }
 {
-    (x as i16 + 128) as u8
+    (i16::from(x) + 128) as u8
 }
 
+// These stay: the kit's `saturating_add` and `saturating_sub` make several tests, where the compiler makes one instruction of the range.
 fn plus(a: i8, b: i8) -> i8
     ensures { result ≡ signed_byte_z (a +ℤ b) }
 {
-    signed_byte(a as i16 + b as i16) as i8
+    signed_byte(i16::from(a) + i16::from(b)) as i8
 }
 
 fn minus(a: i8, b: i8) -> i8
     ensures { result ≡ signed_byte_z (a -ℤ b) }
 {
-    signed_byte(a as i16 - b as i16) as i8
+    signed_byte(i16::from(a) - i16::from(b)) as i8
 }
 
 fn only(on: bool, a: i8) -> i8
@@ -52,7 +53,7 @@ fn part(parts: u8, w: i8) -> i8
     requires { parts ≤ 27 }
     ensures { result ≡ part parts w }
 {
-    ((parts as i16 * w as i16 + 63) >> 7) as i8
+    ((i16::from(parts) * i16::from(w) + 63) >> 7) as i8
 }
 
 // The outer taps.
