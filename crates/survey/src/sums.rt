@@ -32,6 +32,7 @@ fn sum(counts: &mut [u64], other: &[u64])
     }
 }
 
+// Stays a number: the promises state an addition by its number, and C is told it as it stands.
 // One record added to another: 9 where one of them has not 37 counts, 15 where a sum would pass 2^63-1; then the record is unchanged.
 pub fn add(counts: &mut [u64], other: &[u64]) -> u32
     ensures { ◌≡◌ {A = Added} (record { number = result; counts = counts.new })
