@@ -6,8 +6,8 @@ use Rattle.tile.specs.declared.Tile.{Tile}
 use Rattle.tile.specs.Tile.{sides_of, count_of, partitions_of}
 use Rattle.lent.specs.Memory.{Form, packed, sizes_fine_of, Sized}
 use Rattle.lent.specs.declared.sizes.Sizes.{Sizes}
-use Rattle.macroblock.specs.declared.ending.Finish.{Finish}
-use Rattle.macroblock.specs.declared.ending.Finish.TheVariants as F
+use Rattle.macroblock.specs.Macroblock.{Finish}
+use Rattle.macroblock.specs.declared.ending.Unfinished.TheVariants as F
 use Rattle.choices.specs.declared.answer.Refusal.{Refusal}
 use Rattle.choices.specs.declared.answer.Refusal.TheVariants as Refusal
 use Rattle.choices.specs.declared.answer.Stop.{Stop}
@@ -102,10 +102,10 @@ Decoded = Result ℕ Stop
 
 -- how the picture ends where macroblock k is not finished
 abbrev pub stopped_of : Finish → ℕ → Decoded
-stopped_of (F.Done readers) k = Ok k
-stopped_of F.NoModes k = Err (Stop.NoModes k)
-stopped_of F.NoTokens k = Err (Stop.NoTokens k)
-stopped_of F.Refused k = Err (Stop.Refused Refusal.Argument)
+stopped_of (Ok readers) k = Ok k
+stopped_of (Err F.NoModes) k = Err (Stop.NoModes k)
+stopped_of (Err F.NoTokens) k = Err (Stop.NoTokens k)
+stopped_of (Err F.Refused) k = Err (Stop.Refused Refusal.Argument)
 
 -- ---- the answer as a number
 abbrev pub number_of : Decoded → ℕ

@@ -2,7 +2,8 @@
 ghost use Rattle.std.specs.Prelude.{◌≡◌};
 ghost use Rattle.choices.specs.Choices.{refusal_number_of, number_of, values_of, stopped_of};
 
-use macroblock::ending::Finish;
+use macroblock::arguments::Readers;
+use macroblock::ending::Unfinished;
 
 // Why an argument is refused: what the five checks find, in their order; the last where a macroblock refuses what it is given.
 #[derive(Clone, Copy, Debug, PartialEq, Eq)]
@@ -66,13 +67,13 @@ pub fn finished(answer: Decoded) -> usize
 }
 
 // How the picture ends where macroblock k is not finished.
-pub fn stopped(answer: Finish, k: usize) -> Decoded
+pub fn stopped(answer: Result<Readers, Unfinished>, k: usize) -> Decoded
     ensures { result ≡ stopped_of answer k }
 {
     match answer {
-        Finish::Done(_) => Ok(k),
-        Finish::NoModes => Err(Stop::NoModes(k)),
-        Finish::NoTokens => Err(Stop::NoTokens(k)),
-        Finish::Refused => Err(Stop::Refused(Refusal::Argument)),
+        Ok(_) => Ok(k),
+        Err(Unfinished::NoModes) => Err(Stop::NoModes(k)),
+        Err(Unfinished::NoTokens) => Err(Stop::NoTokens(k)),
+        Err(Unfinished::Refused) => Err(Stop::Refused(Refusal::Argument)),
     }
 }

@@ -1,6 +1,6 @@
 -- The laws of the public call: what its checks say, that good arguments give the macroblock, and that a refusal changes nothing.
 use Rattle.std.specs.Prelude.{◌*◌, ◌/◌, ◌%◌, ◌≤◌, ◌<◌, ◌≡◌, ◌&&◌}
-use Rattle.numbers.specs.Words.{ℕ, zero, suc, mul-div_cancel, arith, refl, sym, ◌∙◌, ap, subst, Bool, true, false, eqb, ltb, leb, both_left, both_right, both_true, both_false, eq-eqb, eqb-true, le-leb, le-ltb, leb-true, lt-leb, lt-ltb, ltb-true, List, length, get_or, get_or-eq_default, w8, Fits}
+use Rattle.numbers.specs.Words.{ℕ, zero, suc, mul-div_cancel, arith, refl, sym, ◌∙◌, ap, subst, Bool, true, false, eqb, ltb, leb, both_left, both_right, both_true, both_false, eq-eqb, eqb-true, le-leb, le-ltb, leb-true, lt-leb, lt-ltb, ltb-true, List, length, get_or, get_or-eq_default, w8, Fits, Err}
 use Rattle.header.specs.Header.{probability_count}
 use Rattle.reader.specs.declared.boolean.Reader.{Reader}
 use Rattle.reader.specs.Reading.{valid_of}
@@ -10,7 +10,7 @@ use Rattle.modes.specs.ModesLaws.{each_fact, each_all}
 use Rattle.modes.specs.declared.contexts.Context.{Context}
 use Rattle.modes.specs.ContextsLaws.{contexts_fine_lem}
 use Rattle.residual.specs.Residual.{Flags}
-use Rattle.macroblock.specs.declared.ending.Finish.TheVariants as F
+use Rattle.macroblock.specs.declared.ending.Unfinished.TheVariants as F
 use Rattle.header.specs.declared.frame.Frame.{Frame}
 use Rattle.header.specs.Frame.{level_at}
 use Rattle.macroblock.specs.Macroblock.{Place, Readers, Around, Outcome, Planes, Step, finished, no_modes, no_tokens, MacroblockCalled, to_macroblock_called, levels_fine_of, ready_of, place_fine, step_of, macroblock_call_of, no_outcome, finish_number_of, Laid, Ready, Legible, FrameSizes, AroundSizes}
@@ -193,13 +193,13 @@ module _ (place : Place) (p : Planes) where
       (both_true (eq-eqb _ _ g.luma) (both_true (eq-eqb _ _ g.blue) (eq-eqb _ _ g.red))))))
 
 -- ---- an answer that finishes nothing
-abbrev pub Unfinished : MacroblockCalled → Type 0
-Unfinished c = finish_number_of c.answer.answer ≡ 0 → ⊥
+abbrev pub NotFinished : MacroblockCalled → Type 0
+NotFinished c = finish_number_of c.answer.answer ≡ 0 → ⊥
 
 abbrev pub Untouched : Planes → MacroblockCalled → Type 0
 Untouched p c = c ≡ record { answer = no_outcome c.answer.answer; planes = p }
 
-step_kept : (p : Planes) (g : Step) → Unfinished (to_macroblock_called p g) → Untouched p (to_macroblock_called p g)
+step_kept : (p : Planes) (g : Step) → NotFinished (to_macroblock_called p g) → Untouched p (to_macroblock_called p g)
 step_kept p (finished x) n = absurd (n refl)
 step_kept p no_modes n = refl
 step_kept p no_tokens n = refl
@@ -222,14 +222,14 @@ module _ (first tokens : List ℕ) (readers : Readers) (f : Frame) (table : List
   unfolding macroblock_call_of
   decode_passed a b = rw (both_true a b, macroblock_call_of)
 
-  refused : able && fine ≡ false → {x : Outcome} → x ≡ no_outcome F.Refused → record { answer = x; planes = p } ≡ call
+  refused : able && fine ≡ false → {x : Outcome} → x ≡ no_outcome (Err F.Refused) → record { answer = x; planes = p } ≡ call
   unfolding macroblock_call_of
   refused e g = rw (g, e, macroblock_call_of)
 
-  pub decode_unready : able ≡ false → {x : Outcome} → x ≡ no_outcome F.Refused → record { answer = x; planes = p } ≡ call
+  pub decode_unready : able ≡ false → {x : Outcome} → x ≡ no_outcome (Err F.Refused) → record { answer = x; planes = p } ≡ call
   decode_unready e = refused (rw e)
 
-  pub decode_unlaid : fine ≡ false → {x : Outcome} → x ≡ no_outcome F.Refused → record { answer = x; planes = p } ≡ call
+  pub decode_unlaid : fine ≡ false → {x : Outcome} → x ≡ no_outcome (Err F.Refused) → record { answer = x; planes = p } ≡ call
   decode_unlaid e = refused (both_false able e)
 
   -- THE LAW for callers: with good arguments it is the macroblock
@@ -237,15 +237,15 @@ module _ (first tokens : List ℕ) (readers : Readers) (f : Frame) (table : List
   decode_good a b = sym (decode_passed (ready_test first tokens readers f table around a) (laid_test place p b))
 
   -- refused: the zero answer, and the planes as they were
-  pub decode_refused : able && fine ≡ false → call ≡ record { answer = no_outcome F.Refused; planes = p }
+  pub decode_refused : able && fine ≡ false → call ≡ record { answer = no_outcome (Err F.Refused); planes = p }
   decode_refused e = sym (refused e refl)
 
   -- whatever is not finished changes nothing: the answer is its number and zeros, and the planes are as they were
-  pub decode_kept : Unfinished call → Untouched p call
+  pub decode_kept : NotFinished call → Untouched p call
   decode_kept n = go (able && fine) refl
     where
       go : (b : Bool) → able && fine ≡ b → Untouched p call
       go true e =
           let k = decode_passed (both_left able fine e) (both_right able fine e) in
-          subst (Untouched p) k (step_kept p (step_of first tokens readers f table around place p) (subst Unfinished (sym k) n))
+          subst (Untouched p) k (step_kept p (step_of first tokens readers f table around place p) (subst NotFinished (sym k) n))
       go false e = subst (Untouched p) (sym (decode_refused e)) refl

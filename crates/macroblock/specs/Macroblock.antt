@@ -1,6 +1,6 @@
 -- One macroblock.
 use Rattle.std.specs.Prelude.{◌*◌, ◌/◌, ◌%◌, ◌&&◌, ◌||◌, ◌≤◌, ◌<◌, ◌≡◌}
-use Rattle.numbers.specs.Words.{ℕ, Bool, true, false, not, eqb, ltb, leb, List, length, get_or, take, drop, replicate, ℤ, pos, negsuc, Each}
+use Rattle.numbers.specs.Words.{Result, ℕ, Bool, true, false, not, eqb, ltb, leb, List, length, get_or, take, drop, replicate, ℤ, pos, negsuc, Each, Ok, Err}
 use Rattle.header.specs.Header.{probability_count}
 use Rattle.reader.specs.declared.boolean.Reader.{Reader}
 use Rattle.reader.specs.Reading.{Given, given, missing, valid_of, run, Valid, count}
@@ -16,14 +16,18 @@ pub use Rattle.macroblock.specs.declared.arguments.Place.{Place}
 pub use Rattle.macroblock.specs.declared.arguments.Readers.{Readers}
 pub use Rattle.macroblock.specs.declared.arguments.Around.{Around}
 pub use Rattle.macroblock.specs.declared.ending.Outcome.{Outcome}
-pub use Rattle.macroblock.specs.declared.ending.Finish.{Finish}
-use Rattle.macroblock.specs.declared.ending.Finish.TheVariants as F
+use Rattle.macroblock.specs.declared.ending.Unfinished.{Unfinished}
+use Rattle.macroblock.specs.declared.ending.Unfinished.TheVariants as F
 use Rattle.macroblock.specs.declared.ending.Residue.{Residue}
 use Rattle.header.specs.FrameLaws.{Probabilities, Sound}
 pub use Rattle.macroblock.specs.declared.arguments.SymbolCounts.{SymbolCounts}
 
 -- ==== One macroblock (the source's vp8_macroblock): its modes, then its residual, then its three squares, its strengths and the contexts
 -- that it leaves. Where a byte is missing nothing is painted.
+
+-- how it ends: finished, with the readers after it, or where it stopped
+abbrev pub Finish : Type 0
+Finish = Result Readers Unfinished
 
 -- ---- the three planes, before a macroblock and after it
 pub record Planes : Type 0 where
@@ -122,7 +126,7 @@ no_outcome a = record {
 -- what is told of a finished macroblock
 abbrev pub shown : Finished → Outcome
 shown x = record {
-  answer = F.Done x.readers;
+  answer = Ok x.readers;
   kinds = kinds_of x.modes;
   modes = x.modes.modes;
   strength = x.strength;
@@ -142,8 +146,8 @@ macroblock_called x y u v = record { answer = x; planes = planes_of y u v }
 -- a step as the call's answer and the planes after it
 abbrev pub to_macroblock_called : Planes → Step → MacroblockCalled
 to_macroblock_called old (finished x) = record { answer = shown x; planes = x.planes }
-to_macroblock_called old no_modes = record { answer = no_outcome F.NoModes; planes = old }
-to_macroblock_called old no_tokens = record { answer = no_outcome F.NoTokens; planes = old }
+to_macroblock_called old no_modes = record { answer = no_outcome (Err F.NoModes); planes = old }
+to_macroblock_called old no_tokens = record { answer = no_outcome (Err F.NoTokens); planes = old }
 
 -- ---- the call
 -- what is read: readers in range, a table of 1056 probabilities, contexts in range, levels of at most 63
@@ -180,15 +184,15 @@ unfoldable pub macroblock_call_of : (first tokens : List ℕ) → Readers → Fr
 macroblock_call_of first tokens readers f table around place p =
     elim (ready_of first tokens readers f (length table) around && place_fine (length p.y) (length p.u) (length p.v) place) [
       | true ↦ to_macroblock_called p (step_of first tokens readers f table around place p)
-      | false ↦ record { answer = no_outcome F.Refused; planes = p }
+      | false ↦ record { answer = no_outcome (Err F.Refused); planes = p }
     ]
 
 -- ---- the answer as a number
 abbrev pub finish_number_of : Finish → ℕ
-finish_number_of (F.Done readers) = 0
-finish_number_of F.NoModes = 6
-finish_number_of F.NoTokens = 7
-finish_number_of F.Refused = 9
+finish_number_of (Ok readers) = 0
+finish_number_of (Err F.NoModes) = 6
+finish_number_of (Err F.NoTokens) = 7
+finish_number_of (Err F.Refused) = 9
 
 -- ==== The end of a macroblock, once its modes and its residual are read: as `end_of` has it where all is in range, and else whatever can be made.
 
@@ -211,7 +215,7 @@ residue_of d after = record { after = after; empty = d.empty; top = d.top; left 
 -- what is told of it; strengths of zeros where the level is out of range
 abbrev pub end_outcome : Frame → Macroblock → (next : Reader) → Residue → Outcome
 end_outcome f m next d = record {
-  answer = F.Done (record { first = next; token = d.after });
+  answer = Ok (record { first = next; token = d.after });
   kinds = kinds_of m;
   modes = m.modes;
   strength = strengths_values_of (strength_answer (level_at f m.small m.segment) f.sharp (m.small || not d.empty));

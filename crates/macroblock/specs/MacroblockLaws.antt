@@ -1,6 +1,6 @@
 -- The laws of one macroblock: what its inner functions ask, and what its three squares and its two grammars give.
 use Rattle.std.specs.Prelude.{◌+◌, ◌*◌, ◌/◌, ◌≤◌, ◌≡◌, ◌||◌}
-use Rattle.numbers.specs.Words.{ℕ, arith, refl, sym, ◌∙◌, ap, Bool, true, false, not, inl, inr, ⊎_elim, lt_or, never, List, length, get_or, take, drop, replicate, get_or-eq_default, length-drop, length-take, drop-drop, get_or-drop, get_or-take, length-take-le, take_all, ℤ, pos, negsuc, Each, of_le}
+use Rattle.numbers.specs.Words.{ℕ, arith, refl, sym, ◌∙◌, ap, Bool, true, false, not, inl, inr, ⊎_elim, lt_or, never, List, length, get_or, take, drop, replicate, get_or-eq_default, length-drop, length-take, drop-drop, get_or-drop, get_or-take, length-take-le, take_all, ℤ, pos, negsuc, Each, of_le, Ok, Err}
 use Rattle.reader.specs.declared.boolean.Reader.{Reader}
 use Rattle.reader.specs.Reading.{Given, given, missing, run}
 use Rattle.header.specs.declared.frame.Frame.{Frame}
@@ -18,7 +18,7 @@ use Rattle.planes.specs.PaintLaws.{Proper, paint_good, square_taken}
 use Rattle.filter.specs.declared.strengths.Strength.{Strength}
 use Rattle.filter.specs.Strengths.{no_strength, strengths_values_of}
 use Rattle.filter.specs.StrengthsLaws.{strength_good}
-use Rattle.macroblock.specs.declared.ending.Finish.TheVariants as F
+use Rattle.macroblock.specs.declared.ending.Unfinished.TheVariants as F
 use Rattle.macroblock.specs.declared.ending.Residue.{Residue}
 use Rattle.macroblock.specs.Macroblock.{Place, Readers, Around, Finish, Outcome, Planes, finished, painted_planes, below, beside, end_of, after_tokens, after_modes, token_step, step_of, to_macroblock_called, no_outcome, squares_of, residue_of, end_outcome, macroblock_ended, Laid, Painting, tokens_called}
 
@@ -125,7 +125,7 @@ nothing_is e f = rw (e, f)
 
 pub ended_is : (f : Frame) (m : Macroblock) (d : Residue) {r : Reader} {x : Strength} {a b : List ℕ} → x ≡ (end_outcome f m r d).strength → a ≡ bottom_of m.modes → b ≡ right_of m.modes
     → ◌≡◌ {A = Outcome}
-    (record { answer = F.Done (record { first = r; token = d.after }); kinds = kinds_of m; modes = m.modes; strength = x; top = record { modes = a; flags = d.top }; left = record { modes = b; flags = d.left } })
+    (record { answer = Ok (record { first = r; token = d.after }); kinds = kinds_of m; modes = m.modes; strength = x; top = record { modes = a; flags = d.top }; left = record { modes = b; flags = d.left } })
     (end_outcome f m r d)
 ended_is f m d e g h = rw (e, g, h)
 
@@ -142,7 +142,7 @@ complete_good f place p m next d after s g h =
     let e = ap strengths_values_of (strength_good (level_at f m.small m.segment) f.sharp (m.small || not d.empty) (s.levels m.small m.segment)) in
     let k = squares_good g h in
     λ i. record {
-      answer = record { answer = F.Done (record { first = next; token = after }); kinds = kinds_of m; modes = m.modes; strength = e i; top = below m d.top; left = beside m d.left };
+      answer = record { answer = Ok (record { first = next; token = after }); kinds = kinds_of m; modes = m.modes; strength = e i; top = below m d.top; left = beside m d.left };
       planes = k i;
     }
 
@@ -151,7 +151,7 @@ module _ (tokens : List ℕ) (t : Reader) (f : Frame) (table : List ℕ) (around
   abbrev given_tokens : Given Model
   given_tokens = run (residual_of table (factors_at f m.segment) m.small m.skip around.top.flags around.left.flags) tokens t
 
-  pub tokens_missing : given_tokens ≡ missing → {x : Outcome} → x ≡ no_outcome F.NoTokens → record { answer = x; planes = p } ≡ tokens_called tokens t f table around place m next p
+  pub tokens_missing : given_tokens ≡ missing → {x : Outcome} → x ≡ no_outcome (Err F.NoTokens) → record { answer = x; planes = p } ≡ tokens_called tokens t f table around place m next p
   unfolding tokens_called
   tokens_missing e g = rw g (sym (ap (λ (x : Given Model). to_macroblock_called p (after_tokens (end_of f place p m next) x)) e))
 
@@ -175,7 +175,7 @@ module _ (first tokens : List ℕ) (readers : Readers) (f : Frame) (table : List
   abbrev given_modes : Given Macroblock
   given_modes = run (modes_of f.announced around.top.modes around.left.modes) first readers.first
 
-  pub whole_missing : given_modes ≡ missing → {x : Outcome} → x ≡ no_outcome F.NoModes
+  pub whole_missing : given_modes ≡ missing → {x : Outcome} → x ≡ no_outcome (Err F.NoModes)
       → record { answer = x; planes = p } ≡ to_macroblock_called p (step_of first tokens readers f table around place p)
   unfolding step_of
   whole_missing e g = rw g (sym (ap (λ (x : Given Macroblock). to_macroblock_called p (after_modes (token_step tokens readers.token f table around place p) x)) e))

@@ -1,13 +1,13 @@
 -- A macroblock from its modes alone (request M-108): for where its tokens are lost. Its modes are read as ever (RFC 6386, section 19.3,
 -- 7239-7272), it is predicted from them (section 12) with no residual, and it counts as empty; no token is read.
 use Rattle.std.specs.Prelude.{◌&&◌}
-use Rattle.numbers.specs.Words.{ℕ, Bool, true, false, List, length, replicate}
+use Rattle.numbers.specs.Words.{ℕ, Bool, true, false, List, length, replicate, Err}
 use Rattle.reader.specs.declared.boolean.Reader.{Reader}
 use Rattle.reader.specs.Reading.{valid_of, run}
 use Rattle.header.specs.declared.frame.Frame.{Frame}
 use Rattle.modes.specs.Modes.{modes_of}
 use Rattle.residual.specs.Residual.{Model, initial}
-use Rattle.macroblock.specs.declared.ending.Finish.TheVariants as F
+use Rattle.macroblock.specs.declared.ending.Unfinished.TheVariants as F
 use Rattle.macroblock.specs.Macroblock.{Place, Readers, Around, Planes, Step, finished, end_of, after_modes, MacroblockCalled, to_macroblock_called, no_outcome, frame_fine_of, around_fine_of, place_fine}
 
 -- no residual: 384 coefficients of 0, empty, and all nine flags 0 on either side
@@ -30,5 +30,5 @@ unfoldable pub rebuild_call_of : (first : List ℕ) → Readers → Frame → Ar
 rebuild_call_of first readers f around place p =
     elim (legible_of first readers.first f around && place_fine (length p.y) (length p.u) (length p.v) place) [
       | true ↦ to_macroblock_called p (rebuilt_of first readers f around place p)
-      | false ↦ record { answer = no_outcome F.Refused; planes = p }
+      | false ↦ record { answer = no_outcome (Err F.Refused); planes = p }
     ]

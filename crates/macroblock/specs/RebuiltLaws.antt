@@ -1,6 +1,6 @@
 -- The laws of a macroblock that is rebuilt from its modes: what its call asks, which way it goes, what it leaves and what it does not touch.
 use Rattle.std.specs.Prelude.{◌≡◌, ◌&&◌, ◌||◌}
-use Rattle.numbers.specs.Words.{ℕ, arith, refl, sym, ◌∙◌, ap, subst, Bool, true, false, not, both_true, both_false, List, length, replicate, length-replicate, get_or_constant, ℤ, pos}
+use Rattle.numbers.specs.Words.{ℕ, arith, refl, sym, ◌∙◌, ap, subst, Bool, true, false, not, both_true, both_false, List, length, replicate, length-replicate, get_or_constant, ℤ, pos, Err}
 use Rattle.reader.specs.declared.boolean.Reader.{Reader}
 use Rattle.reader.specs.Reading.{Given, given, missing, run}
 use Rattle.reader.specs.ReadingLaws.{Bytes, Valid, ReadTo, run_valid}
@@ -15,7 +15,7 @@ use Rattle.transform.specs.Lanes.{macroblock_blocks}
 use Rattle.transform.specs.LanesLaws.{blocks_of_squares, squares_zeros}
 use Rattle.residual.specs.Residual.{ModelInRange, Flags}
 use Rattle.residual.specs.ResidualLaws.{initial_whole}
-use Rattle.macroblock.specs.declared.ending.Finish.TheVariants as F
+use Rattle.macroblock.specs.declared.ending.Unfinished.TheVariants as F
 use Rattle.macroblock.specs.Macroblock.{Place, Readers, Around, Outcome, Planes, Finished, Step, finished, no_modes, no_tokens, to_macroblock_called, strength_made, end_of, after_modes, no_outcome, place_fine, residue_of, macroblock_ended, Laid, Legible}
 use Rattle.macroblock.specs.MacroblockLaws.{painting, complete_good}
 use Rattle.macroblock.specs.DecodeLaws.{legible_test, laid_test}
@@ -59,7 +59,7 @@ module _ (first : List ℕ) (readers : Readers) (f : Frame) (around : Around) (p
   unfolding rebuilt_of
   rebuilt_done e = ap (after_modes (λ m next. finished (end m next))) e
 
-  pub bare_missing : modes_run ≡ missing → {x : Outcome} → x ≡ no_outcome F.NoModes → record { answer = x; planes = p } ≡ to_macroblock_called p call
+  pub bare_missing : modes_run ≡ missing → {x : Outcome} → x ≡ no_outcome (Err F.NoModes) → record { answer = x; planes = p } ≡ to_macroblock_called p call
   bare_missing e g = rw (g, rebuilt_no_modes e)
 
   pub bare_given : {m : Macroblock} {q : Reader} → modes_run ≡ given m q → to_macroblock_called p (finished (end m q)) ≡ to_macroblock_called p call
@@ -129,14 +129,14 @@ module _ (first : List ℕ) (readers : Readers) (f : Frame) (around : Around) (p
   unfolding rebuild_call_of
   rebuild_passed a b = rw (both_true a b, rebuild_call_of)
 
-  refused : able && fine ≡ false → {x : Outcome} → x ≡ no_outcome F.Refused → record { answer = x; planes = p } ≡ rebuild_call_of first readers f around place p
+  refused : able && fine ≡ false → {x : Outcome} → x ≡ no_outcome (Err F.Refused) → record { answer = x; planes = p } ≡ rebuild_call_of first readers f around place p
   unfolding rebuild_call_of
   refused e g = rw (g, e, rebuild_call_of)
 
-  pub rebuild_illegible : able ≡ false → {x : Outcome} → x ≡ no_outcome F.Refused → record { answer = x; planes = p } ≡ rebuild_call_of first readers f around place p
+  pub rebuild_illegible : able ≡ false → {x : Outcome} → x ≡ no_outcome (Err F.Refused) → record { answer = x; planes = p } ≡ rebuild_call_of first readers f around place p
   rebuild_illegible e = refused (rw e)
 
-  pub rebuild_unlaid : fine ≡ false → {x : Outcome} → x ≡ no_outcome F.Refused → record { answer = x; planes = p } ≡ rebuild_call_of first readers f around place p
+  pub rebuild_unlaid : fine ≡ false → {x : Outcome} → x ≡ no_outcome (Err F.Refused) → record { answer = x; planes = p } ≡ rebuild_call_of first readers f around place p
   rebuild_unlaid e = refused (both_false able e)
 
   -- THE LAW for callers: with good arguments it is the macroblock

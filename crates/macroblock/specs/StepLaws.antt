@@ -1,7 +1,7 @@
 -- The laws of one macroblock for whoever decodes many: which way it goes, what it leaves, and what it does not touch. Nothing of its
 -- definition is needed beside them.
 use Rattle.std.specs.Prelude.{◌+◌, ◌*◌, ◌/◌, ◌≤◌, ◌<◌, ◌≡◌, ◌||◌}
-use Rattle.numbers.specs.Words.{ℕ, arith, refl, sym, ◌∙◌, ap, ap₂, subst, Bool, true, false, not, List, length, get_or, take, drop, ℤ}
+use Rattle.numbers.specs.Words.{ℕ, arith, refl, sym, ◌∙◌, ap, ap₂, subst, Bool, true, false, not, List, length, get_or, take, drop, ℤ, Ok, Err}
 use Rattle.reader.specs.declared.boolean.Reader.{Reader}
 use Rattle.reader.specs.Reading.{Given, given, missing, run}
 use Rattle.reader.specs.ReadingLaws.{Bytes, Valid, ReadTo, run_valid}
@@ -13,7 +13,7 @@ use Rattle.residual.specs.ResidualLaws.{residual_within}
 use Rattle.planes.specs.Paint.{PaintedPlane, sample_at, square_painted, paint_of}
 use Rattle.planes.specs.PaintLaws.{length_paint, paint_bytes, paint_off, paint_good}
 use Rattle.planes.specs.Places.{Outside}
-use Rattle.macroblock.specs.declared.ending.Finish.TheVariants as F
+use Rattle.macroblock.specs.declared.ending.Unfinished.TheVariants as F
 use Rattle.header.specs.FrameLaws.{Sound, frame_sound, frame_announced, frame_factors, frame_level_lem, frame_sharp}
 use Rattle.filter.specs.Strengths.{strength_of_of}
 use Rattle.filter.specs.StrengthsLaws.{limit_most}
@@ -236,11 +236,11 @@ module _ (h : List ℤ) (s tokens : List ℕ) (readers : Readers) (table : List 
 
 -- ---- what an answer, with the planes behind it, says of the step. Good arguments are never refused, so a refusal may be sent anywhere
 abbrev pub from_finish : Outcome → Planes → Finish → Step
-from_finish x q (F.Done readers) =
+from_finish x q (Ok readers) =
     finished (record { modes = macroblock_of x.kinds x.modes; strength = x.strength; top = x.top; left = x.left; readers = readers; planes = q })
-from_finish x q F.NoModes = no_modes
-from_finish x q F.NoTokens = no_tokens
-from_finish x q F.Refused = no_modes
+from_finish x q (Err F.NoModes) = no_modes
+from_finish x q (Err F.NoTokens) = no_tokens
+from_finish x q (Err F.Refused) = no_modes
 
 abbrev pub from_macroblock_called : MacroblockCalled → Step
 from_macroblock_called c = from_finish c.answer c.planes c.answer.answer
@@ -250,7 +250,7 @@ from_called p (finished x) = refl
 from_called p no_modes = refl
 from_called p no_tokens = refl
 
-not_refused : (p : Planes) (g : Step) → (to_macroblock_called p g).answer.answer ≡ F.Refused → ⊥
+not_refused : (p : Planes) (g : Step) → (to_macroblock_called p g).answer.answer ≡ Err F.Refused → ⊥
 not_refused p (finished x) e = let z : ◌≡◌ {A = ℕ} 0 9 = ap finish_number_of e in omega arith
 not_refused p no_modes e = let z : ◌≡◌ {A = ℕ} 6 9 = ap finish_number_of e in omega arith
 not_refused p no_tokens e = let z : ◌≡◌ {A = ℕ} 7 9 = ap finish_number_of e in omega arith

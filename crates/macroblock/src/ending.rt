@@ -14,20 +14,19 @@ use modes::answers::Kinds;
 use modes::contexts::{Context, bottom, right};
 use reader::boolean::Reader;
 
-// Finished, with the readers after it; or where it stopped: its modes (6) or its tokens (7) ran out; or an argument (9).
-#[derive(Clone, Copy)]
-pub enum Finish {
-    Done(Readers),
+// Why a macroblock is not finished: its modes (6) or its tokens (7) ran out; or an argument was refused (9).
+#[derive(Clone, Copy, Debug, PartialEq, Eq)]
+pub enum Unfinished {
     NoModes,
     NoTokens,
     Refused,
 }
 
-// What a macroblock gives beside its samples: its modes, its strengths, what it leaves to the macroblock below it and to the one right
-// of it. Zeros where it is not finished.
+// What a macroblock gives beside its samples: the readers after it, its modes, its strengths, what it leaves to the macroblock below it
+// and to the one right of it. Zeros where it is not finished.
 #[derive(Clone, Copy)]
 pub struct Outcome {
-    pub answer: Finish,
+    pub answer: Result<Readers, Unfinished>,
     pub kinds: Kinds,
     pub modes: [u8; 16],
     pub strength: Strength,
@@ -54,11 +53,11 @@ pub struct Residue {
 }
 
 // What is not finished.
-pub fn nothing(answer: Finish) -> Outcome
+pub fn nothing(answer: Result<Readers, Unfinished>) -> Outcome
     ensures { result ≡ no_outcome answer }
 {
     Outcome {
-        answer: answer,
+        answer,
         kinds: Kinds {
             segment: 0,
             skip: false,
@@ -75,12 +74,6 @@ pub fn nothing(answer: Finish) -> Outcome
         top: Context::empty(),
         left: Context::empty(),
     }
-}
-
-fn index(x: u8) -> usize
-    ensures { result ≡ x }
-{
-    x as usize
 }
 
 // 0 where there is no such segment.
@@ -118,7 +111,7 @@ fn strength_of(frame: Frame, kinds: Kinds, empty: bool) -> Strength
     ensures { result
         ≡ strengths_values_of (strength_answer (level_at frame kinds.small kinds.segment) frame.sharp (kinds.small || not empty)) }
 {
-    let l = level_of(frame, kinds.small, index(kinds.segment));
+    let l = level_of(frame, kinds.small, usize::from(kinds.segment));
     strength_at(l, frame.sharp, kinds.small | !empty)
 }
 
@@ -135,12 +128,12 @@ fn told(frame: Frame, m: ModeData, residue: Residue, below: [u8; 4], beside: [u8
     let top = residue.top;
     let left = residue.left;
     Outcome {
-        answer: Finish::Done(Readers {
+        answer: Ok(Readers {
             first: next,
             token: after,
         }),
-        kinds: kinds,
-        modes: modes,
+        kinds,
+        modes,
         strength: strength_of(frame, kinds, residue.empty),
         top: Context {
             modes: below,

@@ -1,13 +1,11 @@
 -- The turns of the picture's loop, on plain values.
-use Rattle.numbers.specs.Words.{ℕ, zero, suc, ◌+◌, ◌*◌, ◌≤◌, ◌<◌, add_assoc, add-zero, zero-add, arith, ◌≡◌, refl, sym, ◌∙◌, ap, List, length, set, Ok}
+use Rattle.numbers.specs.Words.{ℕ, zero, suc, ◌+◌, ◌*◌, ◌≤◌, ◌<◌, add_assoc, add-zero, zero-add, arith, ◌≡◌, refl, sym, ◌∙◌, ap, List, length, set, Ok, Err}
 use Rattle.reader.specs.declared.boolean.Reader.{Reader}
 use Rattle.reader.specs.Reading.{no_reader_of}
 use Rattle.reader.specs.ReadingLaws.{Bytes}
 use Rattle.modes.specs.declared.contexts.Context.{Context}
-use Rattle.macroblock.specs.declared.ending.Finish.TheVariants as F
 use Rattle.macroblock.specs.declared.arguments.Readers.{Readers}
-use Rattle.macroblock.specs.declared.ending.Finish.{Finish}
-use Rattle.macroblock.specs.Macroblock.{Finished, Step, finished, no_modes, no_tokens, finish_number_of, no_reads, AtMost}
+use Rattle.macroblock.specs.Macroblock.{Finish, Finished, Step, finished, no_modes, no_tokens, finish_number_of, no_reads, AtMost}
 use Rattle.lent.specs.Memory.{Memory}
 use Rattle.choices.specs.Choices.{stopped_of, Decoded}
 use Rattle.picture.specs.declared.rows.PictureStop.{PictureStop}
@@ -91,16 +89,14 @@ module _ {P : Picture} {E : Total} {k : ℕ} {S : State} {reads : SymbolCounts} 
         go (suc m) a b c no_tokens u e = (at no_tokens e ∙ sym (halt_no_tokens m P k S u) ∙ b, j ∙ ap (plus reads) (v ∙ sym (reads_no_tokens m P k S u)) ∙ c)
 
     -- a turn that goes on
-    pub going_next : (T : Turned) → T ≡ turned P.form S.left k (column_of P k) S.mem (step_at P k S) → {r : Readers} → T.answer ≡ F.Done r
+    pub going_next : (T : Turned) → T ≡ turned P.form S.left k (column_of P k) S.mem (step_at P k S) → {r : Readers} → T.answer ≡ Ok r
         → ((x : Finished) → step_at P k S ≡ finished x → Ends P.first (P.token (partition_of P k)) (planes_in S.mem) x)
         → {p : ℕ} → p ≡ partition_of P k → Going P E (k + 1) (record { reader = r.first; readers = set S.readers p r.token; left = T.left; mem = T.mem }) n
     going_next T e {r} f z {p} q = go g.rest g.sum g.same g.paid (step_at P k S) refl e
       where
         after : Finish → Readers
-        after (F.Done a) = a
-        after F.NoModes = record { first = no_reader_of; token = no_reader_of }
-        after F.NoTokens = record { first = no_reader_of; token = no_reader_of }
-        after F.Refused = record { first = no_reader_of; token = no_reader_of }
+        after (Ok a) = a
+        after (Err w) = record { first = no_reader_of; token = no_reader_of }
 
         number : (u : Step) → T ≡ turned P.form S.left k (column_of P k) S.mem u → 0 ≡ finish_number_of (turned P.form S.left k (column_of P k) S.mem u).answer
         number u e = sym (ap finish_number_of f) ∙ ap (λ (y : Turned). finish_number_of y.answer) e

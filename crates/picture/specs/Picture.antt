@@ -17,8 +17,8 @@ use Rattle.lent.specs.Memory.{Memory, sizes_of, blank_of, Form, column_at, colum
 use Rattle.tile.specs.declared.Tile.{Tile}
 use Rattle.tile.specs.Tile.{contents_of, token_contents, readers_of, pick_of, blocks_of}
 use Rattle.choices.specs.Choices.{beside_of, Call, named, refusal_of, Decoded}
-use Rattle.macroblock.specs.declared.ending.Finish.TheVariants as F
-use Rattle.macroblock.specs.declared.ending.Finish.{Finish}
+use Rattle.macroblock.specs.declared.ending.Unfinished.TheVariants as F
+use Rattle.macroblock.specs.Macroblock.{Finish}
 use Rattle.header.specs.Header.{probability_count}
 use Rattle.header.specs.FrameLaws.{Sound}
 use Rattle.reader.specs.ReadingLaws.{Bytes, Valid}
@@ -169,9 +169,9 @@ turned_of answer left mem = record { answer = answer; left = left; mem = mem }
 
 -- where a byte is missing nothing is written
 abbrev pub turned : Form → Context → (k column : ℕ) → Memory → Step → Turned
-turned form left k column m (finished x) = record { answer = F.Done x.readers; left = x.left; mem = written form k column m x }
-turned form left k column m no_modes = record { answer = F.NoModes; left = left; mem = m }
-turned form left k column m no_tokens = record { answer = F.NoTokens; left = left; mem = m }
+turned form left k column m (finished x) = record { answer = Ok x.readers; left = x.left; mem = written form k column m x }
+turned form left k column m no_modes = record { answer = Err F.NoModes; left = left; mem = m }
+turned form left k column m no_tokens = record { answer = Err F.NoTokens; left = left; mem = m }
 
 -- there is a record for column `column`, and for macroblock k
 pub record Room (form : Form) (column k : ℕ) (c m s : List ℕ) : Type 0 where

@@ -1,6 +1,6 @@
 -- What one macroblock leaves, from the answers of the calls that make it.
 use Rattle.std.specs.Prelude.{◌<◌, ◌≡◌, ◌&&◌}
-use Rattle.numbers.specs.Words.{ℕ, arith, refl, sym, ◌∙◌, ap, true, ltb, both_true, List, length}
+use Rattle.numbers.specs.Words.{ℕ, arith, refl, sym, ◌∙◌, ap, true, ltb, both_true, List, length, Ok}
 use Rattle.reader.specs.ReadingLaws.{Bytes, Valid}
 use Rattle.modes.specs.Modes.{kinds_of, each_below_of, context_fine_of, Shaped}
 use Rattle.modes.specs.declared.contexts.Context.{Context}
@@ -12,7 +12,6 @@ use Rattle.lent.specs.Memory.{Written, records_in, column_width, mode_width, str
 use Rattle.lent.specs.RecordsLaws.{write_good}
 use Rattle.lent.specs.ColumnsLaws.{column_read}
 use Rattle.lent.specs.MacroblocksLaws.{kinds_fine_lem, strength_fine_lem}
-use Rattle.macroblock.specs.declared.ending.Finish.TheVariants as F
 use Rattle.header.specs.declared.frame.Frame.{Frame}
 use Rattle.macroblock.specs.declared.arguments.SymbolCounts.{SymbolCounts}
 use Rattle.macroblock.specs.Macroblock.{reads_of, decode_reads, step_of, macroblock_call_of, Planes, Finished, Step, finished, no_modes, no_tokens, MacroblockCalled, to_macroblock_called, shown, finish_number_of, Ready, Laid}
@@ -89,7 +88,7 @@ ends_of first tokens readers f table around place p g l a b c x e =
 
 -- as the code puts it together
 abbrev pub after_of : Readers → Outcome → Planes → (columns modes strengths : List ℕ) → Turned
-after_of a w p columns modes strengths = turned_of (F.Done a) w.left (memory_of p.y p.u p.v columns modes strengths)
+after_of a w p columns modes strengths = turned_of (Ok a) w.left (memory_of p.y p.u p.v columns modes strengths)
 
 module _ (left : Context) (k column : ℕ) (m : Memory) {w : Outcome} {p : Planes} where
   pub turn_stopped : (s : Step) → record { answer = w; planes = p } ≡ to_macroblock_called (planes_in m) s → (finish_number_of w.answer ≡ 0 → ⊥)
@@ -98,14 +97,14 @@ module _ (left : Context) (k column : ℕ) (m : Memory) {w : Outcome} {p : Plane
   turn_stopped no_modes e n = λ i. record { answer = (e i).answer.answer; left = left; mem = record { y = (e i).planes.y; u = (e i).planes.u; v = (e i).planes.v; columns = m.columns; modes = m.modes; strengths = m.strengths } }
   turn_stopped no_tokens e n = λ i. record { answer = (e i).answer.answer; left = left; mem = record { y = (e i).planes.y; u = (e i).planes.u; v = (e i).planes.v; columns = m.columns; modes = m.modes; strengths = m.strengths } }
 
-  module _ {a : Readers} {n₁ n₂ n₃ : Checked} {columns modes strengths first tokens : List ℕ} (g : w.answer ≡ F.Done a) (r : Room packed column k m.columns m.modes m.strengths)
+  module _ {a : Readers} {n₁ n₂ n₃ : Checked} {columns modes strengths first tokens : List ℕ} (g : w.answer ≡ Ok a) (r : Room packed column k m.columns m.modes m.strengths)
       (c : record { answer = n₁; mem = columns } ≡ column_written m.columns column w.top)
       (d : record { answer = n₂; mem = modes } ≡ mode_written m.modes k w.kinds w.modes)
       (f : record { answer = n₃; mem = strengths } ≡ strength_written m.strengths k w.strength w.kinds) where
     done : (x : Finished) → Ends first tokens (planes_in m) x → record { answer = w; planes = p } ≡ to_macroblock_called (planes_in m) (finished x) → after_of a w p columns modes strengths ≡ turned packed left k column m (finished x)
     done x z e =
         let ew : w ≡ shown x = ap (λ (q : MacroblockCalled). q.answer) e in
-        let ea : F.Done a ≡ F.Done x.readers = sym g ∙ ap (λ (q : Outcome). q.answer) ew in
+        let ea : Ok a ≡ Ok x.readers = sym g ∙ ap (λ (q : Outcome). q.answer) ew in
         let ec : columns ≡ column_set packed m.columns column x.top =
         ap (λ (q : Written). q.mem) (c ∙ ap (λ (q : Outcome). column_written m.columns column q.top) ew ∙ write_good column_width m.columns column (context_fine_of x.top) (column_bytes packed x.top) r.columns z.top) in
         let ed : modes ≡ mode_set m.modes k (kinds_of x.modes) x.modes.modes =

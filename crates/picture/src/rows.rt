@@ -10,7 +10,6 @@ use crate::turn::{task_of, turn};
 use choices::answer::{Decoded, stopped};
 use header::frame::Frame;
 use macroblock::arguments::{Readers, SymbolCounts};
-use macroblock::ending::Finish;
 use modes::contexts::Context;
 use reader::boolean::Reader;
 use tile::Tile;
@@ -122,7 +121,7 @@ pub(crate) fn rows(
         );
         let finish = m.answer;
         reads = plus(reads, m.reads);
-        let Finish::Done(after) = finish else {
+        let Ok(after) = finish else {
             return stop(stopped(finish, k), reads, r, readers, left);
         };
         let token = after.token;

@@ -11,14 +11,14 @@ use header::frame::Frame;
 use lent::columns::{read_column, write_column};
 use lent::macroblocks::{write_mode_record, write_strength};
 use macroblock::arguments::{Around, Place, Readers, SymbolCounts};
-use macroblock::ending::Finish;
+use macroblock::ending::Unfinished;
 use modes::contexts::Context;
 use whole::decode;
 
 // Where it ended, what the next macroblock of the row sees to its left, and how many symbols were read.
 #[derive(Clone, Copy)]
 pub(crate) struct Ending {
-    pub answer: Finish,
+    pub answer: Result<Readers, Unfinished>,
     pub left: Context,
     pub reads: SymbolCounts,
 }
@@ -113,7 +113,7 @@ pub(crate) fn turn(
     let m = read.outcome;
     let reads = read.reads;
     let answer = m.answer;
-    let Finish::Done(after) = answer else {
+    let Ok(after) = answer else {
         let before = task.left;
         return Ending {
             answer,
@@ -130,7 +130,7 @@ pub(crate) fn turn(
     write_mode_record(&mut modes[..], task.k, kinds, &all);
     write_strength(&mut strengths[..], task.k, strength, kinds);
     Ending {
-        answer: Finish::Done(after),
+        answer: Ok(after),
         left: right,
         reads,
     }

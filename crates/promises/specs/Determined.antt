@@ -43,7 +43,7 @@ use Rattle.header.specs.declared.frame.Announced.{Announced}
 use Rattle.macroblock.specs.declared.arguments.Place.{Place}
 use Rattle.macroblock.specs.declared.arguments.Readers.{Readers}
 use Rattle.macroblock.specs.declared.arguments.Around.{Around}
-use Rattle.macroblock.specs.declared.ending.Finish.{Finish}
+use Rattle.macroblock.specs.Macroblock.{Finish}
 use Rattle.macroblock.specs.declared.ending.ModeData.{ModeData}
 use Rattle.macroblock.specs.declared.ending.Residue.{Residue}
 use Rattle.macroblock.specs.declared.arguments.SymbolCounts.{SymbolCounts}

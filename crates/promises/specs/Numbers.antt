@@ -36,7 +36,7 @@ use Rattle.lent.specs.Memory.{record_at, records_in, packed, column_width, colum
 use Rattle.macroblock.specs.declared.arguments.Place.{Place}
 use Rattle.macroblock.specs.declared.arguments.Readers.{Readers}
 use Rattle.macroblock.specs.declared.arguments.Around.{Around}
-use Rattle.macroblock.specs.declared.ending.Finish.TheVariants as F
+use Rattle.macroblock.specs.declared.ending.Unfinished.TheVariants as F
 use Rattle.macroblock.specs.Macroblock as Macroblock
 use Rattle.macroblock.specs.Macroblock.{Planes, Finished, MacroblockCalled, no_outcome, shown, end_of, ready_of, place_fine, finish_number_of}
 use Rattle.casefile.specs.CaseFile.{well_formed_of, case_width, case_height, given_of}
@@ -81,10 +81,10 @@ pub record Answered {A X : Type 0} (short : ℕ) (good : Bool) (asked : Given A)
 -- the call on a macroblock: 9 where an argument is out of range; 6 where its modes run out; 7 where its tokens do; then zeros, and the planes as
 -- they were; else 0
 pub record Steps (good : Bool) (modes : Given Macroblock) (tokens : Macroblock → Given Model) (called : MacroblockCalled) (old : Planes) (end : Macroblock → Reader → Model → Reader → Finished) : Type 0 where
-  pub refused : good ≡ false → (finish_number_of called.answer.answer ≡ 9) × (called ≡ record { answer = no_outcome F.Refused; planes = old })
-  pub no_modes : good ≡ true → modes ≡ missing → (finish_number_of called.answer.answer ≡ 6) × (called ≡ record { answer = no_outcome F.NoModes; planes = old })
+  pub refused : good ≡ false → (finish_number_of called.answer.answer ≡ 9) × (called ≡ record { answer = no_outcome (Err F.Refused); planes = old })
+  pub no_modes : good ≡ true → modes ≡ missing → (finish_number_of called.answer.answer ≡ 6) × (called ≡ record { answer = no_outcome (Err F.NoModes); planes = old })
   pub no_tokens : good ≡ true → {m : Macroblock} {r : Reader} → modes ≡ given m r → tokens m ≡ missing
-      → (finish_number_of called.answer.answer ≡ 7) × (called ≡ record { answer = no_outcome F.NoTokens; planes = old })
+      → (finish_number_of called.answer.answer ≡ 7) × (called ≡ record { answer = no_outcome (Err F.NoTokens); planes = old })
   pub done : good ≡ true → {m : Macroblock} {r : Reader} → modes ≡ given m r → {d : Model} {t : Reader} → tokens m ≡ given d t
       → (finish_number_of called.answer.answer ≡ 0) × (called ≡ record { answer = shown (end m r d t); planes = (end m r d t).planes })
 

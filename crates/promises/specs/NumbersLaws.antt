@@ -25,7 +25,7 @@ use Rattle.planes.specs.Paint.{PaintedPlane, paint_of}
 use Rattle.lent.specs.Memory as Records
 use Rattle.column.specs.Column.{digits_of}
 use Rattle.lent.specs.Memory.{packed, context_in, kinds_in, modes_in, strength_in, segment_in, small_in, record_written, record_found}
-use Rattle.macroblock.specs.declared.ending.Finish.TheVariants as F
+use Rattle.macroblock.specs.declared.ending.Unfinished.TheVariants as F
 use Rattle.macroblock.specs.Macroblock as Macroblock
 use Rattle.macroblock.specs.Macroblock.{Planes, Finished, MacroblockCalled, to_macroblock_called, after_modes, after_tokens, no_outcome, end_of, finish_number_of}
 use Rattle.casefile.specs.Run.{ran_of}
@@ -90,7 +90,7 @@ reads_both false two asked number to n c w = reads false asked number to n c w
 -- ---- the macroblock: both runs, one after the other
 steps : {good : Bool} {modes : Given Macroblock} {tokens : Macroblock → Given Model} {old : Planes} (end : Macroblock → Reader → Model → Reader → Finished)
     → (b : Bool) → good ≡ b
-    → Steps good modes tokens (pick good (to_macroblock_called old (after_modes (λ m r. after_tokens (end m r) (tokens m)) modes)) (record { answer = no_outcome F.Refused; planes = old })) old end
+    → Steps good modes tokens (pick good (to_macroblock_called old (after_modes (λ m r. after_tokens (end m r) (tokens m)) modes)) (record { answer = no_outcome (Err F.Refused); planes = old })) old end
 steps {modes = modes} {tokens} {old} end true g = rw g (record {
   refused = λ e. absurd (never refl e);
   no_modes = λ e f. (ap (λ x. finish_number_of (whole x).answer.answer) f, ap whole f);

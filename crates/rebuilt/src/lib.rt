@@ -9,7 +9,7 @@ ghost use Rattle.macroblock.specs.Rebuilt.{legible_of, rebuilt_of, rebuild_call_
 use header::frame::Frame;
 use macroblock::arguments::{Around, Place, Readers};
 use macroblock::checks::{around_fine, frame_fine, laid};
-use macroblock::ending::{Finish, ModeData, Outcome, Residue, complete, nothing};
+use macroblock::ending::{ModeData, Outcome, Residue, Unfinished, complete, nothing};
 use modes::whole::read_modes;
 use reader::boolean::{Reader, valid};
 
@@ -46,12 +46,12 @@ fn from_modes(
     let left_modes = left.modes;
     let read = read_modes(first, frame.announced, r, top_modes, left_modes, &mut modes);
     let Ok((kinds, next)) = read.answer else {
-        return nothing(Finish::NoModes);
+        return nothing(Err(Unfinished::NoModes));
     };
     let m = ModeData {
-        kinds: kinds,
-        modes: modes,
-        next: next,
+        kinds,
+        modes,
+        next,
         reads: read.reads,
     };
     let t = readers.token;
@@ -83,10 +83,10 @@ pub fn rebuild(
 {
     let r = readers.first;
     if !legible(first, r, frame, around) {
-        return nothing(Finish::Refused);
+        return nothing(Err(Unfinished::Refused));
     }
     if !laid(y.len(), u.len(), v.len(), place) {
-        return nothing(Finish::Refused);
+        return nothing(Err(Unfinished::Refused));
     }
     from_modes(first, readers, frame, around, place, y, u, v)
 }

@@ -4,11 +4,9 @@ use types.Run.{OneOf}
 use denote.Enum.Declared.{tag_of}
 use Rattle.reader.specs.Reading.{no_reader_of}
 use Rattle.reader.specs.ReadingLaws.{Bytes}
-use Rattle.macroblock.specs.declared.ending.Finish.TheVariants as F
+use Rattle.macroblock.specs.declared.ending.Unfinished.TheVariants as F
 use Rattle.macroblock.specs.declared.arguments.Readers.{Readers}
-use Rattle.macroblock.specs.declared.ending.Finish.{Finish}
-use Rattle.macroblock.specs.Macroblock.{Step, finished, no_modes, no_tokens, finish_number_of}
-use Rattle.macroblock.specs.contracts.ending.Finish as finish
+use Rattle.macroblock.specs.Macroblock.{Finish, Step, finished, no_modes, no_tokens, finish_number_of}
 use Rattle.choices.specs.declared.answer.Stop.TheVariants as Stop
 use Rattle.choices.specs.Choices.{values_of, Decoded}
 use Rattle.picture.specs.Picture.{Picture, State, column_of, partition_of, next_of, Turned, turned, Shared, Live}
@@ -16,12 +14,12 @@ use Rattle.picture.specs.PictureLaws.{live_next}
 use Rattle.rescue.specs.Rescue.{rebuilt_at, Saved, saved_at, rest_of, gone_on}
 use Rattle.rescue.specs.RescueLaws.{at_never, ends_rebuilt_at, rest_none, rest_rebuilt, rest_no_modes}
 
--- every answer of a macroblock but Done is a refusal
-pub not_done : (a : Finish) → OneOf (1 ∷ 2 ∷ 3 ∷ []) (tag_of finish.the_type a) → finish_number_of a ≡ 0 → ⊥
-not_done (F.Done r) e z = ⊎_elim (λ h. omega arith) (⊎_elim (λ h. omega arith) (λ h. omega arith)) e
-not_done F.NoModes e z = omega arith
-not_done F.NoTokens e z = omega arith
-not_done F.Refused e z = omega arith
+-- every answer of a macroblock but Ok is a refusal
+pub not_done : (a : Finish) → ((r : Readers) → a ≡ Ok r → ⊥) → finish_number_of a ≡ 0 → ⊥
+not_done (Ok r) h z = h r refl
+not_done (Err F.NoModes) h z = omega arith
+not_done (Err F.NoTokens) h z = omega arith
+not_done (Err F.Refused) h z = omega arith
 
 -- where tokens did not run out the picture stays as it is
 pub gone_none : (M : ℕ) (P : Picture) (a : Decoded) (S : State) → ((k : ℕ) → a ≡ Err (Stop.NoTokens k) → ⊥) → {n : ℕ} → n ≡ values_of a → saved_at n S.mem ≡ gone_on M P a S
@@ -63,15 +61,13 @@ module _ {P : Picture} {E : Saved} {k : ℕ} {S : State} (s : Shared P) (g : Goi
       go (suc m) a b no_tokens u e = absurd (at_never P k S u)
 
   -- a turn that goes on
-  pub going_next : Bytes P.first → (T : Turned) → T ≡ turned P.form S.left k (column_of P k) S.mem (rebuilt_at P k S) → {r : Readers} → T.answer ≡ F.Done r
+  pub going_next : Bytes P.first → (T : Turned) → T ≡ turned P.form S.left k (column_of P k) S.mem (rebuilt_at P k S) → {r : Readers} → T.answer ≡ Ok r
       → {p : ℕ} → p ≡ partition_of P k → Going P E (k + 1) (record { reader = r.first; readers = set S.readers p r.token; left = T.left; mem = T.mem })
   going_next y T e {r} f {p} q = go g.rest g.sum g.same (rebuilt_at P k S) refl e
     where
       after : Finish → Readers
-      after (F.Done a) = a
-      after F.NoModes = record { first = no_reader_of; token = no_reader_of }
-      after F.NoTokens = record { first = no_reader_of; token = no_reader_of }
-      after F.Refused = record { first = no_reader_of; token = no_reader_of }
+      after (Ok a) = a
+      after (Err w) = record { first = no_reader_of; token = no_reader_of }
 
       go : (m : ℕ) → k + m ≡ P.wide * P.high → rest_of m P k S ≡ E → (u : Step) → rebuilt_at P k S ≡ u → T ≡ turned P.form S.left k (column_of P k) S.mem u
           → Going P E (k + 1) (record { reader = r.first; readers = set S.readers p r.token; left = T.left; mem = T.mem })

@@ -12,7 +12,6 @@ use crate::turn::{task_of, turn};
 use choices::answer::{Stop, finished};
 use header::frame::take;
 use macroblock::arguments::Readers;
-use macroblock::ending::Finish;
 use picture::rows::PictureStop;
 use tile::Tile;
 use tile::partitions::{part, pick};
@@ -71,7 +70,7 @@ pub(crate) fn rest(
             &mut strengths[..],
         );
         let finish = m.answer;
-        let Finish::Done(after) = finish else {
+        let Ok(after) = finish else {
             return k;
         };
         let token = after.token;

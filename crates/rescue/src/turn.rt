@@ -12,7 +12,7 @@ use header::frame::Frame;
 use lent::columns::{read_column, write_column};
 use lent::macroblocks::{write_mode_record, write_strength};
 use macroblock::arguments::{Around, Place, Readers};
-use macroblock::ending::Finish;
+use macroblock::ending::Unfinished;
 use modes::contexts::Context;
 use picture::turn::Task;
 use rebuilt::rebuild;
@@ -20,7 +20,7 @@ use rebuilt::rebuild;
 // Where it ended, and what the next macroblock of the row sees to its left.
 #[derive(Clone, Copy)]
 pub(crate) struct RebuiltTurn {
-    pub answer: Finish,
+    pub answer: Result<Readers, Unfinished>,
     pub left: Context,
 }
 
@@ -86,7 +86,7 @@ pub(crate) fn turn(
         v,
     );
     let answer = m.answer;
-    let Finish::Done(after) = answer else {
+    let Ok(after) = answer else {
         let before = task.left;
         return RebuiltTurn {
             answer,
@@ -102,7 +102,7 @@ pub(crate) fn turn(
     write_mode_record(&mut modes[..], task.k, kinds, &all);
     write_strength(&mut strengths[..], task.k, strength, kinds);
     RebuiltTurn {
-        answer: Finish::Done(after),
+        answer: Ok(after),
         left: right,
     }
 }

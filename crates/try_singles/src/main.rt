@@ -13,7 +13,7 @@ use filter::strengths::Strength;
 use header::entries::ENTRY_COUNT;
 use header::frame::{Frame, take};
 use macroblock::arguments::{Around, Place, Readers, SymbolCounts};
-use macroblock::ending::{Finish, Outcome};
+use macroblock::ending::{Outcome, Unfinished};
 use modes::answers::Kinds;
 use modes::contexts::Context;
 use reader::boolean::open;
@@ -90,19 +90,19 @@ fn show_context(rt: &impl Print, c: Context) -> io::Result<()> {
     digits(rt, &c.flags)
 }
 
-fn number(f: Finish) -> u64
+fn number(f: Result<Readers, Unfinished>) -> u64
     ensures { result ≡ finish_number_of f }
 {
     match f {
-        Finish::Done(_) => 0,
-        Finish::NoModes => 6,
-        Finish::NoTokens => 7,
-        Finish::Refused => 9,
+        Ok(_) => 0,
+        Err(Unfinished::NoModes) => 6,
+        Err(Unfinished::NoTokens) => 7,
+        Err(Unfinished::Refused) => 9,
     }
 }
 
-fn show_places(rt: &impl Print, f: Finish) -> io::Result<()> {
-    let Finish::Done(readers) = f else {
+fn show_places(rt: &impl Print, f: Result<Readers, Unfinished>) -> io::Result<()> {
+    let Ok(readers) = f else {
         return print!(rt; " 0 0");
     };
     print!(rt; " {} {}", readers.first.at, readers.token.at)

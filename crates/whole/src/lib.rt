@@ -13,7 +13,7 @@ use header::frame::Frame;
 use header::quantizers::Factors;
 use macroblock::arguments::{Around, Place, Readers, SymbolCounts};
 use macroblock::checks::{around_fine, frame_fine, laid};
-use macroblock::ending::{Finish, ModeData, Outcome, Residue, complete, nothing};
+use macroblock::ending::{ModeData, Outcome, Residue, Unfinished, complete, nothing};
 use modes::whole::read_modes;
 use reader::boolean::{Reader, valid};
 use residual::answers::Ended;
@@ -26,15 +26,12 @@ pub struct MacroblockRead {
 }
 
 // What is not finished, with what was read for it.
-fn stopped(answer: Finish, first: u64, tokens: u64) -> MacroblockRead
-    ensures { (result.outcome ≡ no_outcome answer) × (result.reads ≡ reads_made first tokens) }
+fn stopped(why: Unfinished, first: u64, tokens: u64) -> MacroblockRead
+    ensures { (result.outcome ≡ no_outcome (Err why)) × (result.reads ≡ reads_made first tokens) }
 {
     MacroblockRead {
-        outcome: nothing(answer),
-        reads: SymbolCounts {
-            first: first,
-            tokens: tokens,
-        },
+        outcome: nothing(Err(why)),
+        reads: SymbolCounts { first, tokens },
     }
 }
 
@@ -44,12 +41,6 @@ fn factors_of(frame: Frame, segment: usize) -> Factors
 {
     let factors = frame.factors;
     factors[segment]
-}
-
-fn index(x: u8) -> usize
-    ensures { result ≡ x }
-{
-    x as usize
 }
 
 // Whether what is read, and what it is read by, lies in its range. `size` is the length of the table. It also says what the types do: how
@@ -101,7 +92,7 @@ fn with_tokens(
     let top_flags = top.flags;
     let left_flags = left.flags;
     let mut c = [0i16; 384];
-    let f = factors_of(frame, index(kinds.segment));
+    let f = factors_of(frame, usize::from(kinds.segment));
     let read = residual::decode(
         tokens,
         t,
@@ -116,13 +107,13 @@ fn with_tokens(
     let d = read.residual;
     let answer = d.answer;
     let Ended::Done(after, empty) = answer else {
-        return stopped(Finish::NoTokens, m.reads, read.reads);
+        return stopped(Unfinished::NoTokens, m.reads, read.reads);
     };
     let top_after = d.top;
     let left_after = d.left;
     let residue = Residue {
-        after: after,
-        empty: empty,
+        after,
+        empty,
         top: top_after,
         left: left_after,
     };
@@ -165,12 +156,12 @@ fn step(
     let left_modes = left.modes;
     let read = read_modes(first, announced, r, top_modes, left_modes, &mut modes);
     let Ok((kinds, next)) = read.answer else {
-        return stopped(Finish::NoModes, read.reads, 0);
+        return stopped(Unfinished::NoModes, read.reads, 0);
     };
     let m = ModeData {
-        kinds: kinds,
-        modes: modes,
-        next: next,
+        kinds,
+        modes,
+        next,
         reads: read.reads,
     };
     with_tokens(tokens, t, frame, table, around, place, m, y, u, v)
@@ -197,10 +188,10 @@ pub fn decode(
         (planes_of y.old u.old v.old)) }
 {
     if !ready(first, tokens, readers, frame, table.len(), around) {
-        return stopped(Finish::Refused, 0, 0);
+        return stopped(Unfinished::Refused, 0, 0);
     }
     if !laid(y.len(), u.len(), v.len(), place) {
-        return stopped(Finish::Refused, 0, 0);
+        return stopped(Unfinished::Refused, 0, 0);
     }
     step(first, tokens, readers, frame, table, around, place, y, u, v)
 }

@@ -1,5 +1,5 @@
 -- `entries` meets its contract: the array is filled, entry by entry.
-use Rattle.numbers.specs.Words.{◌-◌, arith, refl, filled_none, filled_next, filled_all, called, w32}
+use Rattle.numbers.specs.Words.{arith, refl, filled_none, filled_next, filled_all, called, w32}
 use Rattle.header.specs.Header.{entry_count}
 use Rattle.try_singles.proofs.entries.Goals as goal
 

@@ -121,7 +121,7 @@ plus-requires c κs =
 returns : tie.Need-returns-in_default invariant_loop decreases_loop
 returns c =
     stop_is (state_of (inner c.before.before.before.before.before.before.before.before.before.before.before.before.before.before.before.before.before).loop-k.r (inner c.before.before.before.before.before.before.before.before.before.before.before.before.before.before.before.before.before).loop-k.readers (inner c.before.before.before.before.before.before.before.before.before.before.before.before.before.before.before.before.before).loop-k.left (after c.before.before.before.before.before.before.before.before.before.before.before.before.before.before.before.before.before).mem) c.stop.ensures
-    (going_refused (shared (inner c.before.before.before.before.before.before.before.before.before.before.before.before.before.before.before.before.before).before) (inner c.before.before.before.before.before.before.before.before.before.before.before.before.before.before.before.before.before).loop-k.invariant.0 (less (inner c.before.before.before.before.before.before.before.before.before.before.before.before.before.before.before.before.before)) (counted c.before.before.before.before.before.before.before.before.before.before.before.before.before.before.before.before.before) c.plus-reads.ensures (after c.before.before.before.before.before.before.before.before.before.before.before.before.before.before.before.before.before) (turned_is c.before.before.before.before.before.before.before.before.before.before.before.before.before.before.before.before.before) (not_done c.turn-m.result.answer c.in_default.in_default-own.keys2) c.stopped.ensures) (begin (inner c.before.before.before.before.before.before.before.before.before.before.before.before.before.before.before.before.before).before)
+    (going_refused (shared (inner c.before.before.before.before.before.before.before.before.before.before.before.before.before.before.before.before.before).before) (inner c.before.before.before.before.before.before.before.before.before.before.before.before.before.before.before.before.before).loop-k.invariant.0 (less (inner c.before.before.before.before.before.before.before.before.before.before.before.before.before.before.before.before.before)) (counted c.before.before.before.before.before.before.before.before.before.before.before.before.before.before.before.before.before) c.plus-reads.ensures (after c.before.before.before.before.before.before.before.before.before.before.before.before.before.before.before.before.before) (turned_is c.before.before.before.before.before.before.before.before.before.before.before.before.before.before.before.before.before) (not_done c.turn-m.result.answer c.in_default.not-Ok) c.stopped.ensures) (begin (inner c.before.before.before.before.before.before.before.before.before.before.before.before.before.before.before.before.before).before)
 
 mul-readers : tie.Need-offset_bounds-readers-p-in-loop-k invariant_loop decreases_loop
 mul-readers c = omega (arith, pick_eight c.before.before.before.before.before.before.before.before.before.before.before.before.before.before.before.before.before.before.before.before.before.before.before.before.before.before.before)
@@ -138,7 +138,7 @@ loop-less c = omega (arith, less c.before.before.before.before.before.before.bef
 loop-again : tie.Need-loop-k-preserved invariant_loop decreases_loop
 loop-again c =
     let i = inner c.before.before.before.before.before.before.before.before.before.before.before.before.before.before.before.before.before.before in (
-      going_next (shared i.before) i.loop-k.invariant.0 (less i) (counted c.before.before.before.before.before.before.before.before.before.before.before.before.before.before.before.before.before.before) c.plus-reads.ensures (after c.before.before.before.before.before.before.before.before.before.before.before.before.before.before.before.before.before.before) (turned_is c.before.before.before.before.before.before.before.before.before.before.before.before.before.before.before.before.before.before) c.in-Done.is
+      going_next (shared i.before) i.loop-k.invariant.0 (less i) (counted c.before.before.before.before.before.before.before.before.before.before.before.before.before.before.before.before.before.before) c.plus-reads.ensures (after c.before.before.before.before.before.before.before.before.before.before.before.before.before.before.before.before.before.before) (turned_is c.before.before.before.before.before.before.before.before.before.before.before.before.before.before.before.before.before.before) c.in-Ok.is
           (ends_at (pic i.before) (state i.before) i.loop-k.k (shared i.before) i.loop-k.invariant.0.live (less i) (first_bytes i.before) (token_bytes i.before _)) (picked c.before.before.before.before.before.before.before.before.before.before.before.before.before.before.before.before.before.before.before.before.before.before.before.before.before.before.before.before),
       omega (arith, less i),
     )
@@ -147,4 +147,4 @@ returns-2 : tie.Need-returns invariant_loop decreases_loop
 returns-2 c = stop_is (state c.before.before) c.stop-2.ensures (going_end c.loop-k.invariant.0 c.loop-k-test.false refl) (begin c.before.before)
 
 pub rows_spec : {M : Type 1} → statement M
-rows_spec = tie.close (tie.spec invariant_loop decreases_loop mul-blocks (λ c κs. search rules) (λ c κs. search rules) (λ c κs. search rules) loop-holds (λ c. some c) (λ c κs. search rules) (λ c κs. search rules) (λ c. omega (arith, pick_eight c.before)) (λ c. pick_eight c.before) task-of-requires turn-requires plus-requires (λ c. search rules) (λ c κs. search rules) (λ c κs. search rules) (λ c. (kept c.before.before.before.before.before.before.before.before.before.before.before.before.before.before.before.before.before).y) (λ c. (kept c.before.before.before.before.before.before.before.before.before.before.before.before.before.before.before.before.before).u) (λ c. (kept c.before.before.before.before.before.before.before.before.before.before.before.before.before.before.before.before.before).v) (λ c. (kept c.before.before.before.before.before.before.before.before.before.before.before.before.before.before.before.before.before).columns) (λ c. (kept c.before.before.before.before.before.before.before.before.before.before.before.before.before.before.before.before.before).modes) (λ c. (kept c.before.before.before.before.before.before.before.before.before.before.before.before.before.before.before.before.before).strengths) returns mul-readers array-set-from-readers add-k loop-less loop-again (λ c κs. search rules) (λ c. (ended c.before.before).y) (λ c. (ended c.before.before).u) (λ c. (ended c.before.before).v) (λ c. (ended c.before.before).columns) (λ c. (ended c.before.before).modes) (λ c. (ended c.before.before).strengths) returns-2)
+rows_spec = tie.close (tie.spec invariant_loop decreases_loop mul-blocks (λ c κs. search rules) (λ c κs. search rules) (λ c κs. search rules) loop-holds (λ c. some c) (λ c κs. search rules) (λ c κs. search rules) (λ c. omega (arith, pick_eight c.before)) (λ c. pick_eight c.before) task-of-requires turn-requires plus-requires (λ c. search rules) (λ c. search rules) (λ c κs. search rules) (λ c κs. search rules) (λ c. (kept c.before.before.before.before.before.before.before.before.before.before.before.before.before.before.before.before.before).y) (λ c. (kept c.before.before.before.before.before.before.before.before.before.before.before.before.before.before.before.before.before).u) (λ c. (kept c.before.before.before.before.before.before.before.before.before.before.before.before.before.before.before.before.before).v) (λ c. (kept c.before.before.before.before.before.before.before.before.before.before.before.before.before.before.before.before.before).columns) (λ c. (kept c.before.before.before.before.before.before.before.before.before.before.before.before.before.before.before.before.before).modes) (λ c. (kept c.before.before.before.before.before.before.before.before.before.before.before.before.before.before.before.before.before).strengths) returns mul-readers array-set-from-readers add-k loop-less loop-again (λ c κs. search rules) (λ c. (ended c.before.before).y) (λ c. (ended c.before.before).u) (λ c. (ended c.before.before).v) (λ c. (ended c.before.before).columns) (λ c. (ended c.before.before).modes) (λ c. (ended c.before.before).strengths) returns-2)

@@ -62,7 +62,7 @@ loop-k-preserved c =
     let n = c.turn-m.new in
     let T : Turned = turned_of c.turn-m.result.answer c.turn-m.result.left (memory_of n.y n.u n.v n.columns n.modes n.strengths) in
     let e = rebuilt_turn P l.k S _ c.turn-m.ensures (task_is P l.k S c.task_of.ensures c.pick-p.ensures f) c.part-first.ensures in
-    going_next c.requires.shared l.invariant c.loop-k-test.true (part_bytes _ c.args.tile.first (λ i. (c.shared_slice_known-1.given i).fits)) T e c.in-Done.is c.pick-p.ensures
+    going_next c.requires.shared l.invariant c.loop-k-test.true (part_bytes _ c.args.tile.first (λ i. (c.shared_slice_known-1.given i).fits)) T e c.in-Ok.is c.pick-p.ensures
 
 pub returns-in_default-finish : goal.returns-in_default-finish
 returns-in_default-finish c =
@@ -75,7 +75,7 @@ returns-in_default-finish c =
     let T : Turned = turned_of c.turn-m.result.answer c.turn-m.result.left (memory_of n.y n.u n.v n.columns n.modes n.strengths) in
     let e = rebuilt_turn P l.k S _ c.turn-m.ensures (task_is P l.k S c.task_of.ensures c.pick-p.ensures f) c.part-first.ensures in
     gone_tokens _ P (state_of a.stop.reader a.stop.readers a.stop.left (memory_of a.y.now a.u.now a.v.now a.columns.now a.modes.now a.strengths.now)) (c.in-Err.is ∙ ap (λ (s : Stop). Err s) c.in-NoTokens.is)
-    (going_refused c.requires.shared l.invariant c.loop-k-test.true T e (not_done c.turn-m.result.answer (opened c.in_default-finish.in_default-finish-own.keys2)))
+    (going_refused c.requires.shared l.invariant c.loop-k-test.true T e (not_done _ c.in_default-finish.not-Ok))
 
 pub returns : goal.returns
 returns c =
