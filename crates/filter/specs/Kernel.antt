@@ -1,11 +1,9 @@
 -- The loop filter's kernel, RFC 6386, sections 15.2, 4852-5016, and 15.3, 5069-5275: what eight samples across an edge become. It is in two
 -- steps: `rule_of` says which rule acts and why, and `steps_of` what that rule adds to each sample before the sum is clipped to a byte.
 use Rattle.std.specs.Prelude.{◌+◌, ◌*◌, ◌<◌, ◌||◌, ◌∷◌, ◌+ℤ◌, ◌-ℤ◌, ◌*ℤ◌}
-use Rattle.numbers.specs.Words.{ℕ, suc, Bool, true, false, not, cond, ltb, leb, List, [], get_or, build, ℤ, pos, neg_ℤ, nat_abs, shr_z, clip_z, signed_to, signed_byte_z}
+use Rattle.numbers.specs.Words.{ℕ, suc, Bool, true, false, not, cond, ltb, leb, List, [], get_or, build, ℤ, pos, neg_ℤ, nat_abs, shr_z, clip_z, signed_to, signed_byte_z, Option, Some, None}
 pub use Rattle.filter.specs.declared.answers.Rule.{Rule}
 pub use Rattle.filter.specs.declared.answers.Rule.TheVariants.{EdgeFailed, Rough, Simple, HighVariance, MacroblockEdge, InnerEdge}
-use Rattle.filter.specs.declared.answers.Pixel.{Pixel}
-use Rattle.filter.specs.declared.answers.Pixel.TheVariants.{Value, Refused}
 
 -- Eight across an edge: p3, p2, p1, p0 up to it, and q0, q1, q2, q3 behind it.
 pub record Eight (A : Type 0) : Type 0 where
@@ -137,14 +135,14 @@ filter_of e simple edge limit inner threshold =
     moved_of e (steps_of (rule_of (samples_across e) simple edge limit inner threshold) (samples_across e))
 
 -- The kth of them; an index past the eight is refused.
-unfoldable pub pixel_of : List ℕ → (simple edge : Bool) (limit inner threshold : ℕ) (k : ℕ) → Pixel
+unfoldable pub pixel_of : List ℕ → (simple edge : Bool) (limit inner threshold : ℕ) (k : ℕ) → Option ℕ
 pixel_of e simple edge limit inner threshold k =
-    cond (ltb k 8) (Value (get_or (filter_of e simple edge limit inner threshold) k 0)) Refused
+    cond (ltb k 8) (Some (get_or (filter_of e simple edge limit inner threshold) k 0)) None
 
 -- The answer's number: 0, and 9 for an index that is refused.
-abbrev pub pixel_number_of : Pixel → ℕ
-pixel_number_of (Value x) = 0
-pixel_number_of Refused = 9
+abbrev pub pixel_number_of : Option ℕ → ℕ
+pixel_number_of (Some x) = 0
+pixel_number_of None = 9
 
 -- Every sample is a byte, as a fact.
 abbrev pub Bytes : List ℕ → Type 0

@@ -1,7 +1,6 @@
 -- Laws of the loop filter's kernel: which tests lead to which rule, how far a step goes, what a filtered sample is, and what never changes.
 use Rattle.std.specs.Prelude.{◌+◌, ◌-◌, ◌*◌, ◌/◌, ◌≤◌, ◌<◌, ◌≡◌, ◌&&◌, ◌||◌, ◌∷◌, ◌+ℤ◌, ◌-ℤ◌, ◌*ℤ◌}
-use Rattle.numbers.specs.Words.{ℕ, zero, suc, add-zero, arith, refl, sym, ◌∙◌, ap, Bool, true, false, not, cond, inl, inr, ltb, T, lit<, lt_or, eq_or, never, le-ltb, lt-ltb, List, [], length, get_or, build, get_or_build, get_or_build_past, built, get_or_constant, ℤ, pos, negsuc, neg_ℤ, nat_abs, le_z, In, Each, to_le, of_le, of_eq, add_parts, up_neg, dn_neg, sub_parts_ℤ, up_times, dn_times, shr_parts, times_mono, In_wider, num, plainly, inside, know, ◌⊕◌, lit, shr, v, known, each_[], each_∷, clip_z, signed_byte_z, up_to_le, up_to_same, signed_in, w32}
-use Rattle.filter.specs.declared.answers.Pixel.TheVariants.{Value}
+use Rattle.numbers.specs.Words.{ℕ, zero, suc, add-zero, arith, refl, sym, ◌∙◌, ap, Bool, true, false, not, cond, inl, inr, ltb, T, lit<, lt_or, eq_or, never, le-ltb, lt-ltb, List, [], length, get_or, build, get_or_build, get_or_build_past, built, get_or_constant, ℤ, pos, negsuc, neg_ℤ, nat_abs, le_z, In, Each, to_le, of_le, of_eq, add_parts, up_neg, dn_neg, sub_parts_ℤ, up_times, dn_times, shr_parts, times_mono, In_wider, num, plainly, inside, know, ◌⊕◌, lit, shr, v, known, each_[], each_∷, clip_z, signed_byte_z, up_to_le, up_to_same, signed_in, Some, w32}
 pub use Rattle.filter.specs.Kernel.{Bytes}
 use Rattle.filter.specs.Kernel.{Rule, EdgeFailed, Rough, Simple, HighVariance, MacroblockEdge, InnerEdge, Samples, samples_across, apart, within_limit_of, first_false, smooth, pairs, rough_at, high_variance_of, rule_of, across, tapped, eighth, part, half, sides, no_steps, common_steps_of, macroblock_steps_of, inner_steps_of, steps_of, moved_of, filter_of, pixel_of}
 
@@ -221,7 +220,7 @@ module _ (e : List ℕ) (simple edge : Bool) (limit inner threshold : ℕ) where
         test false w = edge_failed_stays w
 
   -- `pixel` answers the kth of what `filter` gives
-  pub pixel_agrees : (k : ℕ) → k < 8 → pixel_of e simple edge limit inner threshold k ≡ Value (get_or (filter_of e simple edge limit inner threshold) k 0)
+  pub pixel_agrees : (k : ℕ) → k < 8 → pixel_of e simple edge limit inner threshold k ≡ Some (get_or (filter_of e simple edge limit inner threshold) k 0)
   unfolding pixel_of
   pixel_agrees k h = rw (lt-ltb k 8 h)
 

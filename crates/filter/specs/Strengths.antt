@@ -1,10 +1,8 @@
 -- The strengths of a macroblock's edge filter (RFC 6386, section 15.4, 5281-5364; whether inner edges are
 -- filtered, section 15.1, 4785-4790).
 use Rattle.std.specs.Prelude.{◌+◌, ◌-◌, ◌/◌, ◌&&◌}
-use Rattle.numbers.specs.Words.{ℕ, min, max, Bool, true, false, eqb, ltb, leb, bit_of}
+use Rattle.numbers.specs.Words.{ℕ, min, max, Bool, true, false, eqb, ltb, leb, bit_of, Option, Some, None}
 pub use Rattle.filter.specs.declared.strengths.Strength.{Strength}
-use Rattle.filter.specs.declared.strengths.Strengths.{Strengths}
-use Rattle.filter.specs.declared.strengths.Strengths.TheVariants as T
 
 -- interior_limit (5329-5338): sharpness above 0 halves the level, above 4 quarters it, and caps it at 9 - sharpness; at least 1
 unfoldable pub slowed : ℕ → ℕ → ℕ
@@ -35,15 +33,15 @@ abbrev pub strength_fine_of : Strength → Bool
 strength_fine_of t = leb t.limit 189 && leb t.inner 63 && leb t.threshold 2 && leb t.inside 1
 
 -- `at_level`: refused where the level is above 63
-unfoldable pub strength_answer : ℕ → ℕ → Bool → Strengths
-strength_answer level sharp inside = elim (leb level 63) [ true ↦ T.Of (strength_of_of level sharp inside) | false ↦ T.Refused ]
+unfoldable pub strength_answer : ℕ → ℕ → Bool → Option Strength
+strength_answer level sharp inside = elim (leb level 63) [ true ↦ Some (strength_of_of level sharp inside) | false ↦ None ]
 
 -- the answer's number: 0, or 9 for a level that is refused
-abbrev pub strengths_number_of : Strengths → ℕ
-strengths_number_of (T.Of t) = 0
-strengths_number_of T.Refused = 9
+abbrev pub strengths_number_of : Option Strength → ℕ
+strengths_number_of (Some t) = 0
+strengths_number_of None = 9
 
 -- the answer's strengths: zeros where it is refused
-abbrev pub strengths_values_of : Strengths → Strength
-strengths_values_of (T.Of t) = t
-strengths_values_of T.Refused = no_strength
+abbrev pub strengths_values_of : Option Strength → Strength
+strengths_values_of (Some t) = t
+strengths_values_of None = no_strength

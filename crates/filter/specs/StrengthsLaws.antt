@@ -1,7 +1,6 @@
 -- The laws of strengths: each number's cases, their ranges, the answer with good arguments.
 use Rattle.std.specs.Prelude.{◌+◌, ◌-◌, ◌/◌, ◌≤◌, ◌<◌, ◌≡◌}
-use Rattle.numbers.specs.Words.{ℕ, min, max, arith, sym, Bool, true, ⊎_elim, lt_or, eq_or, both_true, eq-eqb, le-leb, le-ltb, lt-leb, lt-ltb, ne_eqb, bit_of, bit_small}
-use Rattle.filter.specs.declared.strengths.Strengths.TheVariants as T
+use Rattle.numbers.specs.Words.{ℕ, min, max, arith, sym, Bool, true, ⊎_elim, lt_or, eq_or, both_true, eq-eqb, le-leb, le-ltb, lt-leb, lt-ltb, ne_eqb, bit_of, bit_small, Some, None}
 use Rattle.filter.specs.Strengths.{Strength, slowed, inner_of, threshold_of, no_strength, strength_of_of, strength_fine_of, strength_answer}
 
 -- ---- the interior limit
@@ -77,15 +76,15 @@ module _ (level sharp : ℕ) (inside : Bool) where
       (eq_or level 0)
 
   -- ---- the public call
-  pub strength_good : level ≤ 63 → strength_answer level sharp inside ≡ T.Of (strength_of_of level sharp inside)
+  pub strength_good : level ≤ 63 → strength_answer level sharp inside ≡ Some (strength_of_of level sharp inside)
   unfolding strength_answer
   strength_good h = rw (le-leb _ _ h, strength_answer)
 
-  pub strength_refused : 63 < level → T.Refused ≡ strength_answer level sharp inside
+  pub strength_refused : 63 < level → None ≡ strength_answer level sharp inside
   unfolding strength_answer
   strength_refused h = rw (lt-leb _ _ h, strength_answer)
 
-  pub strength_is : level ≤ 63 → {t : Strength} → T.Of t ≡ strength_answer level sharp inside → t ≡ strength_of_of level sharp inside
+  pub strength_is : level ≤ 63 → {t : Strength} → Some t ≡ strength_answer level sharp inside → t ≡ strength_of_of level sharp inside
   strength_is h e = let k = strength_good h in cc
 
 -- ---- the strengths that are made are in range

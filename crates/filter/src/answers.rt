@@ -11,10 +11,3 @@ pub enum Rule {
     MacroblockEdge,
     InnerEdge,
 }
-
-// One sample, or an index that is refused.
-#[derive(Clone, Copy)]
-pub enum Pixel {
-    Value(u8),
-    Refused,
-}

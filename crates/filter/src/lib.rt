@@ -13,8 +13,6 @@ pub mod strengths;
 ghost use Rattle.std.specs.Prelude.{◌≡◌};
 ghost use Rattle.filter.specs.Kernel.{filter_of, pixel_of};
 
-use answers::Pixel;
-
 // The eight samples after the filter: p3, p2, p1, p0 up to the edge and q0, q1, q2, q3 behind it.
 pub fn filter(e: &[u8; 8], simple: bool, edge: bool, limit: u8, inner: u8, threshold: u8) -> [u8; 8]
     ensures { result ≡ filter_of e.now simple edge limit inner threshold }
@@ -22,7 +20,7 @@ pub fn filter(e: &[u8; 8], simple: bool, edge: bool, limit: u8, inner: u8, thres
     steps::acted(e, rules::rule(e, simple, edge, limit, inner, threshold))
 }
 
-// The kth of the samples that `filter` gives.
+// The kth of the samples that `filter` gives; an index past the eight is refused.
 #[tactic(auto, unfolding(crate::specs::Kernel::pixel_of))]
 pub fn pixel(
     e: &[u8; 8],
@@ -32,13 +30,13 @@ pub fn pixel(
     inner: u8,
     threshold: u8,
     k: usize,
-) -> Pixel
+) -> Option<u8>
     ensures { result ≡ pixel_of e.now simple edge limit inner threshold k }
 {
     if k < 8 {
         let out = filter(e, simple, edge, limit, inner, threshold);
-        Pixel::Value(out[k])
+        Some(out[k])
     } else {
-        Pixel::Refused
+        None
     }
 }

@@ -18,13 +18,6 @@ pub fn strength_fine(t: Strength) -> bool
     (t.limit <= 189) & (t.inner <= 63) & (t.threshold <= 2) & (t.inside <= 1)
 }
 
-// The strengths, or an argument that is refused.
-#[derive(Clone, Copy)]
-pub enum Strengths {
-    Of(Strength),
-    Refused,
-}
-
 // The interior limit: the level, halved or quartered and capped by the sharpness, and at least 1.
 fn inner_limit(level: u8, sharp: u8) -> u8
     ensures { (result ≡ inner_of level sharp) × ((1 ≤ result) × (result ≤ max level 1)) }
@@ -76,13 +69,13 @@ fn of_level(level: u8, sharp: u8, inside: bool) -> Strength
     }
 }
 
-// The strengths at a level 0..63 and a sharpness; `inside` says whether the inner edges are filtered.
+// The strengths at a level 0..63 and a sharpness; `inside` says whether the inner edges are filtered. A level above 63 is refused.
 #[tactic(auto, unfolding(crate::specs::Strengths::strength_answer))]
-pub fn at_level(level: u8, sharp: u8, inside: bool) -> Strengths
+pub fn at_level(level: u8, sharp: u8, inside: bool) -> Option<Strength>
     ensures { result ≡ strength_answer level sharp inside }
 {
     if 63 < level {
-        return Strengths::Refused;
+        return None;
     }
-    Strengths::Of(of_level(level, sharp, inside))
+    Some(of_level(level, sharp, inside))
 }

@@ -8,7 +8,7 @@ ghost use Rattle.macroblock.specs.Macroblock.{planes_of, macroblock_called, no_o
 
 use crate::arguments::{Place, Readers};
 use crate::squares::squares;
-use filter::strengths::{Strength, Strengths, at_level};
+use filter::strengths::{Strength, at_level};
 use header::frame::Frame;
 use modes::answers::Kinds;
 use modes::contexts::{Context, bottom, right};
@@ -95,15 +95,12 @@ fn level_of(frame: Frame, small: bool, segment: usize) -> u8
 fn strength_at(level: u8, sharp: u8, inside: bool) -> Strength
     ensures { result ≡ strengths_values_of (strength_answer level sharp inside) }
 {
-    let Strengths::Of(t) = at_level(level, sharp, inside) else {
-        return Strength {
-            limit: 0,
-            inner: 0,
-            threshold: 0,
-            inside: 0,
-        };
-    };
-    t
+    at_level(level, sharp, inside).unwrap_or(Strength {
+        limit: 0,
+        inner: 0,
+        threshold: 0,
+        inside: 0,
+    })
 }
 
 // The inner edges are filtered where the modes are small or something was coded.

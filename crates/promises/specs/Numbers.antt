@@ -2,7 +2,7 @@
 -- a byte is missing that is nothing or zeros, and what is lent is as it was. `numbers_bind`, in NumbersLaws, proves all of it. The picture call
 -- and the deblocking call have more of their own, in Refusals, Stops and Deblocked.
 use Rattle.std.specs.Prelude.{◌+◌, ◌*◌, ◌≤◌, ◌<◌, ◌≡◌, ◌&&◌}
-use Rattle.numbers.specs.Words.{ℕ, Bool, true, false, eqb, ltb, leb, List, length, get_or, replicate, ℤ, pos, negsuc, le_z, wrap_z, wrap16_of, wrap16_number_of, checked_number_of, Err}
+use Rattle.numbers.specs.Words.{ℕ, Bool, true, false, eqb, ltb, leb, List, length, get_or, replicate, ℤ, pos, negsuc, le_z, wrap_z, wrap16_of, wrap16_number_of, checked_number_of, Some, None, Err}
 use Rattle.numbers.specs.declared.Wrapped.TheVariants as Wrapped
 use Rattle.reader.specs.declared.boolean.Reader.{Reader}
 use Rattle.reader.specs.Reading.{Given, given, missing, valid_of, symbol_of, to_read, symbol_answer, read_number_of, run}
@@ -23,7 +23,6 @@ use Rattle.coefficients.specs.Block as Tokens
 use Rattle.coefficients.specs.Block.{magnitude, signed_value, block, header_table, numeric_of, number_answer, signed_answer, sixteen_bits, table_of}
 use Rattle.transform.specs.Transform.{block_fits, samples_of, transform_of}
 use Rattle.filter.specs.Kernel.{filter_of, pixel_of, pixel_number_of}
-use Rattle.filter.specs.declared.answers.Pixel.TheVariants as Pixel
 use Rattle.filter.specs.Strengths.{strength_of_of, no_strength, strength_answer, strengths_number_of, strengths_values_of, strength_fine_of}
 use Rattle.filter.specs.declared.strengths.Strength.{Strength}
 use Rattle.modes.specs.Modes.{prefix, large_mode_of, block_mode_of, small_modes_of, Macroblock, modes_of, to_sixteen, to_staged, contexts_of, each_below_of, prefix_answer, main_answer, block_answer, small_answer, modes_answer, next_number_of, empty_context, context_fine_of}
@@ -164,7 +163,7 @@ pub record Numbers : Type 0 where
   -- ---- filter: 9
   -- filter::pixel
   pub pixel : (e : List ℕ) (simple edge : Bool) (limit inner threshold k : ℕ)
-      → RefusedOr 9 (ltb k 8) (pixel_number_of (pixel_of e simple edge limit inner threshold k)) (pixel_of e simple edge limit inner threshold k) Pixel.Refused (Pixel.Value (get_or (filter_of e simple edge limit inner threshold) k 0))
+      → RefusedOr 9 (ltb k 8) (pixel_number_of (pixel_of e simple edge limit inner threshold k)) (pixel_of e simple edge limit inner threshold k) None (Some (get_or (filter_of e simple edge limit inner threshold) k 0))
   -- filter::strengths::at_level
   pub at_level : (level sharp : ℕ) (inside : Bool) → RefusedOr 9 (leb level 63) (strengths_number_of (strength_answer level sharp inside)) (strengths_values_of (strength_answer level sharp inside)) no_strength (strength_of_of level sharp inside)
   -- ---- modes: a missing byte is 6
