@@ -1,12 +1,14 @@
 -- What the checks of the call say: which number each gives, and what is known past all.
 use Rattle.std.specs.Prelude.{◌+◌, ◌*◌, ◌/◌, ◌≤◌, ◌<◌, ◌≡◌, ◌&&◌}
-use Rattle.numbers.specs.Words.{ℕ, zero, suc, add-one, arith, refl, sym, ◌∙◌, ap, ap₂, Bool, true, false, cond, inl, inr, leb, not_so, both_left, both_right, both_true, le-leb, leb-true, List, length, all_below, all_below_lem}
+use Rattle.numbers.specs.Words.{ℕ, zero, suc, add-one, arith, refl, sym, ◌∙◌, ap, ap₂, Bool, true, false, cond, inl, inr, leb, not_so, both_left, both_right, both_true, le-leb, leb-true, List, length, all_below, all_below_lem, Result, Ok, Err}
 use Rattle.filter.specs.declared.strengths.Strength.{Strength}
 use Rattle.tile.specs.Tile.{sides_of, Sides}
 use Rattle.tile.specs.ChecksLaws.{sides_fact, sides_test}
 use Rattle.lent.specs.Memory.{records_in, strength_width, strength_at_of, luma_fine_of, chroma_fine_of, strengths_fine_of}
 use Rattle.lent.specs.SizesLaws.{long_fact, long_test, luma_area, chroma_area}
-use Rattle.deblock.specs.Deblock.{Done, Refused, deblock_lengths, DeblockLengths, limits_of, deblock_refusal, DeblockAnswer, when, raster_of, planes_deblocked, deblock_of, deblock_number_of}
+use Rattle.deblock.specs.declared.checks.DeblockError.{DeblockError}
+use Rattle.deblock.specs.declared.checks.DeblockError.TheVariants as E
+use Rattle.deblock.specs.Deblock.{deblock_lengths, DeblockLengths, limits_of, deblock_checked, deblock_refusal, DeblockAnswer, when, raster_of, planes_deblocked, deblock_of, deblock_number_of}
 use Rattle.macroblock.specs.Macroblock.{Planes}
 use Rattle.deblock.specs.Located.{Beside, WholePlane}
 
@@ -31,21 +33,21 @@ limits_next s k e f = ap₂ ◌&&◌ (ap (λ (x : Strength). leb x.limit 189) e)
 
 module _ (w h y u v : ℕ) (s : List ℕ) where
   pub stop_side : sides_of w h ≡ false → 1 ≡ deblock_refusal w h y u v s
-  unfolding deblock_refusal
+  unfolding deblock_refusal deblock_checked
   stop_side a = rw a
 
   module _ (a : sides_of w h ≡ true) where
     pub stop_lengths : deblock_lengths w h y u v (length s) ≡ false → 4 ≡ deblock_refusal w h y u v s
-    unfolding deblock_refusal
+    unfolding deblock_refusal deblock_checked
     stop_lengths b = rw (a, b)
 
     module _ (b : deblock_lengths w h y u v (length s) ≡ true) where
       pub stop_limits : limits_of s ≡ false → 11 ≡ deblock_refusal w h y u v s
-      unfolding deblock_refusal
+      unfolding deblock_refusal deblock_checked
       stop_limits c = rw (a, b, c)
 
       pub stop_none : limits_of s ≡ true → 0 ≡ deblock_refusal w h y u v s
-      unfolding deblock_refusal
+      unfolding deblock_refusal deblock_checked
       stop_none c = rw (a, b, c)
 
 -- ---- past all checks
@@ -54,17 +56,22 @@ pub record Fine (w h y u v : ℕ) (s : List ℕ) : Type 0 where
   pub lengths : DeblockLengths w h y u v (length s)
   pub limits : (k : ℕ) → k < records_in strength_width s → (strength_at_of s k).limit ≤ 189
 
-three : (a b c : Bool) → ◌≡◌ {A = ℕ} 0 (cond a (cond b (cond c 0 11) 4) 1) → (a ≡ true) × (b ≡ true) × (c ≡ true)
+three : (a b c : Bool) → 0 ≡ deblock_number_of (cond a (cond b (cond c (Ok tt) (Err E.Limit)) (Err E.Lengths)) (Err E.Sides)) → (a ≡ true) × (b ≡ true) × (c ≡ true)
 three true true true e = (refl, refl, refl)
 three true true false e = absurd (omega arith)
 three true false c e = absurd (omega arith)
 three false b c e = absurd (omega arith)
 
 pub fine : (w h y u v : ℕ) (s : List ℕ) → 0 ≡ deblock_refusal w h y u v s → Fine w h y u v s
-unfolding deblock_refusal
+unfolding deblock_refusal deblock_checked
 fine w h y u v s e =
     let t = three (sides_of w h) (deblock_lengths w h y u v (length s)) (limits_of s) e in
     record { sides = sides_fact w h t.0; lengths = lengths w h y u v (length s) t.1; limits = limits s t.2 }
+
+-- as the code finds it
+pub checked_fine : (w h y u v : ℕ) (s : List ℕ) {d : Unit} → Ok d ≡ deblock_checked w h y u v s → Fine w h y u v s
+unfolding deblock_refusal
+checked_fine w h y u v s e = fine w h y u v s (ap (λ r. deblock_number_of r) e)
 
 -- and the other way: good arguments are not refused
 all_true : (f : ℕ → Bool) (n : ℕ) → ((k : ℕ) → k < n → f k ≡ true) → all_below n f ≡ true
@@ -127,34 +134,53 @@ luma_beside y = record { size = inr refl; two = λ e. absurd (omega arith); one 
 
 -- ---- the call: refused, done in the simple kind, done in the other
 module _ (m : Planes) (s : List ℕ) (w h : ℕ) (simple : Bool) where
+  abbrev check : Result Unit DeblockError
+  check = deblock_checked w h (length m.y) (length m.u) (length m.v) s
+
   abbrev bad : ℕ
   bad = deblock_refusal w h (length m.y) (length m.u) (length m.v) s
 
-  pub deblock_refused : (k : ℕ) → bad ≡ suc k → deblock_of m s w h simple ≡ record { answer = Refused (suc k); planes = m }
+  pub deblock_refused : (e : DeblockError) → check ≡ Err e → deblock_of m s w h simple ≡ record { answer = Err e; planes = m }
   unfolding deblock_of
-  deblock_refused k f = rw (f, deblock_of)
+  deblock_refused e f = rw (f, deblock_of)
 
-  pub refused : {n : ℕ} → n ≡ bad → (n ≡ 0 → ⊥) → ◌≡◌ {A = DeblockAnswer} (record { answer = Refused n; planes = m }) (deblock_of m s w h simple)
-  refused {n} e z = rw e (go bad refl (λ g. z (e ∙ g)))
+  pub refused : {e : DeblockError} → Err e ≡ check → ◌≡◌ {A = DeblockAnswer} (record { answer = Err e; planes = m }) (deblock_of m s w h simple)
+  refused {e} f = sym (deblock_refused e (sym f))
+
+  pub checked_done : {d : Unit} {p : Planes} → Ok d ≡ check → p ≡ planes_deblocked simple s (w / 16) (h / 16) m → ◌≡◌ {A = DeblockAnswer} (record { answer = Ok tt; planes = p }) (deblock_of m s w h simple)
+  unfolding deblock_of
+  checked_done e f = rw (f, ← e, deblock_of)
+
+  -- nothing is refused where the number is 0
+  pub checked_none : 0 ≡ bad → Ok tt ≡ check
+  unfolding deblock_refusal
+  checked_none z = go check z
     where
-      go : (k : ℕ) → bad ≡ k → (k ≡ 0 → ⊥) → ◌≡◌ {A = DeblockAnswer} (record { answer = Refused k; planes = m }) (deblock_of m s w h simple)
-      go zero f g = absurd (g refl)
-      go (suc k) f g = sym (deblock_refused k f)
+      go : (r : Result Unit DeblockError) → 0 ≡ deblock_number_of r → Ok tt ≡ r
+      go (Ok d) e = refl
+      go (Err E.Sides) e = absurd (omega arith)
+      go (Err E.Lengths) e = absurd (omega arith)
+      go (Err E.Limit) e = absurd (omega arith)
 
-  pub done : {p : Planes} → 0 ≡ bad → p ≡ planes_deblocked simple s (w / 16) (h / 16) m → ◌≡◌ {A = DeblockAnswer} (record { answer = Done; planes = p }) (deblock_of m s w h simple)
-  unfolding deblock_of
-  done e f = rw (f, ← e, deblock_of)
+  pub done : {p : Planes} → 0 ≡ bad → p ≡ planes_deblocked simple s (w / 16) (h / 16) m → ◌≡◌ {A = DeblockAnswer} (record { answer = Ok tt; planes = p }) (deblock_of m s w h simple)
+  done e f = checked_done (checked_none e) f
 
   -- its number, and that a refusal changes nothing
   pub deblock_number : bad ≡ deblock_number_of (deblock_of m s w h simple).answer
-  deblock_number = go bad refl
+  unfolding deblock_refusal
+  deblock_number = go check refl
     where
-      go : (k : ℕ) → bad ≡ k → k ≡ deblock_number_of (deblock_of m s w h simple).answer
-      go zero e = ap (λ (o : DeblockAnswer). deblock_number_of o.answer) (done (sym e) refl)
-      go (suc k) e = ap (λ (o : DeblockAnswer). deblock_number_of o.answer) (sym (deblock_refused k e))
+      go : (r : Result Unit DeblockError) → check ≡ r → deblock_number_of r ≡ deblock_number_of (deblock_of m s w h simple).answer
+      go (Ok d) e = ap (λ (o : DeblockAnswer). deblock_number_of o.answer) (checked_done (sym e) refl)
+      go (Err k) e = ap (λ (o : DeblockAnswer). deblock_number_of o.answer) (sym (deblock_refused k e))
 
   pub deblock_unchanged : (bad ≡ 0 → ⊥) → (deblock_of m s w h simple).planes ≡ m
-  deblock_unchanged z = ap (λ (o : DeblockAnswer). o.planes) (sym (refused refl z))
+  unfolding deblock_refusal
+  deblock_unchanged z = go check refl
+    where
+      go : (r : Result Unit DeblockError) → check ≡ r → (deblock_of m s w h simple).planes ≡ m
+      go (Ok d) e = absurd (z (ap (λ (r : Result Unit DeblockError). deblock_number_of r) e))
+      go (Err k) e = ap (λ (o : DeblockAnswer). o.planes) (deblock_refused k e)
 
   pub picture_simple : {y : List ℕ} → simple ≡ true → y ≡ raster_of simple s 16 (w / 16) (w / 16 * (h / 16)) m.y → ◌≡◌ {A = Planes} (record { y = y; u = m.u; v = m.v }) (planes_deblocked simple s (w / 16) (h / 16) m)
   unfolding planes_deblocked when

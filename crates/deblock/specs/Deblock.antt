@@ -6,15 +6,15 @@
 --
 -- from left to right over a vertical edge and from top to bottom over a horizontal one.
 use Rattle.std.specs.Prelude.{◌+◌, ◌-◌, ◌*◌, ◌/◌, ◌%◌, ◌≡◌, ◌&&◌}
-use Rattle.numbers.specs.Words.{ℕ, zero, suc, Bool, true, false, not, cond, eqb, leb, List, length, get_or, set, build, all_below}
+use Rattle.numbers.specs.Words.{ℕ, zero, suc, Bool, true, false, not, cond, eqb, leb, List, length, get_or, set, build, all_below, Result, Ok, Err}
 use Rattle.filter.specs.Kernel.{filter_of}
 use Rattle.filter.specs.declared.strengths.Strength.{Strength}
 use Rattle.lent.specs.Memory.{records_in, strength_width, strength_at_of, luma_fine_of, chroma_fine_of, strengths_fine_of}
 use Rattle.tile.specs.Tile.{sides_of, blocks_of}
 use Rattle.macroblock.specs.Macroblock.{Planes}
 pub use Rattle.deblock.specs.declared.edges.Edge.{Edge}
-use Rattle.deblock.specs.declared.Deblocked.{Deblocked}
-pub use Rattle.deblock.specs.declared.Deblocked.TheVariants.{Done, Refused}
+use Rattle.deblock.specs.declared.checks.DeblockError.{DeblockError}
+use Rattle.deblock.specs.declared.checks.DeblockError.TheVariants as E
 
 -- what becomes of a plane
 abbrev pub Change : Type 0
@@ -124,25 +124,35 @@ pub record DeblockLengths (w h y u v s : ℕ) : Type 0 where
 unfoldable pub limits_of : List ℕ → Bool
 limits_of strengths = all_below (records_in strength_width strengths) (λ k. leb (strength_at_of strengths k).limit 189)
 
+-- the first check that fails, if one does
+unfoldable pub deblock_checked : (w h y u v : ℕ) (strengths : List ℕ) → Result Unit DeblockError
+deblock_checked w h y u v strengths =
+    cond (sides_of w h) (cond (deblock_lengths w h y u v (length strengths)) (cond (limits_of strengths) (Ok tt) (Err E.Limit)) (Err E.Lengths)) (Err E.Sides)
+
+-- its number
+abbrev pub deblock_error_number_of : DeblockError → ℕ
+deblock_error_number_of E.Sides = 1
+deblock_error_number_of E.Lengths = 4
+deblock_error_number_of E.Limit = 11
+
+-- the answer's number, 0 where nothing is refused
+abbrev pub deblock_number_of : Result Unit DeblockError → ℕ
+deblock_number_of (Ok done) = 0
+deblock_number_of (Err e) = deblock_error_number_of e
+
 -- the number of the first check that fails, 0 where none does
 unfoldable pub deblock_refusal : (w h y u v : ℕ) (strengths : List ℕ) → ℕ
-deblock_refusal w h y u v strengths =
-    cond (sides_of w h) (cond (deblock_lengths w h y u v (length strengths)) (cond (limits_of strengths) 0 11) 4) 1
+deblock_refusal w h y u v strengths = deblock_number_of (deblock_checked w h y u v strengths)
 
 -- what the call answers, and the planes after it
 pub record DeblockAnswer : Type 0 where
-  pub answer : Deblocked
+  pub answer : Result Unit DeblockError
   pub planes : Planes
 
--- THE CALL: a bad argument is refused by number and nothing changes; else all planes are deblocked
+-- THE CALL: a bad argument is refused and nothing changes; else all planes are deblocked
 unfoldable pub deblock_of : Planes → (strengths : List ℕ) → (w h : ℕ) (simple : Bool) → DeblockAnswer
 deblock_of m strengths w h simple =
-    elim (deblock_refusal w h (length m.y) (length m.u) (length m.v) strengths) [
-      | zero ↦ record { answer = Done; planes = planes_deblocked simple strengths (w / 16) (h / 16) m }
-      | suc n ↦ record { answer = Refused (suc n); planes = m }
+    elim (deblock_checked w h (length m.y) (length m.u) (length m.v) strengths) [
+      | Ok done ↦ record { answer = Ok tt; planes = planes_deblocked simple strengths (w / 16) (h / 16) m }
+      | Err e ↦ record { answer = Err e; planes = m }
     ]
-
--- the answer's number
-abbrev pub deblock_number_of : Deblocked → ℕ
-deblock_number_of Done = 0
-deblock_number_of (Refused n) = n

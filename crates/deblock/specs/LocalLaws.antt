@@ -2,14 +2,16 @@
 -- of it; what stands in macroblock rows from P on decides nothing above them but three sample rows; no macroblock moves a sample of
 -- a later one; and of the strength records nothing but the strengths counts.
 use Rattle.std.specs.Prelude.{◌+◌, ◌-◌, ◌*◌, ◌/◌, ◌%◌, ◌≤◌, ◌<◌, ◌≡◌, ◌⊎◌}
-use Rattle.numbers.specs.Words.{ℕ, zero, suc, add-mul, add-suc, add-zero, div-add-mod', div-lt_iff_lt-mul, le-div_iff_mul-le, mul_comm, mul-le-mul_right, one-mul, arith, refl, sym, ◌∙◌, ap, Bool, true, false, not, cond, inl, inr, eqb, leb, lt_or, eq_or, List, length, get_or, set, length-set, get_or-set_other, get_or-set_same, set_out, build_same, all_below}
+use Rattle.numbers.specs.Words.{ℕ, zero, suc, add-mul, add-suc, add-zero, div-add-mod', div-lt_iff_lt-mul, le-div_iff_mul-le, mul_comm, mul-le-mul_right, one-mul, arith, refl, sym, ◌∙◌, ap, Bool, true, false, not, cond, inl, inr, eqb, leb, lt_or, eq_or, List, length, get_or, set, length-set, get_or-set_other, get_or-set_same, set_out, build_same, all_below, Result, Ok, Err}
 use Rattle.filter.specs.declared.strengths.Strength.{Strength}
 use Rattle.tile.specs.Tile.{sides_of}
 use Rattle.lent.specs.Memory.{strength_width, strength_at_of}
 use Rattle.macroblock.specs.Macroblock.{Planes}
 use Rattle.predict.specs.Predict.{Size}
 use Rattle.planes.specs.Places.{size_some, next_row}
-use Rattle.deblock.specs.Deblock.{Edge, Done, Change, turns, when, across_of, laid_back, kept_of, position_of, sweep_of, vertical_edges, horizontal_edges, inner_at, square_of, macroblock_edges, raster_of, planes_deblocked, deblock_lengths, limits_of, deblock_refusal, deblock_of}
+use Rattle.deblock.specs.declared.checks.DeblockError.{DeblockError}
+use Rattle.deblock.specs.declared.checks.DeblockError.TheVariants as E
+use Rattle.deblock.specs.Deblock.{Edge, Change, turns, when, across_of, laid_back, kept_of, position_of, sweep_of, vertical_edges, horizontal_edges, inner_at, square_of, macroblock_edges, raster_of, planes_deblocked, deblock_lengths, limits_of, deblock_checked, deblock_of}
 use Rattle.deblock.specs.DeblockLaws.{Closed, turns_closed, when_closed, inners_closed, square_closed, laid_other, block_no}
 use Rattle.deblock.specs.ChecksLaws as checks
 use Rattle.deblock.specs.Located.{size_eight, inner_few, past_first, column_in, row_in}
@@ -265,9 +267,9 @@ when_same false f p i h = refl
 
 -- ---- THE LAW OF RECORDS (M-106): of a strength record nothing but the strengths is looked at
 module _ (m : Planes) (s t : List ℕ) (w h : ℕ) (simple : Bool) (e : length s ≡ length t) (f : (k : ℕ) → strength_at_of s k ≡ strength_at_of t k) where
-  refusal_same : (y u v : ℕ) → deblock_refusal w h y u v s ≡ deblock_refusal w h y u v t
-  unfolding deblock_refusal limits_of
-  refusal_same y u v = λ i. cond (sides_of w h) (cond (deblock_lengths w h y u v (e i)) (cond (all_below (e i / strength_width) (λ k. leb (f k i).limit 189)) 0 11) 4) 1
+  checked_same : (y u v : ℕ) → deblock_checked w h y u v s ≡ deblock_checked w h y u v t
+  unfolding deblock_checked limits_of
+  checked_same y u v = λ i. cond (sides_of w h) (cond (deblock_lengths w h y u v (e i)) (cond (all_below (e i / strength_width) (λ k. leb (f k i).limit 189)) (Ok tt) (Err E.Limit)) (Err E.Lengths)) (Err E.Sides)
 
   planes_same : planes_deblocked simple s (w / 16) (h / 16) m ≡ planes_deblocked simple t (w / 16) (h / 16) m
   unfolding planes_deblocked
@@ -280,14 +282,14 @@ module _ (m : Planes) (s t : List ℕ) (w h : ℕ) (simple : Bool) (e : length s
       }
 
   pub deblock_same : deblock_of m s w h simple ≡ deblock_of m t w h simple
-  deblock_same = go (deblock_refusal w h (length m.y) (length m.u) (length m.v) s) refl
+  deblock_same = go (deblock_checked w h (length m.y) (length m.u) (length m.v) s) refl
     where
-      there : deblock_refusal w h (length m.y) (length m.u) (length m.v) t ≡ deblock_refusal w h (length m.y) (length m.u) (length m.v) s
-      there = sym (refusal_same (length m.y) (length m.u) (length m.v))
+      there : deblock_checked w h (length m.y) (length m.u) (length m.v) t ≡ deblock_checked w h (length m.y) (length m.u) (length m.v) s
+      there = sym (checked_same (length m.y) (length m.u) (length m.v))
 
-      go : (k : ℕ) → deblock_refusal w h (length m.y) (length m.u) (length m.v) s ≡ k → deblock_of m s w h simple ≡ deblock_of m t w h simple
-      go zero g =
-          sym (checks.done m s w h simple (sym g) refl)
-          ∙ ap (λ (p : Planes). record { answer = Done; planes = p }) planes_same
-          ∙ checks.done m t w h simple (sym (there ∙ g)) refl
-      go (suc k) g = checks.deblock_refused m s w h simple k g ∙ sym (checks.deblock_refused m t w h simple k (there ∙ g))
+      go : (r : Result Unit DeblockError) → deblock_checked w h (length m.y) (length m.u) (length m.v) s ≡ r → deblock_of m s w h simple ≡ deblock_of m t w h simple
+      go (Ok d) g =
+          sym (checks.checked_done m s w h simple (sym g) refl)
+          ∙ ap (λ (p : Planes). record { answer = Ok tt; planes = p }) planes_same
+          ∙ checks.checked_done m t w h simple (sym (there ∙ g)) refl
+      go (Err k) g = checks.deblock_refused m s w h simple k g ∙ sym (checks.deblock_refused m t w h simple k (there ∙ g))

@@ -1,11 +1,33 @@
-// The argument checks: 1 the sides, 4 the lengths of what is lent, 11 a limit above 189.
+// The argument checks.
 ghost use Rattle.std.specs.Prelude.{◌≡◌};
-ghost use Rattle.deblock.specs.Deblock.{deblock_lengths, limits_of, deblock_refusal};
+ghost use Rattle.deblock.specs.Deblock.{deblock_lengths, limits_of, deblock_checked, deblock_error_number_of};
 
 use lent::macroblocks::{STRENGTH_WIDTH, read_strength};
 use lent::sizes::{chroma_fine, luma_fine, strengths_fine};
 use tile::checks::sides_fine;
 
+// Which argument is refused: the sides, the lengths of what is lent, or a limit above 189.
+#[derive(Clone, Copy, Debug, PartialEq, Eq)]
+pub enum DeblockError {
+    Sides,
+    Lengths,
+    Limit,
+}
+
+impl DeblockError {
+    // As the calls of C answer it.
+    pub fn number(self) -> u32
+        ensures { result ≡ deblock_error_number_of self }
+    {
+        match self {
+            DeblockError::Sides => 1,
+            DeblockError::Lengths => 4,
+            DeblockError::Limit => 11,
+        }
+    }
+}
+
+#[tactic(auto, unfolding(crate::specs::Deblock::deblock_lengths))]
 fn lengths_fine(w: usize, h: usize, y: usize, u: usize, v: usize, strengths: usize) -> bool
     ensures { result ≡ deblock_lengths w h y u v strengths }
 {
@@ -28,18 +50,26 @@ fn limits_fine(strengths: &[u8]) -> bool
     fine
 }
 
-// The number of the first check that fails, or 0.
-pub(crate) fn refusal(w: usize, h: usize, y: usize, u: usize, v: usize, strengths: &[u8]) -> u32
-    ensures { result ≡ deblock_refusal w h y u v strengths.now }
+// The first check that fails.
+#[tactic(auto, unfolding(crate::specs::Deblock::deblock_checked))]
+pub(crate) fn refusal(
+    w: usize,
+    h: usize,
+    y: usize,
+    u: usize,
+    v: usize,
+    strengths: &[u8],
+) -> Result<(), DeblockError>
+    ensures { result ≡ deblock_checked w h y u v strengths.now }
 {
     if !sides_fine(w, h) {
-        return 1;
+        return Err(DeblockError::Sides);
     }
     if !lengths_fine(w, h, y, u, v, strengths.len()) {
-        return 4;
+        return Err(DeblockError::Lengths);
     }
     if !limits_fine(strengths) {
-        return 11;
+        return Err(DeblockError::Limit);
     }
-    0
+    Ok(())
 }

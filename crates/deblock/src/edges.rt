@@ -8,7 +8,7 @@ use straight::limits::acts;
 use straight::steps::straight;
 
 // What the kernel is told of an edge: the simple filter or the normal one, a macroblock's edge or an inner one, and the three numbers.
-#[derive(Clone, Copy)]
+#[derive(Clone, Copy, Debug, PartialEq, Eq)]
 pub struct Edge {
     pub simple: bool,
     pub outer: bool,
@@ -55,6 +55,7 @@ fn acting(t: &[u8], g: Edge) -> [bool; 16]
 fn any(m: &[bool; 16]) -> bool
     ensures { result ≡ false → (i : ℕ) → i < 16 → get_or m.now i false ≡ false }
 {
+    // All are looked at, and not until the first, so that the compiler takes them together.
     let mut found = false;
     for i in 0..16 {
         found = m[i] | found;

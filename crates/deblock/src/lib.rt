@@ -4,7 +4,7 @@
 #![tactic(auto)]
 
 mod blocks;
-mod checks;
+pub mod checks;
 mod edges;
 mod squares;
 mod sweeps;
@@ -12,18 +12,11 @@ mod sweeps;
 ghost use Rattle.std.specs.Prelude.{◌≡◌};
 ghost use Rattle.deblock.specs.Deblock.{DeblockAnswer, deblock_of};
 
-use checks::refusal;
+use checks::{DeblockError, refusal};
 use squares::squares;
 
-// How the call ended: the planes are deblocked; or an argument was refused, 1, 4 or 11.
-#[derive(Clone, Copy)]
-pub enum Deblocked {
-    Done,
-    Refused(u32),
-}
-
 // Deblocks the planes in place. `strengths` has 6 bytes a macroblock: limit, inner, threshold, inside; the last two are not
-// looked at. The simple kind touches luma only.
+// looked at. The simple kind touches luma only. Where an argument is refused, nothing changes.
 pub fn deblock(
     y: &mut [u8],
     u: &mut [u8],
@@ -32,21 +25,18 @@ pub fn deblock(
     width: usize,
     height: usize,
     simple: bool,
-) -> Deblocked
+) -> Result<(), DeblockError>
     ensures { ◌≡◌ {A = DeblockAnswer} (record { answer = result; planes = record { y = y.exit.now; u = u.new; v = v.new } })
         (deblock_of (record { y = y.entry.now; u = u.old; v = v.old }) strengths.now width height simple) }
 {
-    let bad = refusal(width, height, y.len(), u.len(), v.len(), strengths);
-    if bad != 0 {
-        return Deblocked::Refused(bad);
-    }
+    refusal(width, height, y.len(), u.len(), v.len(), strengths)?;
     let wide = width / 16;
     let high = height / 16;
     let mut none = [0; 0];
     squares(&mut y[..], &mut none[..], 16, wide, high, simple, strengths);
     if simple {
-        return Deblocked::Done;
+        return Ok(());
     }
     squares(&mut u[..], &mut v[..], 8, wide, high, simple, strengths);
-    Deblocked::Done
+    Ok(())
 }

@@ -17,7 +17,7 @@ fn outer_of(simple: bool, t: Strength) -> Edge
     ensures { result ≡ outer_edge simple t }
 {
     Edge {
-        simple: simple,
+        simple,
         outer: true,
         limit: t.limit + 4,
         inner: t.inner,
@@ -29,7 +29,7 @@ fn inner_of(simple: bool, t: Strength) -> Edge
     ensures { result ≡ inner_edge_of simple t }
 {
     Edge {
-        simple: simple,
+        simple,
         outer: false,
         limit: t.limit,
         inner: t.inner,

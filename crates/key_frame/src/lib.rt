@@ -49,7 +49,8 @@ fn filter(y: &mut [u8], u: &mut [u8], v: &mut [u8], strengths: &[u8], header: &[
 {
     if present_at(header, entries::FRAME_LEVEL) {
         let tile = taken.tile;
-        deblock(y, u, v, strengths, tile.width, tile.height, taken.simple);
+        // A frame that was decoded is not refused.
+        let _ = deblock(y, u, v, strengths, tile.width, tile.height, taken.simple);
     }
 }
 

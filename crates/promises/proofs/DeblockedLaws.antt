@@ -1,7 +1,7 @@
 -- The proofs of what is promised of deblocking: `edge_reaches`, `deblock_refused`; then of any memory that a call has left, `left_stays` and
 -- `left_isolated`; and so of what the picture call leaves, `grey_stays`, and demand 3, `isolated_deblocked`, at the end.
 use Rattle.std.specs.Prelude.{◌+◌, ◌-◌, ◌*◌, ◌/◌, ◌%◌, ◌≤◌, ◌<◌, ◌≡◌}
-use Rattle.numbers.specs.Words.{ℕ, div-add-mod', div-lt_iff_lt-mul, mod-lt, mul_comm, mul-le-mul_right, arith, refl, sym, ◌∙◌, ap, ap₂, Bool, not, ⊎_elim, lit<, lt_or, List, length, get_or}
+use Rattle.numbers.specs.Words.{ℕ, div-add-mod', div-lt_iff_lt-mul, mod-lt, mul_comm, mul-le-mul_right, arith, refl, sym, ◌∙◌, ap, ap₂, Bool, not, ⊎_elim, lit<, lt_or, List, length, get_or, Ok}
 use Rattle.reader.specs.ReadingLaws.{Bytes}
 use Rattle.planes.specs.Paint.{sample_at}
 use Rattle.planes.specs.Places.{next_row}
@@ -15,7 +15,6 @@ use Rattle.picture.specs.Picture.{State, Ended, pictured_of, picture_of, planes_
 use Rattle.picture.specs.Halt.{halted_of}
 use Rattle.picture.specs.HaltLaws.{halted_picture, halted_alive}
 use Rattle.deblock.specs.declared.edges.Edge.{Edge}
-use Rattle.deblock.specs.declared.Deblocked.TheVariants.{Done}
 use Rattle.deblock.specs.Deblock as deblock
 use Rattle.deblock.specs.Deblock.{DeblockAnswer, when, raster_of, deblock_of}
 use Rattle.deblock.specs.ChecksLaws as checks
@@ -75,7 +74,7 @@ unrefused t s left S l same limits =
 
 -- so the deblocking call does its work
 is : (t : Call) (left : Memory) → Unrefused t left → (simple : Bool)
-    → deblocked_of t left simple ≡ record { answer = Done; planes = deblock.planes_deblocked simple left.strengths (t.tile.width / 16) (t.tile.height / 16) (planes_in left) }
+    → deblocked_of t left simple ≡ record { answer = Ok tt; planes = deblock.planes_deblocked simple left.strengths (t.tile.width / 16) (t.tile.height / 16) (planes_in left) }
 is t left f simple =
     sym (checks.done (planes_in left) left.strengths t.tile.width t.tile.height simple (checks.fine_none t.tile.width t.tile.height (length left.y) (length left.u) (length left.v) left.strengths f) refl)
 
@@ -174,11 +173,11 @@ module _ (p : ℕ) (t u : Call) (one two : Memory) (a : Alike p t u) (x : Unrefu
   some : 0 < wide
   some = omega (arith, x.sides.width.least)
 
-  first_is : deblocked_of t one simple ≡ record { answer = Done; planes = deblock.planes_deblocked simple one.strengths wide high (planes_in one) }
+  first_is : deblocked_of t one simple ≡ record { answer = Ok tt; planes = deblock.planes_deblocked simple one.strengths wide high (planes_in one) }
   first_is = is t one x simple
 
-  second_is : deblocked_of u two simple ≡ record { answer = Done; planes = deblock.planes_deblocked simple two.strengths wide high (planes_in two) }
-  second_is = is u two y simple ∙ ap₂ (λ (w h : ℕ). record { answer = Done; planes = deblock.planes_deblocked simple two.strengths (w / 16) (h / 16) (planes_in two) }) (sym a.width) (sym a.height)
+  second_is : deblocked_of u two simple ≡ record { answer = Ok tt; planes = deblock.planes_deblocked simple two.strengths wide high (planes_in two) }
+  second_is = is u two y simple ∙ ap₂ (λ (w h : ℕ). record { answer = Ok tt; planes = deblock.planes_deblocked simple two.strengths (w / 16) (h / 16) (planes_in two) }) (sym a.width) (sym a.height)
 
   all_same : one ≡ two → deblocked_of t one simple ≡ deblocked_of u two simple
   all_same = all_deblocked a simple

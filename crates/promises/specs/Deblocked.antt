@@ -3,7 +3,7 @@
 -- three sample rows of each plane in row p-1. DeblockedLaws proves each: `edge_reaches`, `deblock_refused`, `grey_stays`, `isolated_deblocked`.
 -- The last two are said of the memory that a call has left, so that they serve the rescue call too: RescueDeblockedLaws.
 use Rattle.std.specs.Prelude.{◌+◌, ◌*◌, ◌/◌, ◌≤◌, ◌<◌, ◌≡◌}
-use Rattle.numbers.specs.Words.{ℕ, Bool, List, length, get_or}
+use Rattle.numbers.specs.Words.{ℕ, Bool, List, length, get_or, Ok}
 use Rattle.planes.specs.Paint.{sample_at}
 use Rattle.lent.specs.Memory.{records_in, strength_width, strength_at_of, Memory}
 use Rattle.macroblock.specs.Macroblock.{Planes}
@@ -11,7 +11,6 @@ use Rattle.tile.specs.Tile.{Sides}
 use Rattle.choices.specs.Choices.{Call}
 use Rattle.picture.specs.Picture.{planes_in}
 use Rattle.deblock.specs.declared.edges.Edge.{Edge}
-use Rattle.deblock.specs.declared.Deblocked.TheVariants.{Done}
 use Rattle.deblock.specs.Deblock.{sweep_of, DeblockLengths, DeblockAnswer, deblock_of, deblock_number_of}
 use Rattle.promises.specs.Places.{Plane, luma, blue, red, plane_side, block_at}
 use Rattle.promises.specs.Grey.{InPlane}
@@ -62,14 +61,14 @@ sample_after t left simple a c r = sample_at (plane a (deblocked_of t left simpl
 
 -- THE PROMISE of memory whose macroblocks are grey from number k on: it is never refused; and no sample of those moves, so that grey stays grey
 pub record GreyStays (t : Call) (left : Memory) (k : ℕ) (simple : Bool) : Type 0 where
-  pub answer : (deblocked_of t left simple).answer ≡ Done
+  pub answer : (deblocked_of t left simple).answer ≡ Ok tt
   pub grey : (a : Plane) (c r : ℕ) → InPlane t a c r → k ≤ block_at (t.tile.width / 16) a c r → sample_after t left simple a c r ≡ 128
 
 -- THE PROMISE of what is left for two tiles alike in all but the bytes of token partition p
 pub record IsolatedDeblocked (p : ℕ) (t u : Call) (one two : Memory) (simple : Bool) : Type 0 where
   -- neither is refused
-  pub first : (deblocked_of t one simple).answer ≡ Done
-  pub second : (deblocked_of u two simple).answer ≡ Done
+  pub first : (deblocked_of t one simple).answer ≡ Ok tt
+  pub second : (deblocked_of u two simple).answer ≡ Ok tt
   -- the same samples in all macroblock rows above row p, the lowest three sample rows excepted
   pub samples : (a : Plane) (c r : ℕ) → c < t.tile.width / 16 * plane_side a → r + 3 < p * plane_side a → sample_after t one simple a c r ≡ sample_after u two simple a c r
   -- if no row p exists, or nothing differs, or partition p is past the count, all agree

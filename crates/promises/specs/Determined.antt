@@ -56,7 +56,8 @@ use Rattle.filter.specs.declared.strengths.Strength.{Strength}
 use Rattle.choices.specs.declared.answer.Refusal.{Refusal}
 use Rattle.choices.specs.Choices.{call_of, refusal_number_of, checked_of, number_of, values_of, stopped_of, beside_of, Decoded}
 use Rattle.casefile.specs.Run.{ran_of}
-use Rattle.deblock.specs.Deblock.{deblock_of}
+use Rattle.deblock.specs.declared.checks.DeblockError.{DeblockError}
+use Rattle.deblock.specs.Deblock.{deblock_error_number_of, deblock_of}
 use Rattle.samples.specs.FilterCalls.{deblock_called_of, filtered_of}
 use Rattle.told.specs.Told.{counts_of, rescue_told_of, profile_told_of}
 use Rattle.hookbarley.specs.Calls.{called_of, rescue_called_of, profile_called_of, survey_called_of, recode_called_of, show_called_of}
@@ -588,6 +589,10 @@ pub picture_decode_reads : (bytes : List ℕ) (tile : Tile) (header : List ℤ) 
 picture_decode_reads bytes tile header y u v columns modes strengths = determined (cost_of (call_of bytes tile header) (memory_of y u v columns modes strengths))
 
 -- ---- deblock
+-- deblock::checks::DeblockError::number
+pub deblock_error_number : (self : DeblockError) → One (λ o. o ≡ deblock_error_number_of self)
+deblock_error_number self = determined (deblock_error_number_of self)
+
 -- deblock::deblock
 pub deblock_deblock : (y u v strengths : List ℕ) (width height : ℕ) (simple : Bool) → One (λ o. o ≡ deblock_of (record { y = y; u = u; v = v }) strengths width height simple)
 deblock_deblock y u v strengths width height simple = determined (deblock_of (record { y = y; u = u; v = v }) strengths width height simple)

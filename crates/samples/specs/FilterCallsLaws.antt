@@ -1,14 +1,14 @@
 -- What the filter's calls answer, as their code finds it.
 use Rattle.std.specs.Prelude.{◌≡◌}
-use Rattle.numbers.specs.Words.{ℕ, sym, ◌∙◌, ap, eq-eqb, ne_eqb, List, length}
+use Rattle.numbers.specs.Words.{ℕ, sym, ◌∙◌, ap, eq-eqb, ne_eqb, List, length, Result}
 use Rattle.filter.specs.Kernel.{filter_of}
 use Rattle.macroblock.specs.Macroblock.{Planes}
-use Rattle.deblock.specs.declared.Deblocked.{Deblocked}
+use Rattle.deblock.specs.declared.checks.DeblockError.{DeblockError}
 use Rattle.deblock.specs.Deblock as Deblock
 use Rattle.deblock.specs.Deblock.{DeblockAnswer, deblock_of}
 use Rattle.samples.specs.FilterCalls.{to_deblock_called, deblock_called_of, flag_of, filtered_of}
 
-pub deblock_called : (d : Planes) (s : List ℕ) (w h simple : ℕ) {n : ℕ} {a : Deblocked} {p : Planes} → n ≡ Deblock.deblock_number_of a
+pub deblock_called : (d : Planes) (s : List ℕ) (w h simple : ℕ) {n : ℕ} {a : Result Unit DeblockError} {p : Planes} → n ≡ Deblock.deblock_number_of a
     → ◌≡◌ {A = DeblockAnswer} (record { answer = a; planes = p }) (deblock_of d s w h (flag_of simple)) → record { number = n; planes = p } ≡ deblock_called_of d s w h simple
 unfolding deblock_called_of
 deblock_called d s w h simple {n} {a} {p} e f = ap (λ (k : ℕ). record { number = k; planes = p }) e ∙ ap to_deblock_called f

@@ -1,19 +1,9 @@
 // The deblocking call.
 ghost use Rattle.std.specs.Prelude.{◌≡◌};
-ghost use Rattle.deblock.specs.Deblock.{deblock_number_of};
 ghost use Rattle.macroblock.specs.Macroblock.{planes_of};
 ghost use Rattle.samples.specs.FilterCalls.{DeblockCalled, deblock_called_of};
 
-use deblock::{Deblocked, deblock};
-
-fn number_of(d: Deblocked) -> u32
-    ensures { result ≡ deblock_number_of d }
-{
-    match d {
-        Deblocked::Done => 0,
-        Deblocked::Refused(n) => n,
-    }
-}
+use deblock::deblock;
 
 // Deblocks the planes in place by the strengths that the picture call left. `simple` is true where it is not 0.
 pub fn deblocked(
@@ -30,5 +20,8 @@ pub fn deblocked(
         (deblock_called_of (planes_of y.old u.old v.old)
         strengths.now width height simple) }
 {
-    number_of(deblock(y, u, v, strengths, width, height, simple != 0))
+    match deblock(y, u, v, strengths, width, height, simple != 0) {
+        Ok(()) => 0,
+        Err(e) => e.number(),
+    }
 }

@@ -13,9 +13,5 @@ pub(crate) fn put_samples(s: &mut [u8], e: [u8; 8])
     requires { length s.old ≡ 8 }
     ensures { s.new ≡ e }
 {
-    let mut i = 0;
-    while i < 8 {
-        s[i] = e[i];
-        i = i + 1;
-    }
+    s.copy_from_slice(&e);
 }

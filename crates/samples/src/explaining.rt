@@ -24,12 +24,8 @@ fn pair_number(rule: Rule) -> u32
     ensures { result ≡ pair_number_of rule }
 {
     match rule {
-        Rule::EdgeFailed => 0,
-        Rule::Rough(pair) => pair as u32 + 1,
-        Rule::Simple => 0,
-        Rule::HighVariance => 0,
-        Rule::MacroblockEdge => 0,
-        Rule::InnerEdge => 0,
+        Rule::Rough(pair) => u32::from(pair) + 1,
+        _ => 0,
     }
 }
 
@@ -38,11 +34,7 @@ fn put_steps(s: &mut [i32], t: [i32; 8])
     requires { length s.old ≡ 8 }
     ensures { s.new ≡ t }
 {
-    let mut i = 0;
-    while i < 8 {
-        s[i] = t[i];
-        i = i + 1;
-    }
+    s.copy_from_slice(&t);
 }
 
 // What `hookbarley_filter` would do to the samples, and why: rule 1..6 and pair 1..6 by number, the samples after the filter, the steps

@@ -17,7 +17,7 @@ use Rattle.filter.specs.declared.answers.Rule.TheVariants.{MacroblockEdge}
 use Rattle.filter.specs.Kernel.{filter_of, moved_of, steps_of, no_steps, common_steps_of, macroblock_steps_of, inner_steps_of, sides, part, half, eighth, tapped, across, rule_of, high_variance_of, rough_at, smooth, first_false, within_limit_of}
 use Rattle.filter.specs.Explain.{told_of, explain_of}
 use Rattle.macroblock.specs.Macroblock.{planes_of, end_of, step_of}
-use Rattle.deblock.specs.Deblock.{turns, when, across_of, laid_back, kept_of, position_of, sweep_of, vertical_edges, horizontal_edges, inner_at, inners_of, square_of, macroblock_edges, raster_of, planes_deblocked, deblock_lengths, limits_of, deblock_refusal, deblock_of, deblock_number_of}
+use Rattle.deblock.specs.Deblock.{turns, when, across_of, laid_back, kept_of, position_of, sweep_of, vertical_edges, horizontal_edges, inner_at, inners_of, square_of, macroblock_edges, raster_of, planes_deblocked, deblock_lengths, limits_of, deblock_checked, deblock_of, deblock_number_of}
 use Rattle.header.specs.Frame.{announced_of, frame_of}
 use Rattle.header.specs.Own.{segmented_of}
 use Rattle.header.specs.Levels.{delta_of, level_of_of}
@@ -57,7 +57,7 @@ edged = let two = row ++ row in let four = two ++ two in let eight = four ++ fou
 
 pub deblocked_edge : let o = deblock_of (planes_of edged (replicate 64 128) (replicate 64 128)) (25 ∷ 0 ∷ 0 ∷ 1 ∷ 0 ∷ 0 ∷ []) 16 16 true in
     (deblock_number_of o.answer ≡ 0) × (get_or o.planes.y 6 0 ≡ 100) × (get_or o.planes.y 7 0 ≡ 102) × (get_or o.planes.y 8 0 ≡ 107)
-unfolding deblock_of deblock_refusal limits_of deblock_lengths long_of sides_of side_of planes_deblocked raster_of macroblock_edges square_of inners_of inner_at horizontal_edges vertical_edges sweep_of position_of kept_of laid_back across_of when turns record_at build up_to clamp_z filter_of moved_of steps_of no_steps common_steps_of macroblock_steps_of inner_steps_of sides part half eighth tapped across rule_of high_variance_of rough_at smooth first_false within_limit_of
+unfolding deblock_of deblock_checked limits_of deblock_lengths long_of sides_of side_of planes_deblocked raster_of macroblock_edges square_of inners_of inner_at horizontal_edges vertical_edges sweep_of position_of kept_of laid_back across_of when turns record_at build up_to clamp_z filter_of moved_of steps_of no_steps common_steps_of macroblock_steps_of inner_steps_of sides part half eighth tapped across rule_of high_variance_of rough_at smooth first_false within_limit_of
 deblocked_edge = (refl, refl, refl, refl)
 
 -- ---- an explanation: an edge between 100 and 110 with limit 25 is filtered as a macroblock's

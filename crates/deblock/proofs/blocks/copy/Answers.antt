@@ -1,5 +1,5 @@
 -- `copy` meets its contract: a row a turn.
-use Rattle.numbers.specs.Words.{◌-◌, arith, ◌≡◌, sym, ◌∙◌}
+use Rattle.numbers.specs.Words.{arith, ◌≡◌, sym, ◌∙◌}
 use Rattle.deblock.specs.BlockLaws.{rows_none, rows_next, length_rows}
 use Rattle.deblock.proofs.blocks.copy.Goals as goal
 

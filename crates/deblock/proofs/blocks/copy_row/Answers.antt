@@ -1,5 +1,5 @@
 -- `copy_row` meets its contract: a sample a turn.
-use Rattle.numbers.specs.Words.{◌-◌, arith, ◌≡◌, sym, copied_none, copied_next, length_copied}
+use Rattle.numbers.specs.Words.{arith, ◌≡◌, sym, copied_none, copied_next, length_copied}
 use Rattle.deblock.proofs.blocks.copy_row.Goals as goal
 
 pub loop-k-init : goal.loop-k-init

@@ -1,8 +1,5 @@
-use Rattle.numbers.specs.Words.{◌-◌, ◌≤◌, ◌≡◌, copied}
+use Rattle.numbers.specs.Words.{◌≤◌, ◌≡◌, copied}
 use Rattle.deblock.proofs.blocks.copy_row.Given as goal
 
 abbrev pub invariant-loop-k : goal.invariant-loop-k
 invariant-loop-k l = (l.k ≤ l.n) × (l.to ≡ copied l.initial.to l.at l.from l.start l.k)
-
-abbrev pub decreases-loop-k : goal.decreases-loop-k
-decreases-loop-k l = l.n - l.k

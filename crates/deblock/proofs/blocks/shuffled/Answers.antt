@@ -1,5 +1,5 @@
 -- `shuffled` meets its contract: two samples a turn.
-use Rattle.numbers.specs.Words.{◌-◌, arith, refl, filled_none, filled_all}
+use Rattle.numbers.specs.Words.{arith, refl, filled_none, filled_all}
 use Rattle.deblock.specs.Block.{shuffled_of}
 use Rattle.deblock.specs.BlockLaws.{shuffle_next}
 use Rattle.deblock.proofs.blocks.shuffled.Goals as goal

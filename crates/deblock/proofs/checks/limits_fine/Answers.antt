@@ -1,5 +1,5 @@
 -- `limits_fine` meets its contract: what the loop holds is true of the records passed.
-use Rattle.numbers.specs.Words.{◌-◌, arith, ◌≡◌, refl, rules}
+use Rattle.numbers.specs.Words.{arith, ◌≡◌, refl, rules}
 use Rattle.lent.specs.Memory.{records_in, strength_width}
 use Rattle.lent.specs.MacroblocksLaws.{strength_is}
 use Rattle.deblock.specs.ChecksLaws.{limits_next}

@@ -1,5 +1,5 @@
 -- `across` meets its contract: a sample a turn.
-use Rattle.numbers.specs.Words.{◌-◌, arith, refl, filled_none, filled_next, filled_all}
+use Rattle.numbers.specs.Words.{arith, refl, filled_none, filled_next, filled_all}
 use Rattle.deblock.specs.Deblock.{across_of}
 use Rattle.deblock.proofs.edges.across.Goals as goal
 

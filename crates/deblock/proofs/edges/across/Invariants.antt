@@ -1,8 +1,5 @@
-use Rattle.numbers.specs.Words.{◌+◌, ◌-◌, ◌*◌, get_or, Filled}
+use Rattle.numbers.specs.Words.{◌+◌, ◌*◌, get_or, Filled}
 use Rattle.deblock.proofs.edges.across.Given as goal
 
 abbrev pub invariant-loop-k : goal.invariant-loop-k
 invariant-loop-k l = Filled l.e 8 (λ j. get_or l.t (l.i + j * 16) 0) l.k
-
-abbrev pub decreases-loop-k : goal.decreases-loop-k
-decreases-loop-k l = 8 - l.k

@@ -1,5 +1,5 @@
 -- `acting` meets its contract: a position a turn.
-use Rattle.numbers.specs.Words.{ℕ, ◌-◌, arith, refl, ◌∙◌, ap, List, filled_none, filled_next, filled_all}
+use Rattle.numbers.specs.Words.{ℕ, arith, refl, ◌∙◌, ap, List, filled_none, filled_next, filled_all}
 use Rattle.filter.specs.Kernel.{samples_across}
 use Rattle.straight.specs.Straight.{acts_of}
 use Rattle.deblock.specs.Block.{acting_of}

@@ -1,5 +1,5 @@
 -- `any` meets its contract: where it finds none so far, none was.
-use Rattle.numbers.specs.Words.{◌-◌, arith}
+use Rattle.numbers.specs.Words.{arith}
 use Rattle.deblock.specs.BlockLaws.{none_next}
 use Rattle.deblock.proofs.edges.any.Goals as goal
 

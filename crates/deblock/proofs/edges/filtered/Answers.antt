@@ -1,5 +1,5 @@
 -- `filtered` meets its contract: a position a turn.
-use Rattle.numbers.specs.Words.{◌-◌, arith, ◌≡◌, sym, ◌∙◌}
+use Rattle.numbers.specs.Words.{arith, ◌≡◌, sym, ◌∙◌}
 use Rattle.deblock.specs.DeblockLaws.{length_edge}
 use Rattle.deblock.specs.BlockLaws.{sweep_none, block_room, block_next}
 use Rattle.deblock.proofs.edges.filtered.Goals as goal

@@ -1,5 +1,5 @@
 -- `put_six` meets its contract: a sample a turn.
-use Rattle.numbers.specs.Words.{◌-◌, arith, ◌≡◌, sym}
+use Rattle.numbers.specs.Words.{arith, ◌≡◌, sym}
 use Rattle.deblock.specs.DeblockLaws.{laid_first, laid_next, length_laid}
 use Rattle.deblock.proofs.edges.put_six.Goals as goal
 

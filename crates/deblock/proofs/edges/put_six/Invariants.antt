@@ -1,9 +1,6 @@
-use Rattle.numbers.specs.Words.{◌-◌, ◌≤◌, ◌≡◌}
+use Rattle.numbers.specs.Words.{◌≤◌, ◌≡◌}
 use Rattle.deblock.specs.Deblock.{laid_back}
 use Rattle.deblock.proofs.edges.put_six.Given as goal
 
 abbrev pub invariant-loop-k : goal.invariant-loop-k
 invariant-loop-k l = (l.k ≤ 6) × (l.t ≡ laid_back l.initial.t l.i 16 l.e l.k)
-
-abbrev pub decreases-loop-k : goal.decreases-loop-k
-decreases-loop-k l = 6 - l.k
