@@ -1,7 +1,7 @@
 // The 1096 entries that the picture call takes, made from the fields, each stored by its name.
 ghost use Rattle.std.specs.Prelude.{◌≡◌, ◌<◌};
 ghost use Rattle.frame.specs.Fine.{FineTaken};
-ghost use Rattle.frame.specs.Entries.{value_of, stored_entries, four_from_of, three_from_of, with_segments_of, with_filter_of, with_quantizers_of, numbers, number_at_of, entries};
+ghost use Rattle.frame.specs.Entries.{value_of, plain, stored_entries, four_from_of, three_from_of, with_segments_of, with_filter_of, with_quantizers_of, numbers, number_at_of, entries};
 
 use crate::fields::{CodedNumber, Filter, Four, Header, QuantIndices, Segments, Three};
 use header::entries;
@@ -13,10 +13,14 @@ fn value(x: CodedNumber) -> i32
     ensures { result ≡ value_of x }
 {
     let size = x.size as i32;
-    if x.sign == 0 {
-        return size;
-    }
-    0 - size
+    if x.sign == 0 { size } else { -size }
+}
+
+// A number that is coded without a sign.
+fn plain(size: u32) -> CodedNumber
+    ensures { result ≡ plain size }
+{
+    CodedNumber { sign: 0, size }
 }
 
 // Four numbers, and three, from entry i on.
@@ -37,63 +41,45 @@ fn three_from(l: [CodedNumber; 38], i: usize, t: Three) -> [CodedNumber; 38]
     ensures { result ≡ stored_entries (three_from_of i t) l }
 {
     let mut out = l;
-    out[i] = CodedNumber { sign: 0, size: t.a };
-    out[i + 1] = CodedNumber { sign: 0, size: t.b };
-    out[i + 2] = CodedNumber { sign: 0, size: t.c };
+    out[i] = plain(t.a);
+    out[i + 1] = plain(t.b);
+    out[i + 2] = plain(t.c);
     out
 }
 
+#[tactic(auto, unfolding(crate::specs::Entries::with_segments_of))]
 fn with_segments(g: Segments, l: [CodedNumber; 38]) -> [CodedNumber; 38]
     ensures { result ≡ with_segments_of g l }
 {
     let features = g.features;
     let mut out = l;
-    out[entries::SEGMENTS_ON] = CodedNumber {
-        sign: 0,
-        size: g.on,
-    };
-    out[entries::MAP_ON] = CodedNumber {
-        sign: 0,
-        size: g.map,
-    };
-    out[entries::SEGMENTS_ABSOLUTE] = CodedNumber {
-        sign: 0,
-        size: features.absolute,
-    };
+    out[entries::SEGMENTS_ON] = plain(g.on);
+    out[entries::MAP_ON] = plain(g.map);
+    out[entries::SEGMENTS_ABSOLUTE] = plain(features.absolute);
     let quantized = four_from(out, entries::SEGMENT_INDEX, features.quantizers);
     let leveled = four_from(quantized, entries::SEGMENT_LEVEL, features.levels);
     three_from(leveled, entries::MAP_PROBABILITY, g.probs)
 }
 
+#[tactic(auto, unfolding(crate::specs::Entries::with_filter_of))]
 fn with_filter(f: Filter, l: [CodedNumber; 38]) -> [CodedNumber; 38]
     ensures { result ≡ with_filter_of f l }
 {
     let mut out = l;
-    out[entries::FRAME_LEVEL] = CodedNumber {
-        sign: 0,
-        size: f.level,
-    };
-    out[entries::SHARPNESS] = CodedNumber {
-        sign: 0,
-        size: f.sharpness,
-    };
-    out[entries::DELTAS_ON] = CodedNumber {
-        sign: 0,
-        size: f.on,
-    };
+    out[entries::FRAME_LEVEL] = plain(f.level);
+    out[entries::SHARPNESS] = plain(f.sharpness);
+    out[entries::DELTAS_ON] = plain(f.on);
     out[entries::INTRA_DELTA] = f.deltas.intra;
     out[entries::SMALL_DELTA] = f.deltas.small;
     out
 }
 
+#[tactic(auto, unfolding(crate::specs::Entries::with_quantizers_of))]
 fn with_quantizers(q: QuantIndices, l: [CodedNumber; 38]) -> [CodedNumber; 38]
     ensures { result ≡ with_quantizers_of q l }
 {
     let mut out = l;
-    out[entries::BASE_INDEX] = CodedNumber {
-        sign: 0,
-        size: q.base,
-    };
+    out[entries::BASE_INDEX] = plain(q.base);
     out[entries::YDC_DELTA] = q.ydc;
     out[entries::Y2DC_DELTA] = q.y2dc;
     out[entries::Y2AC_DELTA] = q.y2ac;
@@ -114,6 +100,7 @@ fn numbers(h: Header) -> [CodedNumber; 38]
 }
 
 // What stands at entry i: the numbers, then the coefficient probabilities, then the skip flag and its probability.
+#[tactic(auto, unfolding(crate::specs::Entries::number_at_of))]
 fn number_at(
     first: [CodedNumber; 38],
     probs: &[u32; PROBABILITY_COUNT],
@@ -125,23 +112,13 @@ fn number_at(
     ensures { result ≡ number_at_of first probs.now skip chance i }
 {
     if i < entries::COEFFICIENT_PROBABILITY {
-        return first[i];
-    }
-    if i < entries::SKIPS_ON {
-        return CodedNumber {
-            sign: 0,
-            size: probs[i - entries::COEFFICIENT_PROBABILITY],
-        };
-    }
-    if i < entries::SKIP_PROBABILITY {
-        return CodedNumber {
-            sign: 0,
-            size: skip,
-        };
-    }
-    CodedNumber {
-        sign: 0,
-        size: chance,
+        first[i]
+    } else if i < entries::SKIPS_ON {
+        plain(probs[i - entries::COEFFICIENT_PROBABILITY])
+    } else if i < entries::SKIP_PROBABILITY {
+        plain(skip)
+    } else {
+        plain(chance)
     }
 }
 

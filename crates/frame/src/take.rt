@@ -22,7 +22,7 @@ pub struct ShownSize {
 }
 
 // 0 and what the picture call takes, or the number of a refusal and zeros. The tile's sides are rounded up to 16, `shown` has the true
-// sizes; `simple` is the filter kind.
+// sizes; `simple` is the filter kind. Stays a record and no Result: the call for C stores the zeros after a refusal too.
 #[derive(Clone, Copy)]
 pub struct Answer {
     pub number: u32,
