@@ -91,6 +91,7 @@ fn part_of(top: u32, x: u32, on: bool) -> u32
 
 // The doublings that a range of eight bits needs: its leading zeros of 32 bits, 24 to 31, without the bits of 24. So it is one step behind
 // their count, on machines that count zeros and on those that look for the highest one.
+#[tactic(auto, using(crate::specs::WideLaws::doublings_below), unfolding(crate::specs::Wide::doublings_of))]
 fn doublings(range: u32) -> u32
     ensures { (result ≡ doublings_of range) × (result < 64) }
 {
@@ -206,6 +207,7 @@ pub fn widen(r: Reader) -> Wide
 }
 
 // Whether the eight bits after those lie in s.
+#[tactic(auto, unfolding(crate::specs::Wide::eight_inside))]
 pub fn inside(s: &[u8], w: Wide) -> bool
     ensures { result ≡ eight_inside s.now w }
 {

@@ -67,7 +67,9 @@ fn split(range: u32, prob: u8) -> u32
     1 + (((u64::from(top) * u64::from(prob) % 4294967296) as u32) >> 8)
 }
 
-// How often a range of eight bits is doubled until it is at least 128, as `wide` counts it.
+// How often a range of eight bits is doubled until it is at least 128, as `wide` counts it. Stays a copy of that one line: a public function
+// would need a promise of its own.
+#[tactic(auto, using(wide::specs::WideLaws::doublings_below), unfolding(wide::specs::Wide::doublings_of))]
 fn doublings(range: u32) -> u32
     ensures { (result ≡ doublings_of range) × (result < 64) }
 {
@@ -141,6 +143,7 @@ fn lifted(bottom: u32, count: u32) -> u32
 }
 
 // Whether a writer is in range: what every call checks of it.
+#[tactic(auto, unfolding(crate::specs::Room::writer_fine))]
 fn fine(w: Writer) -> bool
     ensures { result ≡ writer_fine w }
 {

@@ -1,7 +1,0 @@
-use Rattle.wide.proofs.wide.part_of.Goals as goal
-
-pub returns-then-on : goal.returns-then-on
-returns-then-on c = rw c.if-on.true
-
-pub returns-else-on : goal.returns-else-on
-returns-else-on c = rw c.if-on.false

@@ -1,8 +1,0 @@
-use Rattle.numbers.specs.Words.{refl}
-use Rattle.wide.specs.Wide.{doublings_of}
-use Rattle.wide.specs.WideLaws.{doublings_below}
-use Rattle.writer.proofs.doublings.Goals as goal
-
-pub returns : goal.returns
-unfolding doublings_of
-returns c = (refl, doublings_below c.args.range)
