@@ -1,5 +1,5 @@
 -- The segment tree (RFC 6386, section 10, 2305-2310), and what its last nodes give.
-use Rattle.std.specs.Prelude.{◌≤◌, ◌≡◌, ◌∷◌}
+use Rattle.std.specs.Prelude.{◌≡◌, ◌∷◌}
 use Rattle.numbers.specs.Words.{ℕ, suc, refl, sym, ◌∙◌, ap, Bool, true, false, lit≤, List, [], get_or, ℤ, Ok, Err}
 use Rattle.reader.specs.declared.trees.Branch.TheVariants as B
 use Rattle.reader.specs.declared.boolean.Reader.{Reader}

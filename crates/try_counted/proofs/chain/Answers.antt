@@ -1,4 +1,4 @@
-use Rattle.numbers.specs.Words.{◌≡◌, sym, ◌∙◌, ap, Ok, Err, get_or, rules}
+use Rattle.numbers.specs.Words.{◌≡◌, sym, ◌∙◌, ap, Err, get_or, rules}
 use Rattle.reader.specs.Reading.{given, symbol, run}
 use Rattle.reader.specs.ReadingLaws.{Valid, symboled, symbol_told, from_read, with_bit, run_valid, within_symbol}
 use Rattle.try_counted.specs.Segment.{segment_missing, segment_high, segment_low}

@@ -1,4 +1,4 @@
-use Rattle.numbers.specs.Words.{◌≡◌, sym, ◌∙◌, ap, Ok, Err, rules}
+use Rattle.numbers.specs.Words.{◌≡◌, sym, ◌∙◌, ap, Err, rules}
 use Rattle.reader.specs.ReadingLaws.{symboled, symbol_told, from_read, with_bit}
 use Rattle.try_counted.specs.Segment.{last_of, last_unread}
 use Rattle.reader.specs.Reading.{given, symbol, run}
