@@ -50,13 +50,20 @@ fn extended(s: &[u8], r: Reader, probs: &[u8], base: u32) -> Counted<u32>
     let bits = extra_bits(s, r, probs);
     let reads = bits.reads;
     let Ok((v, next)) = bits.answer else {
-        return Counted {
-            answer: Err(Unread::Missing),
-            reads,
-        };
+        return missing(reads);
     };
     Counted {
         answer: Ok((base + v, next)),
+        reads,
+    }
+}
+
+// A byte was missing, after so many symbols.
+fn missing<T>(reads: u64) -> Counted<T>
+    ensures { result ≡ record { answer = Err Unread.Missing; reads = reads } }
+{
+    Counted {
+        answer: Err(Unread::Missing),
         reads,
     }
 }
@@ -109,16 +116,10 @@ fn read_signed(s: &[u8], r: Reader, token: u8, q: u16) -> Counted<i32>
     let number = read_number(s, r, token);
     let reads = number.reads;
     let Ok((v, next)) = number.answer else {
-        return Counted {
-            answer: Err(Unread::Missing),
-            reads,
-        };
+        return missing(reads);
     };
     let Ok((negative, after)) = next.symbol(s, 128) else {
-        return Counted {
-            answer: Err(Unread::Missing),
-            reads,
-        };
+        return missing(reads);
     };
     Counted {
         answer: Ok((product(v, q, negative), after)),
@@ -187,10 +188,7 @@ fn read_block(
         let t = walk_token(s, next, table, place(&BANDS, kind, n, near), zero);
         reads += t.reads;
         let Ok((token, after)) = t.answer else {
-            return Counted {
-                answer: Err(Unread::Missing),
-                reads,
-            };
+            return missing(reads);
         };
         if token == 0 {
             *out = values;
@@ -207,10 +205,7 @@ fn read_block(
             let number = read_signed(s, after, token, quantizer(n, q0, q1));
             reads += number.reads;
             let Ok((v, last)) = number.answer else {
-                return Counted {
-                    answer: Err(Unread::Missing),
-                    reads,
-                };
+                return missing(reads);
             };
             values[entry(&ZIGZAG, n)] = v;
             near = context(token);

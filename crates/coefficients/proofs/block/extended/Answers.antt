@@ -14,7 +14,7 @@ is : (c : After-extra_bits-bits) → (Took (extra c.args.probs.now) c.args.s.now
 is c = extra_took _ _ _ c.requires.valid c.requires.probs_len_bound.0 c.extra_bits-bits.ensures
 
 pub returns-in_default : goal.returns-in_default
-returns-in_default c = category_missing _ _ _ _ c.extra_bits-bits.result.answer (is (goal.at.returns-in_default c).After-extra_bits-bits) (ap from_read c.in_default.is)
+returns-in_default c = rw c.missing.ensures (category_missing _ _ _ _ c.extra_bits-bits.result.answer (is (goal.at.returns-in_default c).After-extra_bits-bits) (ap from_read c.in_default.is))
 
 pub overflow_add-result : goal.overflow_add-result
 overflow_add-result c =

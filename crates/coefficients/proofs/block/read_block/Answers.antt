@@ -26,7 +26,7 @@ pub returns-in_default : goal.returns-in_default
 unfolding block_of
 returns-in_default c =
     let t = turn_at (goal.at.returns-in_default c).After-walk_token-t in
-    called_missing _ _ _ _ c.loop-n.invariant.kept (turn_missing t (ap from_read c.in_default.is))
+    rw c.missing.ensures (called_missing _ _ _ _ c.loop-n.invariant.kept (turn_missing t (ap from_read c.in_default.is)))
 
 pub returns-then-token-eq0 : goal.returns-then-token-eq0
 unfolding block_of
@@ -54,8 +54,9 @@ pub returns-in_default-answer : goal.returns-in_default-answer
 unfolding block_of
 returns-in_default-answer c =
     let t = turn_at (goal.at.returns-in_default-answer c).After-walk_token-t in
-    called_missing _ _ _ _ c.loop-n.invariant.kept
-    (turn_lost t c.in-Ok.is (omega (arith, c.if-token-eq0.false, c.if-zero.false)) c.quantizer.ensures c.read_signed-number.ensures (ap from_read c.in_default-answer.is))
+    rw c.missing-in_default-answer.ensures
+    (called_missing _ _ _ _ c.loop-n.invariant.kept
+    (turn_lost t c.in-Ok.is (omega (arith, c.if-token-eq0.false, c.if-zero.false)) c.quantizer.ensures c.read_signed-number.ensures (ap from_read c.in_default-answer.is)))
 
 pub loop-n-preserved : goal.loop-n-preserved
 unfolding zigzag

@@ -12,12 +12,12 @@ range c =
     run_valid (magnitude_within _ c.requires.le_token.0 c.requires.le_token.1) (λ i. (c.type_inv.s i).fits) c.requires.valid ((number_took _ _ 0 _ c.read_number-number.ensures).gave ∙ ap from_read c.in-Ok.is)
 
 pub returns-in_default : goal.returns-in_default
-returns-in_default c = signed_lost _ _ _ _ c.read_number-number.ensures (ap from_read c.in_default.is)
+returns-in_default c = rw c.missing.ensures (signed_lost _ _ _ _ c.read_number-number.ensures (ap from_read c.in_default.is))
 
 pub returns-in_default-symbol : goal.returns-in_default-symbol
 returns-in_default-symbol c =
     let a = goal.at.returns-in_default-symbol c in
-    signed_missing _ _ _ _ c.read_number-number.ensures c.in-Ok.is (symboled _ _ 128 (range a.In-Ok).valid c.symbol.ensures ∙ ap from_read c.in_default-symbol.is)
+    rw c.missing-in_default-symbol.ensures (signed_missing _ _ _ _ c.read_number-number.ensures c.in-Ok.is (symboled _ _ 128 (range a.In-Ok).valid c.symbol.ensures ∙ ap from_read c.in_default-symbol.is))
 
 pub product-requires : goal.product-requires
 product-requires c = (range (goal.at.product-requires c).In-Ok).value.1
