@@ -102,8 +102,7 @@ pub(crate) fn rows(
         first: 0,
         tokens: 0,
     };
-    let mut k: usize = 0;
-    while k < blocks {
+    for k in 0..blocks {
         let p = pick(k / wide, tile.count);
         let tokens = token(bytes, tile, p);
         let t = readers[p];
@@ -128,7 +127,6 @@ pub(crate) fn rows(
         r = after.first;
         readers[p] = token;
         left = m.left;
-        k = k + 1;
     }
     stop(Ok(blocks), reads, r, readers, left)
 }
