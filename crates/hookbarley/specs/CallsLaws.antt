@@ -12,10 +12,8 @@ use Rattle.hookbarley.specs.Calls.{to_picture_called, called_numbers, handed_cal
 use Rattle.key_frame.specs.declared.Shown.{Shown}
 use Rattle.key_frame.specs.KeyFrame.{key_framed, key_frame_of}
 use Rattle.boundary.specs.FrameCalls.{tile_after}
-use Rattle.rescue.specs.declared.Rescued.{Rescued}
-use Rattle.rescue.specs.Rescue.{rescue_ended, rescue_of}
-use Rattle.profile.specs.declared.Profiled.{Profiled}
-use Rattle.profile.specs.Profile.{profiled, profile_of}
+use Rattle.rescue.specs.Rescue.{Rescued, rescue_ended, rescue_of}
+use Rattle.profile.specs.Profile.{Profiled, profiled, profile_of}
 use Rattle.survey.specs.declared.Surveyed.{Surveyed}
 use Rattle.survey.specs.Survey.{survey_ended, survey_of}
 use Rattle.recode.specs.declared.Recoded.{Recoded}

@@ -2,14 +2,14 @@
 -- off; sharpness is 0; the picture call answers 0; no macroblock is both skipped and small. The first rule that fails is named, the last one
 -- with the first such macroblock.
 use Rattle.std.specs.Prelude.{◌&&◌, ◌||◌, ◌∷◌}
-use Rattle.numbers.specs.Words.{ℕ, zero, suc, Bool, true, false, not, eqb, ltb, List, [], ℤ}
+use Rattle.numbers.specs.Words.{ℕ, zero, suc, Bool, true, false, not, eqb, ltb, List, [], ℤ, Result, Ok, Err}
 use Rattle.header.specs.Header.{segments_on, map_on, sharpness, present_at_of}
 use Rattle.tile.specs.declared.Tile.{Tile}
 use Rattle.lent.specs.Memory.{Memory, sizes_of, mode_found}
-use Rattle.choices.specs.Choices.{Call, failed, refusal_of, number_of, values_of, Decoded}
+use Rattle.choices.specs.Choices.{Call, failed, refusal_of, named, refusal_number_of, number_of, values_of, Decoded}
 use Rattle.picture.specs.Picture.{picture_of}
-pub use Rattle.profile.specs.declared.Profiled.{Profiled}
-use Rattle.profile.specs.declared.Profiled.TheVariants as P
+use Rattle.profile.specs.declared.Misfit.{Misfit}
+use Rattle.profile.specs.declared.Misfit.TheVariants as P
 
 -- ---- the rules
 -- 1: the tile is 256 by 256
@@ -45,13 +45,17 @@ unfoldable pub first_both_of : (n k : ℕ) → List ℕ → ℕ
 first_both_of zero k modes = k
 first_both_of (suc n) k modes = elim (both_at modes k) [ true ↦ k | false ↦ first_both_of n (suc k) modes ]
 
+-- ---- it fits, or why not
+abbrev pub Profiled : Type 0
+Profiled = Result (Unit {0}) Misfit
+
 -- the answer for a picture of so many macroblocks with these modes
 unfoldable pub judged_of : (blocks : ℕ) → List ℕ → Profiled
-judged_of blocks modes = elim (ltb (first_both_of blocks 0 modes) blocks) [ true ↦ P.Macroblock (first_both_of blocks 0 modes) | false ↦ P.Fits ]
+judged_of blocks modes = elim (ltb (first_both_of blocks 0 modes) blocks) [ true ↦ Err (P.Macroblock (first_both_of blocks 0 modes)) | false ↦ Ok tt ]
 
 -- 5 and 6, by the picture call's answer and the mode memory that it left
 unfoldable pub decoded_of : Decoded → List ℕ → Profiled
-decoded_of answer modes = elim (number_of answer) [ zero ↦ judged_of (values_of answer) modes | suc n ↦ P.Rule 5 ]
+decoded_of answer modes = elim (number_of answer) [ zero ↦ judged_of (values_of answer) modes | suc n ↦ Err (P.Rule 5) ]
 
 -- ---- the answer, with the lent memory
 pub record ProfileEnded : Type 0 where
@@ -66,11 +70,11 @@ profiled answer mem = record { answer = answer; mem = mem }
 unfoldable pub profile_of : Call → Memory → ProfileEnded
 profile_of c m =
     elim (tile_rules_of c.tile) [
-      | suc n ↦ profiled (P.Rule (suc n)) m
+      | suc n ↦ profiled (Err (P.Rule (suc n))) m
       | zero ↦ elim (refusal_of c (sizes_of m)) [
-        | suc n ↦ profiled (P.Refused (suc n)) m
+        | suc n ↦ profiled (Err (P.Refused (named (suc n)))) m
         | zero ↦ elim (header_rules_of c.header) [
-          | suc n ↦ profiled (P.Rule (suc n)) m
+          | suc n ↦ profiled (Err (P.Rule (suc n))) m
           | zero ↦ profiled (decoded_of (picture_of c m).answer (picture_of c m).mem.modes) (picture_of c m).mem
         ]
       ]
@@ -78,21 +82,21 @@ profile_of c m =
 
 -- ---- the answer as numbers: the rule that fails, 0 where none does or an argument is refused
 abbrev pub profile_rule_of : Profiled → ℕ
-profile_rule_of P.Fits = 0
-profile_rule_of (P.Rule n) = n
-profile_rule_of (P.Macroblock k) = 6
-profile_rule_of (P.Refused n) = 0
+profile_rule_of (Ok u) = 0
+profile_rule_of (Err (P.Rule n)) = n
+profile_rule_of (Err (P.Macroblock k)) = 6
+profile_rule_of (Err (P.Refused n)) = 0
 
 -- the macroblock that rule 6 names, else 0
 abbrev pub profile_block_of : Profiled → ℕ
-profile_block_of P.Fits = 0
-profile_block_of (P.Rule n) = 0
-profile_block_of (P.Macroblock k) = k
-profile_block_of (P.Refused n) = 0
+profile_block_of (Ok u) = 0
+profile_block_of (Err (P.Rule n)) = 0
+profile_block_of (Err (P.Macroblock k)) = k
+profile_block_of (Err (P.Refused n)) = 0
 
 -- the argument check that fails, 0 where none does
 abbrev pub profile_number_of : Profiled → ℕ
-profile_number_of P.Fits = 0
-profile_number_of (P.Rule n) = 0
-profile_number_of (P.Macroblock k) = 0
-profile_number_of (P.Refused n) = n
+profile_number_of (Ok u) = 0
+profile_number_of (Err (P.Rule n)) = 0
+profile_number_of (Err (P.Macroblock k)) = 0
+profile_number_of (Err (P.Refused r)) = refusal_number_of r

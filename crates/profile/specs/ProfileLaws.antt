@@ -1,11 +1,11 @@
 -- The laws of the profile, as the code tries its rules, and what each answer says.
 use Rattle.std.specs.Prelude.{◌+◌, ◌≤◌, ◌<◌, ◌≡◌}
-use Rattle.numbers.specs.Words.{ℕ, zero, suc, add-one, arith, refl, sym, ◌∙◌, ap, true, false, ltb, le-ltb, lt-ltb, List, ℤ}
+use Rattle.numbers.specs.Words.{ℕ, zero, suc, add-one, arith, refl, sym, ◌∙◌, ap, true, false, ltb, le-ltb, lt-ltb, List, ℤ, Ok, Err}
 use Rattle.tile.specs.declared.Tile.{Tile}
 use Rattle.lent.specs.Memory.{Memory, sizes_of}
-use Rattle.choices.specs.Choices.{Call, failed, refusal_of, number_of, values_of, Decoded}
+use Rattle.choices.specs.Choices.{Call, failed, refusal_of, named, number_of, values_of, Decoded}
 use Rattle.picture.specs.Picture.{Ended, picture_of}
-use Rattle.profile.specs.declared.Profiled.TheVariants as P
+use Rattle.profile.specs.declared.Misfit.TheVariants as P
 use Rattle.profile.specs.Profile.{Profiled, size_fits_of, count_fits_of, segments_fit_of, sharpness_fits_of, tile_rules_of, header_rules_of, both_at, first_both_of, judged_of, decoded_of, profiled, profile_of}
 
 -- ---- 1 and 2, 3 and 4, as the code tries them
@@ -75,13 +75,13 @@ module _ (modes : List ℕ) where
     pub looking_end : Looking modes blocks k → blocks ≤ k → k ≡ first_both_of blocks 0 modes
     looking_end g h = let z : g.left ≡ 0 = omega (arith, g.sum) in first_none k ∙ rw z at g.same
 
-pub judged_named : (blocks : ℕ) (modes : List ℕ) (k : ℕ) → k ≡ first_both_of blocks 0 modes → k < blocks → P.Macroblock k ≡ judged_of blocks modes
+pub judged_named : (blocks : ℕ) (modes : List ℕ) (k : ℕ) → k ≡ first_both_of blocks 0 modes → k < blocks → Err (P.Macroblock k) ≡ judged_of blocks modes
 unfolding judged_of
 judged_named blocks modes k e h =
     let t : ltb (first_both_of blocks 0 modes) blocks ≡ true = rw (← e) (lt-ltb k blocks h) in
-    ap P.Macroblock e ∙ rw (t, judged_of)
+    ap (λ (k : ℕ). let r : Profiled = Err (P.Macroblock k) in r) e ∙ rw (t, judged_of)
 
-pub judged_fits : (blocks : ℕ) (modes : List ℕ) (k : ℕ) → k ≡ first_both_of blocks 0 modes → blocks ≤ k → P.Fits ≡ judged_of blocks modes
+pub judged_fits : (blocks : ℕ) (modes : List ℕ) (k : ℕ) → k ≡ first_both_of blocks 0 modes → blocks ≤ k → Ok tt ≡ judged_of blocks modes
 unfolding judged_of
 judged_fits blocks modes k e h =
     let t : ltb (first_both_of blocks 0 modes) blocks ≡ false = rw (← e) (le-ltb k blocks h) in
@@ -89,12 +89,12 @@ judged_fits blocks modes k e h =
 
 -- ---- the picture call's answer, by number and count
 module _ (answer : Decoded) (modes : List ℕ) where
-  stopped : (n : ℕ) → n ≡ number_of answer → (n ≡ 0 → ⊥) → P.Rule 5 ≡ decoded_of answer modes
+  stopped : (n : ℕ) → n ≡ number_of answer → (n ≡ 0 → ⊥) → Err (P.Rule 5) ≡ decoded_of answer modes
   unfolding decoded_of
   stopped zero e f = absurd (f refl)
   stopped (suc n) e f = rw (← e, decoded_of)
 
-  pub decoded_stopped : {n : ℕ} → n ≡ number_of answer → (n ≡ 0 → ⊥) → P.Rule 5 ≡ decoded_of answer modes
+  pub decoded_stopped : {n : ℕ} → n ≡ number_of answer → (n ≡ 0 → ⊥) → Err (P.Rule 5) ≡ decoded_of answer modes
   decoded_stopped e f = stopped _ e f
 
   pub decoded_whole : {n k : ℕ} {r : Profiled} → n ≡ number_of answer → n ≡ 0 → k ≡ values_of answer → r ≡ judged_of k modes → r ≡ decoded_of answer modes
@@ -103,25 +103,25 @@ module _ (answer : Decoded) (modes : List ℕ) where
 
 -- ---- the call, as the code goes
 module _ (c : Call) (m : Memory) where
-  early : (n : ℕ) → n ≡ tile_rules_of c.tile → (n ≡ 0 → ⊥) → profiled (P.Rule n) m ≡ profile_of c m
+  early : (n : ℕ) → n ≡ tile_rules_of c.tile → (n ≡ 0 → ⊥) → profiled (Err (P.Rule n)) m ≡ profile_of c m
   unfolding profile_of
   early zero e f = absurd (f refl)
   early (suc n) e f = rw (← e, profile_of)
 
-  pub profile_early : {n : ℕ} → n ≡ tile_rules_of c.tile → (n ≡ 0 → ⊥) → profiled (P.Rule n) m ≡ profile_of c m
+  pub profile_early : {n : ℕ} → n ≡ tile_rules_of c.tile → (n ≡ 0 → ⊥) → profiled (Err (P.Rule n)) m ≡ profile_of c m
   profile_early e f = early _ e f
 
   module _ {a : ℕ} (e : a ≡ tile_rules_of c.tile) (z : a ≡ 0) where
-    refused : (n : ℕ) → n ≡ refusal_of c (sizes_of m) → (n ≡ 0 → ⊥) → profiled (P.Refused n) m ≡ profile_of c m
+    refused : (n : ℕ) → n ≡ refusal_of c (sizes_of m) → (n ≡ 0 → ⊥) → profiled (Err (P.Refused (named n))) m ≡ profile_of c m
     unfolding profile_of
     refused zero g f = absurd (f refl)
     refused (suc n) g f = let y : tile_rules_of c.tile ≡ 0 = sym e ∙ z in rw (y, ← g, profile_of)
 
-    pub profile_refused : {n : ℕ} → n ≡ refusal_of c (sizes_of m) → (n ≡ 0 → ⊥) → profiled (P.Refused n) m ≡ profile_of c m
+    pub profile_refused : {n : ℕ} → n ≡ refusal_of c (sizes_of m) → (n ≡ 0 → ⊥) → profiled (Err (P.Refused (named n))) m ≡ profile_of c m
     profile_refused g f = refused _ g f
 
     module _ {b : ℕ} (g : b ≡ refusal_of c (sizes_of m)) (y : b ≡ 0) where
-      late : (n : ℕ) → n ≡ header_rules_of c.header → (n ≡ 0 → ⊥) → profiled (P.Rule n) m ≡ profile_of c m
+      late : (n : ℕ) → n ≡ header_rules_of c.header → (n ≡ 0 → ⊥) → profiled (Err (P.Rule n)) m ≡ profile_of c m
       unfolding profile_of
       late zero h f = absurd (f refl)
       late (suc n) h f =
@@ -129,7 +129,7 @@ module _ (c : Call) (m : Memory) where
           let w : refusal_of c (sizes_of m) ≡ 0 = sym g ∙ y in
           rw (x, w, ← h, profile_of)
 
-      pub profile_late : {n : ℕ} → n ≡ header_rules_of c.header → (n ≡ 0 → ⊥) → profiled (P.Rule n) m ≡ profile_of c m
+      pub profile_late : {n : ℕ} → n ≡ header_rules_of c.header → (n ≡ 0 → ⊥) → profiled (Err (P.Rule n)) m ≡ profile_of c m
       profile_late h f = late _ h f
 
       pub profile_decoded : {n : ℕ} → n ≡ header_rules_of c.header → n ≡ 0 → {E : Ended} {r : Profiled} → E ≡ picture_of c m → r ≡ decoded_of E.answer E.mem.modes → profiled r E.mem ≡ profile_of c m

@@ -2,7 +2,7 @@
 ghost use Rattle.std.specs.Prelude.{◌≡◌};
 ghost use Rattle.profile.specs.Profile.{both_at, first_both_of, judged_of, decoded_of};
 
-use crate::Profiled;
+use crate::{Misfit, Profiled};
 use choices::answer::{Decoded, finished, number};
 use lent::macroblocks::read_mode_record;
 
@@ -33,9 +33,9 @@ fn judged(modes: &[u8], blocks: usize) -> Profiled
 {
     let k = first_both(modes, blocks);
     if k < blocks {
-        return Profiled::Macroblock(k);
+        return Err(Misfit::Macroblock(k));
     }
-    Profiled::Fits
+    Ok(())
 }
 
 // Rules 5 and 6 of a picture call that answered so and left these modes.
@@ -44,7 +44,7 @@ pub(crate) fn decoded(answer: Decoded, modes: &[u8]) -> Profiled
 {
     let number = number(answer);
     if number != 0 {
-        return Profiled::Rule(5);
+        return Err(Misfit::Rule(5));
     }
     let blocks = finished(answer);
     judged(modes, blocks)

@@ -11,56 +11,57 @@ ghost use Rattle.profile.specs.Profile.{profiled, profile_of, profile_rule_of, p
 
 use crate::both::decoded;
 use crate::rules::{header_rules, tile_rules};
+use choices::answer::Refusal;
 use choices::checks::refusal;
 use lent::sizes::Sizes;
 use picture::decode;
 use tile::Tile;
 
-// It fits; or the first rule that fails, 1 to 5, or 6 with the first macroblock that is both skipped and small; or an argument was
-// refused, 3 to 5.
-#[derive(Clone, Copy)]
-pub enum Profiled {
-    Fits,
+// Why a tile does not fit: the first rule that fails, 1 to 5, or 6 with the first macroblock that is both skipped and small; or an
+// argument was refused.
+#[derive(Clone, Copy, Debug, PartialEq, Eq)]
+pub enum Misfit {
     Rule(u32),
     Macroblock(usize),
-    Refused(u32),
+    Refused(Refusal),
 }
 
-impl Profiled {
-    // The rule that fails, 0 where none does or an argument was refused.
-    pub fn rule(self) -> u32
-        ensures { result ≡ profile_rule_of self }
-    {
-        match self {
-            Profiled::Fits => 0,
-            Profiled::Rule(n) => n,
-            Profiled::Macroblock(_) => 6,
-            Profiled::Refused(_) => 0,
-        }
-    }
+// It fits, or why not.
+pub type Profiled = Result<(), Misfit>;
 
-    // The macroblock that rule 6 names, else 0.
-    pub fn macroblock(self) -> usize
-        ensures { result ≡ profile_block_of self }
-    {
-        match self {
-            Profiled::Fits => 0,
-            Profiled::Rule(_) => 0,
-            Profiled::Macroblock(k) => k,
-            Profiled::Refused(_) => 0,
-        }
+// The rule that fails, 0 where none does or an argument was refused.
+pub fn rule_failed(answer: Profiled) -> u32
+    ensures { result ≡ profile_rule_of answer }
+{
+    match answer {
+        Ok(()) => 0,
+        Err(Misfit::Rule(n)) => n,
+        Err(Misfit::Macroblock(_)) => 6,
+        Err(Misfit::Refused(_)) => 0,
     }
+}
 
-    // The number of the argument check that fails, 0 where none does.
-    pub fn number(self) -> u32
-        ensures { result ≡ profile_number_of self }
-    {
-        match self {
-            Profiled::Fits => 0,
-            Profiled::Rule(_) => 0,
-            Profiled::Macroblock(_) => 0,
-            Profiled::Refused(n) => n,
-        }
+// The macroblock that rule 6 names, else 0.
+pub fn macroblock_named(answer: Profiled) -> usize
+    ensures { result ≡ profile_block_of answer }
+{
+    match answer {
+        Ok(()) => 0,
+        Err(Misfit::Rule(_)) => 0,
+        Err(Misfit::Macroblock(k)) => k,
+        Err(Misfit::Refused(_)) => 0,
+    }
+}
+
+// The number of the argument check that fails, 0 where none does.
+pub fn number(answer: Profiled) -> u32
+    ensures { result ≡ profile_number_of answer }
+{
+    match answer {
+        Ok(()) => 0,
+        Err(Misfit::Rule(_)) => 0,
+        Err(Misfit::Macroblock(_)) => 0,
+        Err(Misfit::Refused(refusal)) => refusal.number(),
     }
 }
 
@@ -84,7 +85,7 @@ pub fn profile(
 {
     let early = tile_rules(tile);
     if early != 0 {
-        return Profiled::Rule(early);
+        return Err(Misfit::Rule(early));
     }
     let sizes = Sizes {
         y: y.len(),
@@ -95,11 +96,11 @@ pub fn profile(
         strengths: strengths.len(),
     };
     if let Err(bad) = refusal(bytes, tile, header, sizes) {
-        return Profiled::Refused(bad.number());
+        return Err(Misfit::Refused(bad));
     }
     let late = header_rules(header);
     if late != 0 {
-        return Profiled::Rule(late);
+        return Err(Misfit::Rule(late));
     }
     let d = decode(
         bytes,

@@ -10,11 +10,10 @@ use Rattle.lent.specs.Memory.{mode_width, strength_width, mode_record, strength_
 use Rattle.lent.specs.RecordsLaws.{record_set_off}
 use Rattle.choices.specs.declared.answer.Stop.TheVariants as Stop
 use Rattle.choices.specs.Choices.{Call, refusal_of, number_of, values_of, Decoded}
-use Rattle.choices.specs.ChoicesLaws.{refusal_most}
+use Rattle.choices.specs.ChoicesLaws.{refusal_most, named_number}
 use Rattle.picture.specs.Picture.{Picture, State, Ended, pictured_of, begun_of, column_of, row_of, planes_in, place_of, next_of, picture_of, Shared, Live}
 use Rattle.picture.specs.Halt.{Halted, halt_of, halted_of}
 use Rattle.picture.specs.HaltLaws.{halted_picture, halted_good, Alive, halted_alive}
-use Rattle.rescue.specs.declared.Rescued.TheVariants as R
 use Rattle.rescue.specs.Rescue.{Saved, saved_at, gone_on, marks_of, RescueEnded, rescue_ended, rescued, saved_of, rescue_of, rescue_number_of, saved_count_of}
 use Rattle.rescue.specs.ChecksLaws.{rescue_early, rescue_wrong, rescue_right, rescue_fine}
 use Rattle.rescue.specs.RescueLaws.{KeepsToo, outside_rebuilt_at, rest_least, rest_keeps, rest_same, mark_whole, mark_modes, mark_grey, marks_length, marks_at, rescue_bad, rescue_good}
@@ -65,7 +64,14 @@ module _ (t : Call) (m : Memory) (marks : List ℕ) where
 
   -- THE PROMISE: a refused argument changes nothing
   pub rescue_refused : (rescue_refusal t m marks ≡ 0 → ⊥) → RescueRefused t m marks
-  rescue_refused b = record { is = sym (rescue_bad t m marks refl b); least = omega (arith, b); most = few }
+  rescue_refused b =
+      let r = rescue_bad t m marks refl b in
+      record {
+        is = sym r;
+        number = sym (ap (λ (E : RescueEnded). rescue_number_of E.answer) r) ∙ named_number (rescue_refusal t m marks) b few;
+        least = omega (arith, b);
+        most = few;
+      }
 
 -- ---- how far it comes after the stop
 gone_count : (M : ℕ) (P : Picture) (a : Decoded) (S : State) → values_of a ≤ M → (values_of a ≤ (gone_on M P a S).count) × ((gone_on M P a S).count ≤ M)
@@ -220,7 +226,7 @@ module _ (p : ℕ) (t u : Call) (m n : Memory) (k l : List ℕ) (a : Alike p t u
       gone_same (pictured_of t) (pictured_of u) w.first w.frame w.wide w.form (macroblocks t) (halted_of t m).answer (halted_of t m).state (halted_of u n).state g.same.reader g.same.left g.same.mem
       ∙ (λ i. gone_on (count_same i) (pictured_of u) (g.answer i) (halted_of u n).state) in
       rescue_is t m k e
-      ∙ (λ i. rescue_ended (R.Saved (s i).count) (s i).mem (marks_of (count_same i) (values_of (g.answer i)) (s i).count))
+      ∙ (λ i. rescue_ended (Ok (s i).count) (s i).mem (marks_of (count_same i) (values_of (g.answer i)) (s i).count))
       ∙ sym (rescue_is u n l f)
 
   -- every partition that is read is the same

@@ -64,11 +64,9 @@ use Rattle.hookbarley.specs.Calls.{called_of, rescue_called_of, profile_called_o
 use Rattle.samples.specs.ExplainCalls.{explain_called_of}
 use Rattle.picture.specs.Picture.{picture_of, cost_of}
 use Rattle.picture.specs.Halt.{halted_of}
-use Rattle.rescue.specs.declared.Rescued.{Rescued}
-use Rattle.rescue.specs.Rescue.{rescue_of, rescue_number_of, saved_count_of}
+use Rattle.rescue.specs.Rescue.{Rescued, rescue_of, rescue_number_of, saved_count_of}
 use Rattle.survey.specs.Survey.{add_of, survey_of}
-use Rattle.profile.specs.declared.Profiled.{Profiled}
-use Rattle.profile.specs.Profile.{profile_of, profile_rule_of, profile_block_of, profile_number_of}
+use Rattle.profile.specs.Profile.{Profiled, profile_of, profile_rule_of, profile_block_of, profile_number_of}
 use Rattle.boundary.specs.TileNumbers.{tile_of_numbers, numbers_of_tile, put_of}
 use Rattle.boundary.specs.FrameCalls.{tile_after, frame_called_of}
 use Rattle.files.specs.WebpCalls.{webp_found_of, webp_wrapped_of}
@@ -598,13 +596,13 @@ pub deblock_deblock : (y u v strengths : List ℕ) (width height : ℕ) (simple 
 deblock_deblock y u v strengths width height simple = determined (deblock_of (record { y = y; u = u; v = v }) strengths width height simple)
 
 -- ---- rescue
--- rescue::Rescued::number
-pub rescue_number : (self : Rescued) → One (λ o. o ≡ rescue_number_of self)
-rescue_number self = determined (rescue_number_of self)
+-- rescue::number
+pub rescue_number : (answer : Rescued) → One (λ o. o ≡ rescue_number_of answer)
+rescue_number answer = determined (rescue_number_of answer)
 
--- rescue::Rescued::saved
-pub rescue_saved : (self : Rescued) → One (λ o. o ≡ saved_count_of self)
-rescue_saved self = determined (saved_count_of self)
+-- rescue::saved
+pub rescue_saved : (answer : Rescued) → One (λ o. o ≡ saved_count_of answer)
+rescue_saved answer = determined (saved_count_of answer)
 
 -- rescue::rescue
 pub rescue_rescue : (bytes : List ℕ) (tile : Tile) (header : List ℤ) (y u v columns modes strengths marks : List ℕ)
@@ -612,17 +610,17 @@ pub rescue_rescue : (bytes : List ℕ) (tile : Tile) (header : List ℤ) (y u v 
 rescue_rescue bytes tile header y u v columns modes strengths marks = determined (rescue_of (call_of bytes tile header) (memory_of y u v columns modes strengths) marks)
 
 -- ---- profile
--- profile::Profiled::rule
-pub profile_rule : (self : Profiled) → One (λ o. o ≡ profile_rule_of self)
-profile_rule self = determined (profile_rule_of self)
+-- profile::rule_failed
+pub profile_rule : (answer : Profiled) → One (λ o. o ≡ profile_rule_of answer)
+profile_rule answer = determined (profile_rule_of answer)
 
--- profile::Profiled::macroblock
-pub profile_macroblock : (self : Profiled) → One (λ o. o ≡ profile_block_of self)
-profile_macroblock self = determined (profile_block_of self)
+-- profile::macroblock_named
+pub profile_macroblock : (answer : Profiled) → One (λ o. o ≡ profile_block_of answer)
+profile_macroblock answer = determined (profile_block_of answer)
 
--- profile::Profiled::number
-pub profile_number : (self : Profiled) → One (λ o. o ≡ profile_number_of self)
-profile_number self = determined (profile_number_of self)
+-- profile::number
+pub profile_number : (answer : Profiled) → One (λ o. o ≡ profile_number_of answer)
+profile_number answer = determined (profile_number_of answer)
 
 -- profile::profile
 pub profile_profile : (bytes : List ℕ) (tile : Tile) (header : List ℤ) (y u v columns modes strengths : List ℕ) → One (λ o. o ≡ profile_of (call_of bytes tile header) (memory_of y u v columns modes strengths))

@@ -1,12 +1,12 @@
 -- What is promised of the cockpit profile (request M-111): it says yes exactly when all six rules hold, and else names the first that fails.
 -- ProfileLaws proves it.
 use Rattle.std.specs.Prelude.{◌<◌, ◌≡◌, ◌⊎◌}
-use Rattle.numbers.specs.Words.{ℕ, true, pos, Ok}
+use Rattle.numbers.specs.Words.{ℕ, true, pos, Ok, Err}
 use Rattle.header.specs.Header.{segments_on, map_on, sharpness, entry}
 use Rattle.lent.specs.Memory.{Memory}
-use Rattle.choices.specs.Choices.{Call}
+use Rattle.choices.specs.Choices.{Call, named}
 use Rattle.picture.specs.Picture.{picture_of}
-use Rattle.profile.specs.declared.Profiled.TheVariants as P
+use Rattle.profile.specs.declared.Misfit.TheVariants as P
 use Rattle.profile.specs.Profile.{ProfileEnded, profiled, profile_of, profile_number_of}
 use Rattle.promises.specs.Refusals.{Bad, Fine, number}
 use Rattle.promises.specs.Stops.{macroblocks}
@@ -59,31 +59,31 @@ pub record Fitting (t : Call) (m : Memory) : Type 0 where
 -- An argument is refused by the picture call's own number, 3, 4 or 5, between the second rule and the third. Up to the fourth rule memory is as
 -- it was lent, and from there as the picture call leaves it
 pub data Judged (t : Call) (m : Memory) : ProfileEnded → Type 0 where
-  fails_1 : (Square t → ⊥) → Judged t m (profiled (P.Rule 1) m)
-  fails_2 : Square t → (Few t → ⊥) → Judged t m (profiled (P.Rule 2) m)
-  refused : Square t → Few t → (number t m ≡ 3) ⊎ (number t m ≡ 4) ⊎ (number t m ≡ 5) → Judged t m (profiled (P.Refused (number t m)) m)
-  fails_3 : Square t → Few t → Fine t m → (Plain t → ⊥) → Judged t m (profiled (P.Rule 3) m)
-  fails_4 : Square t → Few t → Fine t m → Plain t → (Soft t → ⊥) → Judged t m (profiled (P.Rule 4) m)
-  fails_5 : Square t → Few t → Fine t m → Plain t → Soft t → (Whole t m → ⊥) → Judged t m (profiled (P.Rule 5) (picture_of t m).mem)
-  fails_6 : Square t → Few t → Plain t → Soft t → Whole t m → {k : ℕ} → k < macroblocks t → Both t m k → ((j : ℕ) → j < k → Both t m j → ⊥) → Judged t m (profiled (P.Macroblock k) (picture_of t m).mem)
-  fits : Fitting t m → Judged t m (profiled P.Fits (picture_of t m).mem)
+  fails_1 : (Square t → ⊥) → Judged t m (profiled (Err (P.Rule 1)) m)
+  fails_2 : Square t → (Few t → ⊥) → Judged t m (profiled (Err (P.Rule 2)) m)
+  refused : Square t → Few t → (number t m ≡ 3) ⊎ (number t m ≡ 4) ⊎ (number t m ≡ 5) → Judged t m (profiled (Err (P.Refused (named (number t m)))) m)
+  fails_3 : Square t → Few t → Fine t m → (Plain t → ⊥) → Judged t m (profiled (Err (P.Rule 3)) m)
+  fails_4 : Square t → Few t → Fine t m → Plain t → (Soft t → ⊥) → Judged t m (profiled (Err (P.Rule 4)) m)
+  fails_5 : Square t → Few t → Fine t m → Plain t → Soft t → (Whole t m → ⊥) → Judged t m (profiled (Err (P.Rule 5)) (picture_of t m).mem)
+  fails_6 : Square t → Few t → Plain t → Soft t → Whole t m → {k : ℕ} → k < macroblocks t → Both t m k → ((j : ℕ) → j < k → Both t m j → ⊥) → Judged t m (profiled (Err (P.Macroblock k)) (picture_of t m).mem)
+  fits : Fitting t m → Judged t m (profiled (Ok tt) (picture_of t m).mem)
 
 -- THE PROMISE, both ways: the answer is one of these; and where one of them is so, that is the answer
 pub record Judges (t : Call) (m : Memory) : Type 0 where
   pub one : Judged t m (profile_of t m)
-  pub rule_1 : (Square t → ⊥) → profile_of t m ≡ profiled (P.Rule 1) m
-  pub rule_2 : Square t → (Few t → ⊥) → profile_of t m ≡ profiled (P.Rule 2) m
-  pub refusal : Square t → Few t → Bad t m → profile_of t m ≡ profiled (P.Refused (number t m)) m
-  pub rule_3 : Square t → Few t → Fine t m → (Plain t → ⊥) → profile_of t m ≡ profiled (P.Rule 3) m
-  pub rule_4 : Square t → Few t → Fine t m → Plain t → (Soft t → ⊥) → profile_of t m ≡ profiled (P.Rule 4) m
-  pub rule_5 : Square t → Few t → Fine t m → Plain t → Soft t → (Whole t m → ⊥) → profile_of t m ≡ profiled (P.Rule 5) (picture_of t m).mem
-  pub rule_6 : Square t → Few t → Plain t → Soft t → Whole t m → {k : ℕ} → k < macroblocks t → Both t m k → ((j : ℕ) → j < k → Both t m j → ⊥) → profile_of t m ≡ profiled (P.Macroblock k) (picture_of t m).mem
-  pub yes : Fitting t m → profile_of t m ≡ profiled P.Fits (picture_of t m).mem
+  pub rule_1 : (Square t → ⊥) → profile_of t m ≡ profiled (Err (P.Rule 1)) m
+  pub rule_2 : Square t → (Few t → ⊥) → profile_of t m ≡ profiled (Err (P.Rule 2)) m
+  pub refusal : Square t → Few t → Bad t m → profile_of t m ≡ profiled (Err (P.Refused (named (number t m)))) m
+  pub rule_3 : Square t → Few t → Fine t m → (Plain t → ⊥) → profile_of t m ≡ profiled (Err (P.Rule 3)) m
+  pub rule_4 : Square t → Few t → Fine t m → Plain t → (Soft t → ⊥) → profile_of t m ≡ profiled (Err (P.Rule 4)) m
+  pub rule_5 : Square t → Few t → Fine t m → Plain t → Soft t → (Whole t m → ⊥) → profile_of t m ≡ profiled (Err (P.Rule 5)) (picture_of t m).mem
+  pub rule_6 : Square t → Few t → Plain t → Soft t → Whole t m → {k : ℕ} → k < macroblocks t → Both t m k → ((j : ℕ) → j < k → Both t m j → ⊥) → profile_of t m ≡ profiled (Err (P.Macroblock k)) (picture_of t m).mem
+  pub yes : Fitting t m → profile_of t m ≡ profiled (Ok tt) (picture_of t m).mem
 
 -- THE PROMISE: yes exactly when all six rules hold
 pub record YesExactly (t : Call) (m : Memory) : Type 0 where
-  pub only : (profile_of t m).answer ≡ P.Fits → Fitting t m
-  pub when : Fitting t m → (profile_of t m).answer ≡ P.Fits
+  pub only : (profile_of t m).answer ≡ Ok tt → Fitting t m
+  pub when : Fitting t m → (profile_of t m).answer ≡ Ok tt
 
 -- THE PROMISE: the number is 0, 3, 4 or 5, and never 1 or 2
 abbrev pub Refusing : Call → Memory → Type 0

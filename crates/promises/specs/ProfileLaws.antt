@@ -1,18 +1,17 @@
 -- The proofs of what is promised of the cockpit profile (Profile.antt).
 use Rattle.std.specs.Prelude.{◌+◌, ◌*◌, ◌/◌, ◌≤◌, ◌<◌, ◌≡◌, ◌&&◌, ◌⊎◌}
-use Rattle.numbers.specs.Words.{ℕ, zero, suc, arith, refl, sym, ◌∙◌, ap, ap₂, subst, Bool, true, false, inl, inr, ⊎_elim, lit<, lt_or, eq_or, never, not_so, both_left, both_right, both_true, bit_of, List, length, get_or, Ok}
+use Rattle.numbers.specs.Words.{ℕ, zero, suc, arith, refl, sym, ◌∙◌, ap, ap₂, subst, Bool, true, false, inl, inr, ⊎_elim, lit<, lt_or, eq_or, never, not_so, both_left, both_right, both_true, bit_of, List, length, get_or, Ok, Err}
 use Rattle.reader.specs.ReadingLaws.{Bytes}
 use Rattle.lent.specs.Memory.{record_at, records_in, mode_width, is_on, Memory, sizes_of}
 use Rattle.lent.specs.RecordsLaws.{record_byte}
 use Rattle.lent.specs.MacroblocksLaws.{mode_read}
 use Rattle.lent.specs.declared.macroblocks.ModeRecord.{ModeRecord}
 use Rattle.tile.specs.Tile.{Sides, Counted}
-use Rattle.choices.specs.Choices.{Call, refusal_of, number_of, values_of}
+use Rattle.choices.specs.Choices.{Call, refusal_of, named, refusal_number_of, number_of, values_of}
 use Rattle.choices.specs.ChoicesLaws.{refusal_named}
 use Rattle.picture.specs.Picture.{Picture, State, Ended, picture_of}
-use Rattle.profile.specs.declared.Profiled.{Profiled}
-use Rattle.profile.specs.declared.Profiled.TheVariants as P
-use Rattle.profile.specs.Profile.{size_fits_of, count_fits_of, segments_fit_of, sharpness_fits_of, tile_rules_of, both_at, first_both_of, judged_of, decoded_of, ProfileEnded, profiled, profile_of, profile_number_of}
+use Rattle.profile.specs.declared.Misfit.TheVariants as P
+use Rattle.profile.specs.Profile.{Profiled, size_fits_of, count_fits_of, segments_fit_of, sharpness_fits_of, tile_rules_of, both_at, first_both_of, judged_of, decoded_of, ProfileEnded, profiled, profile_of, profile_number_of}
 use Rattle.profile.specs.ProfileLaws.{tile_size, tile_count, tile_fits, header_segments, header_sharpness, header_fits, judged_named, judged_fits, decoded_stopped, decoded_whole, profile_early, profile_refused, profile_late, profile_decoded}
 use Rattle.profile.specs.RulesLaws.{size_holds, size_passes, count_holds, count_passes, segments_holds, segments_passes, sharpness_holds, sharpness_passes, first_is, first_before, first_none, first_at}
 use Rattle.promises.specs.Refusals.{Bad, Fine, number, Refused, refused_changes_nothing}
@@ -121,21 +120,21 @@ module _ (t : Call) (m : Memory) where
   abbrev first : ℕ
   first = first_both_of (macroblocks t) 0 modes
 
-  early_square : size_fits_of t.tile.width t.tile.height ≡ false → profiled (P.Rule 1) m ≡ profile_of t m
+  early_square : size_fits_of t.tile.width t.tile.height ≡ false → profiled (Err (P.Rule 1)) m ≡ profile_of t m
   early_square e = profile_early t m (tile_size t.tile e) (λ z. omega arith)
 
   module _ (s : Square t) where
-    early_count : count_fits_of t.tile.count ≡ false → profiled (P.Rule 2) m ≡ profile_of t m
+    early_count : count_fits_of t.tile.count ≡ false → profiled (Err (P.Rule 2)) m ≡ profile_of t m
     early_count e = profile_early t m (tile_count t.tile (square_passes t s) e) (λ z. omega arith)
 
     module _ (f : Few t) where
       tile_passes : 0 ≡ tile_rules_of t.tile
       tile_passes = tile_fits t.tile (square_passes t s) (count_passes t.tile.count f)
 
-      by_refusal : Bad t m → profiled (P.Refused (number t m)) m ≡ profile_of t m
+      by_refusal : Bad t m → profiled (Err (P.Refused (named (number t m)))) m ≡ profile_of t m
       by_refusal b =
-          ap (λ (o : Ended). profiled (P.Refused (number_of o.answer)) m) (refused_changes_nothing t m b).is
-          ∙ profile_refused t m tile_passes refl (refusal_named t (sizes_of m) b) (λ z. b (sym (refusal_named t (sizes_of m) b) ∙ z))
+          let q : number t m ≡ refusal_of t (sizes_of m) = ap (λ (o : Ended). number_of o.answer) (refused_changes_nothing t m b).is ∙ refusal_named t (sizes_of m) b in
+          ap (λ (n : ℕ). profiled (Err (P.Refused (named n))) m) q ∙ profile_refused t m tile_passes refl refl b
 
       refusal_late : Bad t m → (number t m ≡ 3) ⊎ (number t m ≡ 4) ⊎ (number t m ≡ 5)
       refusal_late b =
@@ -143,29 +142,35 @@ module _ (t : Call) (m : Memory) where
           late (number t m) (λ e. r.one e (sides t s)) (λ e. (r.two e).1 (counted t f)) r.least r.most
 
       module _ (e : Fine t m) where
-        late_segments : segments_fit_of t.header ≡ false → profiled (P.Rule 3) m ≡ profile_of t m
+        late_segments : segments_fit_of t.header ≡ false → profiled (Err (P.Rule 3)) m ≡ profile_of t m
         late_segments g = profile_late t m tile_passes refl (sym e) refl (header_segments t.header g) (λ z. omega arith)
 
         module _ (p : Plain t) where
-          late_sharpness : sharpness_fits_of t.header ≡ false → profiled (P.Rule 4) m ≡ profile_of t m
+          late_sharpness : sharpness_fits_of t.header ≡ false → profiled (Err (P.Rule 4)) m ≡ profile_of t m
           late_sharpness g = profile_late t m tile_passes refl (sym e) refl (header_sharpness t.header (plain_passes t p) g) (λ z. omega arith)
 
           module _ (o : Soft t) where
             by_picture : {r : Profiled} → r ≡ decoded_of (picture_of t m).answer modes → profiled r (picture_of t m).mem ≡ profile_of t m
             by_picture = profile_decoded t m tile_passes refl (sym e) refl (header_fits t.header (plain_passes t p) (sharpness_passes t.header o)) refl refl
 
-            stopped : (Whole t m → ⊥) → profiled (P.Rule 5) (picture_of t m).mem ≡ profile_of t m
+            stopped : (Whole t m → ⊥) → profiled (Err (P.Rule 5)) (picture_of t m).mem ≡ profile_of t m
             stopped n = by_picture (decoded_stopped (picture_of t m).answer modes refl n)
 
             module _ (w : Whole t m) where
               whole_judged : {r : Profiled} → r ≡ judged_of (macroblocks t) modes → profiled r (picture_of t m).mem ≡ profile_of t m
               whole_judged q = by_picture (decoded_whole (picture_of t m).answer modes refl w (sym (ap values_of (all_done t m e w))) q)
 
-              at_first : {k : ℕ} → k ≡ first → k < macroblocks t → profiled (P.Macroblock k) (picture_of t m).mem ≡ profile_of t m
+              at_first : {k : ℕ} → k ≡ first → k < macroblocks t → profiled (Err (P.Macroblock k)) (picture_of t m).mem ≡ profile_of t m
               at_first {k} g h = whole_judged (judged_named (macroblocks t) modes k g h)
 
-              at_none : macroblocks t ≤ first → profiled P.Fits (picture_of t m).mem ≡ profile_of t m
+              at_none : macroblocks t ≤ first → profiled (Ok tt) (picture_of t m).mem ≡ profile_of t m
               at_none h = whole_judged (judged_fits (macroblocks t) modes first refl h)
+
+-- the third check and those behind it, by name and by number
+named_late : (n : ℕ) → (n ≡ 3) ⊎ (n ≡ 4) ⊎ (n ≡ 5) → (refusal_number_of (named n) ≡ 3) ⊎ (refusal_number_of (named n) ≡ 4) ⊎ (refusal_number_of (named n) ≡ 5)
+named_late n (inl e) = inl (ap (λ (k : ℕ). refusal_number_of (named k)) e)
+named_late n (inr (inl e)) = inr (inl (ap (λ (k : ℕ). refusal_number_of (named k)) e))
+named_late n (inr (inr e)) = inr (inr (ap (λ (k : ℕ). refusal_number_of (named k)) e))
 
 -- ---- what an answer says
 module _ (t : Call) (m : Memory) (b : Bytes t.bytes) where
@@ -239,15 +244,13 @@ module _ (t : Call) (m : Memory) (b : Bytes t.bytes) where
     where
       -- an answer that is not yes says so by its numbers
       told : Profiled → ℕ
-      told P.Fits = 0
-      told (P.Rule n) = 1
-      told (P.Macroblock k) = 1
-      told (P.Refused n) = 1
+      told (Ok u) = 0
+      told (Err x) = 1
 
-      other : {A : Type 0} {q : Profiled} → told q ≡ 1 → q ≡ P.Fits → A
+      other : {A : Type 0} {q : Profiled} → told q ≡ 1 → q ≡ Ok tt → A
       other {q = q} e g = absurd (omega (arith, e, ap told g))
 
-      only : {E : ProfileEnded} → Judged t m E → E.answer ≡ P.Fits → Fitting t m
+      only : {E : ProfileEnded} → Judged t m E → E.answer ≡ Ok tt → Fitting t m
       only (fits q) g = q
       only (fails_1 a) g = other refl g
       only (fails_2 a c) g = other refl g
@@ -264,7 +267,7 @@ module _ (t : Call) (m : Memory) (b : Bytes t.bytes) where
       go : {E : ProfileEnded} → Judged t m E → (profile_number_of E.answer ≡ 0) ⊎ (profile_number_of E.answer ≡ 3) ⊎ (profile_number_of E.answer ≡ 4) ⊎ (profile_number_of E.answer ≡ 5)
       go (fails_1 a) = inl refl
       go (fails_2 a c) = inl refl
-      go (refused a c d) = inr d
+      go (refused a c d) = inr (named_late (number t m) d)
       go (fails_3 a c d e) = inl refl
       go (fails_4 a c d e f) = inl refl
       go (fails_5 a c d e f h) = inl refl

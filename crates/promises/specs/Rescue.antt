@@ -1,10 +1,9 @@
 -- What is promised of the rescue call (request M-108). RescueLaws proves it, and RescueDeblockedLaws what is promised after deblocking.
 use Rattle.std.specs.Prelude.{◌*◌, ◌/◌, ◌≤◌, ◌<◌, ◌≡◌, ◌⊎◌}
-use Rattle.numbers.specs.Words.{ℕ, Bool, List, length, get_or}
+use Rattle.numbers.specs.Words.{ℕ, Bool, List, length, get_or, Err}
 use Rattle.lent.specs.Memory.{mode_width, strength_width, Memory, sizes_of}
-use Rattle.choices.specs.Choices.{Call, refusal_of, number_of}
+use Rattle.choices.specs.Choices.{Call, named, refusal_of, number_of}
 use Rattle.picture.specs.Picture.{picture_of}
-use Rattle.rescue.specs.declared.Rescued.TheVariants as R
 use Rattle.rescue.specs.Rescue.{rescue_refusal_of, RescueEnded, rescue_ended, rescue_of, rescue_number_of, saved_count_of}
 use Rattle.promises.specs.Stops.{macroblocks}
 use Rattle.promises.specs.Places.{Plane, plane_side, sample_of, mode_byte, strength_byte, block_at}
@@ -31,7 +30,8 @@ saved t m marks = saved_count_of (rescue_of t m marks).answer
 -- ---- refusals
 -- THE PROMISE, where an argument is refused: a number in 1..5, no macroblock saved, memory and marks as they were lent
 pub record RescueRefused (t : Call) (m : Memory) (marks : List ℕ) : Type 0 where
-  pub is : rescue_of t m marks ≡ rescue_ended (R.Refused (rescue_refusal t m marks)) m marks
+  pub is : rescue_of t m marks ≡ rescue_ended (Err (named (rescue_refusal t m marks))) m marks
+  pub number : rescue_number_of (rescue_of t m marks).answer ≡ rescue_refusal t m marks
   pub least : 1 ≤ rescue_refusal t m marks
   pub most : rescue_refusal t m marks ≤ 5
 

@@ -1,13 +1,15 @@
 -- The laws of the rescue call's checks: they are the picture call's, the fourth of which covers the marks too.
 use Rattle.std.specs.Prelude.{◌*◌, ◌/◌, ◌≤◌, ◌<◌, ◌≡◌, ◌&&◌, ◌⊎◌, ◌∷◌}
-use Rattle.numbers.specs.Words.{ℕ, arith, refl, sym, ◌∙◌, ap, Bool, true, false, inl, inr, ⊎_elim, eqb, eq-eqb, eqb-true, ne_eqb, []}
+use Rattle.numbers.specs.Words.{ℕ, arith, refl, sym, ◌∙◌, ap, Bool, true, false, inl, inr, ⊎_elim, eqb, eq-eqb, eqb-true, ne_eqb, [], Ok, Err}
 use Rattle.header.specs.Header.{entries_of}
 use Rattle.tile.specs.Tile.{sides_of, count_of, partitions_of, blocks_of}
 use Rattle.lent.specs.declared.sizes.Sizes.{Sizes}
 use Rattle.lent.specs.Memory.{mode_width}
-use Rattle.choices.specs.Choices.{Call, Lengths, lengths_of, failed, refusal_of}
-use Rattle.choices.specs.ChoicesLaws.{refusal_most, fine_lengths, refused_partitions}
-use Rattle.rescue.specs.Rescue.{rescue_refusal_of}
+use Rattle.choices.specs.declared.answer.Refusal.{Refusal}
+use Rattle.choices.specs.declared.answer.Refusal.TheVariants as Refusal
+use Rattle.choices.specs.Choices.{Call, Lengths, lengths_of, failed, refusal_of, refusal_number_of, told_by, checked_of}
+use Rattle.choices.specs.ChoicesLaws.{refusal_most, fine_lengths, refused_partitions, checks_passed, check_fails, check_number}
+use Rattle.rescue.specs.Rescue.{rescue_refusal_of, rescue_checked_of}
 
 -- ---- five tests, and a sixth beside the fourth
 module _ (a b c d e : Bool) where
@@ -89,6 +91,28 @@ module _ (t : Call) (z : Sizes) (marks : ℕ) where
   past : (refusal_of t z ≡ 0) ⊎ (5 ≤ refusal_of t z) → z.modes / mode_width ≡ blocks_of w h
   past (inl e) = by_modes (fine_lengths t z e)
   past (inr e) = by_modes (refused_partitions t z (omega (arith, refusal_most t z))).3
+
+  -- by name: none of the picture call's checks fails
+  module _ {u : Unit {0}} (e : Ok u ≡ checked_of t z) where
+    pub passed_wrong : (marks ≡ z.modes / mode_width → ⊥) → Err Refusal.Memory ≡ rescue_checked_of t z marks
+    passed_wrong n = let x : (refusal_of t z ≡ 0) ⊎ (5 ≤ refusal_of t z) = inl (checks_passed t z e) in ap told_by (rescue_wrong x (λ f. n (f ∙ sym (past x))))
+
+    pub passed_right : marks ≡ z.modes / mode_width → Ok u ≡ rescue_checked_of t z marks
+    passed_right f = e ∙ ap told_by (rescue_right (f ∙ past (inl (checks_passed t z e))))
+
+  -- one fails
+  module _ {r : Refusal} (e : Err r ≡ checked_of t z) where
+    pub refused_early : refusal_number_of r < 5 → Err r ≡ rescue_checked_of t z marks
+    refused_early h = e ∙ ap told_by (rescue_early (check_fails t z e) (omega (arith, check_number t z e)))
+
+    late : 5 ≤ refusal_number_of r → (refusal_of t z ≡ 0) ⊎ (5 ≤ refusal_of t z)
+    late h = inr (omega (arith, check_number t z e))
+
+    pub refused_wrong : 5 ≤ refusal_number_of r → (marks ≡ z.modes / mode_width → ⊥) → Err Refusal.Memory ≡ rescue_checked_of t z marks
+    refused_wrong h n = ap told_by (rescue_wrong (late h) (λ f. n (f ∙ sym (past (late h)))))
+
+    pub refused_right : 5 ≤ refusal_number_of r → marks ≡ z.modes / mode_width → Err r ≡ rescue_checked_of t z marks
+    refused_right h f = e ∙ ap told_by (rescue_right (f ∙ past (late h)))
 
   module _ {n : ℕ} (e : n ≡ refusal_of t z) where
     at : (n ≡ 0) ⊎ (5 ≤ n) → (refusal_of t z ≡ 0) ⊎ (5 ≤ refusal_of t z)

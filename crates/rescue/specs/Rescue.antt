@@ -2,7 +2,7 @@
 -- its modes, without a residual and counted empty, and no other partition's tokens are read; where the first partition runs out the rest stays
 -- grey. A mark for each macroblock says which it is.
 use Rattle.std.specs.Prelude.{◌+◌, ◌-◌, ◌&&◌, ◌∷◌}
-use Rattle.numbers.specs.Words.{ℕ, zero, suc, true, false, eqb, ltb, List, [], length, build, Ok, Err}
+use Rattle.numbers.specs.Words.{ℕ, zero, suc, true, false, eqb, ltb, List, [], length, build, Result, Ok, Err}
 use Rattle.reader.specs.declared.boolean.Reader.{Reader}
 use Rattle.reader.specs.ReadingLaws.{Valid}
 use Rattle.header.specs.Header.{entries_of}
@@ -12,11 +12,10 @@ use Rattle.lent.specs.Memory.{Memory, sizes_of}
 use Rattle.macroblock.specs.Macroblock.{Step, finished, no_modes, no_tokens}
 use Rattle.macroblock.specs.Rebuilt.{rebuilt_of}
 use Rattle.choices.specs.declared.answer.Stop.TheVariants as Stop
-use Rattle.choices.specs.Choices.{Call, lengths_of, failed, values_of, Decoded}
+use Rattle.choices.specs.declared.answer.Refusal.{Refusal}
+use Rattle.choices.specs.Choices.{Call, lengths_of, failed, named, refusal_number_of, told_by, values_of, Decoded}
 use Rattle.picture.specs.Picture.{Picture, State, pictured_of, column_of, partition_of, planes_in, place_of, readers_at, around_at, next_of}
 use Rattle.picture.specs.Halt.{Halted, halted_of}
-use Rattle.rescue.specs.declared.Rescued.{Rescued}
-use Rattle.rescue.specs.declared.Rescued.TheVariants as R
 
 -- ---- 1 to 5 as the picture call checks them, 4 also covering the marks: a byte a macroblock
 unfoldable pub rescue_refusal_of : Call → Sizes → (marks : ℕ) → ℕ
@@ -28,6 +27,10 @@ rescue_refusal_of c z marks =
     ∷ (lengths_of c z && eqb marks (blocks_of c.tile.width c.tile.height))
     ∷ partitions_of c.bytes c.tile
     ∷ [])
+
+-- the same by name
+abbrev pub rescue_checked_of : Call → Sizes → (marks : ℕ) → Result (Unit {0}) Refusal
+rescue_checked_of c z marks = told_by (rescue_refusal_of c z marks)
 
 -- ---- after the stop
 -- a reader that is in range in some partition: it stays so, since it is not read
@@ -73,7 +76,11 @@ mark_of_of whole saved i = elim (ltb i whole) [ true ↦ 0 | false ↦ elim (ltb
 unfoldable pub marks_of : (M whole saved : ℕ) → List ℕ
 marks_of M whole saved = build M (mark_of_of whole saved)
 
--- ---- the answer, with the lent memory and the marks
+-- ---- the answer, with the lent memory and the marks: so many macroblocks are not grey, or the argument that was refused
+abbrev pub Rescued : Type 0
+Rescued = Result ℕ Refusal
+
+-- the three
 pub record RescueEnded : Type 0 where
   pub answer : Rescued
   pub mem : Memory
@@ -85,7 +92,7 @@ rescue_ended answer mem marks = record { answer = answer; mem = mem; marks = mar
 
 -- what is told where no argument is refused: M macroblocks, the picture call's end, and how far it came after that
 abbrev pub rescued : (M : ℕ) → Halted → Saved → RescueEnded
-rescued M h s = rescue_ended (R.Saved s.count) s.mem (marks_of M (values_of h.answer) s.count)
+rescued M h s = rescue_ended (Ok s.count) s.mem (marks_of M (values_of h.answer) s.count)
 
 -- how far a call comes after its stop
 abbrev pub saved_of : Call → Memory → Saved
@@ -96,15 +103,15 @@ unfoldable pub rescue_of : Call → Memory → (marks : List ℕ) → RescueEnde
 rescue_of c m marks =
     elim (rescue_refusal_of c (sizes_of m) (length marks)) [
       | zero ↦ rescued (blocks_of c.tile.width c.tile.height) (halted_of c m) (saved_of c m)
-      | suc n ↦ rescue_ended (R.Refused (suc n)) m marks
+      | suc n ↦ rescue_ended (Err (named (suc n))) m marks
     ]
 
 -- ---- the answer as a number
 abbrev pub rescue_number_of : Rescued → ℕ
-rescue_number_of (R.Saved n) = 0
-rescue_number_of (R.Refused n) = n
+rescue_number_of (Ok n) = 0
+rescue_number_of (Err r) = refusal_number_of r
 
 -- the macroblocks marked 0 or 1; 0 where an argument is refused
 abbrev pub saved_count_of : Rescued → ℕ
-saved_count_of (R.Saved n) = n
-saved_count_of (R.Refused n) = 0
+saved_count_of (Ok n) = n
+saved_count_of (Err r) = 0

@@ -1,6 +1,6 @@
 -- The laws of the rescue call: one macroblock after the stop, one turn of the recursion, the marks, the call.
 use Rattle.std.specs.Prelude.{◌+◌, ◌*◌, ◌/◌, ◌%◌, ◌≤◌, ◌<◌, ◌≡◌}
-use Rattle.numbers.specs.Words.{ℕ, zero, suc, arith, refl, sym, ◌∙◌, ap, ap₂, subst, le-ltb, lt-ltb, List, length, get_or, build, length_build, get_or_build}
+use Rattle.numbers.specs.Words.{ℕ, zero, suc, arith, refl, sym, ◌∙◌, ap, ap₂, subst, le-ltb, lt-ltb, List, length, get_or, build, length_build, get_or_build, Ok, Err}
 use Rattle.reader.specs.declared.boolean.Reader.{Reader}
 use Rattle.reader.specs.Reading.{no_reader_of}
 use Rattle.reader.specs.ReadingLaws.{Bytes, Valid}
@@ -16,7 +16,8 @@ use Rattle.macroblock.specs.Rebuilt.{rebuilt_of, rebuild_call_of}
 use Rattle.macroblock.specs.DecodeLaws.{ready_legible}
 use Rattle.macroblock.specs.RebuiltLaws.{rebuild_good, rebuilt_never, rebuilt_ends, rebuilt_outside, rebuilt_strength, with_token, rebuilt_token, rebuilt_token_none}
 use Rattle.macroblock.specs.StepLaws.{Elsewhere}
-use Rattle.choices.specs.Choices.{Call, values_of, beside_of}
+use Rattle.choices.specs.declared.answer.Refusal.{Refusal}
+use Rattle.choices.specs.Choices.{Call, named, told_by, values_of, beside_of}
 use Rattle.picture.specs.Picture.{Picture, State, pictured_of, column_of, partition_of, planes_in, place_of, readers_at, around_at, written, next_of, Turned, turned, Room, Shared, Live}
 use Rattle.picture.specs.declared.turn.Task.{Task}
 use Rattle.picture.specs.TurnLaws.{Ends, ends_from}
@@ -24,8 +25,7 @@ use Rattle.picture.specs.PictureLaws.{task_at, around_task, live_next, column_be
 use Rattle.picture.specs.Halt.{Halted, halted_of}
 use Rattle.picture.specs.HaltLaws.{Alive, halted_alive}
 use Rattle.rescue.specs.ChecksLaws.{rescue_fine}
-use Rattle.rescue.specs.declared.Rescued.TheVariants as R
-use Rattle.rescue.specs.Rescue.{Held, rescue_refusal_of, rebuilt_at, Saved, saved_at, rest_of, gone_on, mark_of_of, marks_of, rescue_ended, rescued, saved_of, rescue_of}
+use Rattle.rescue.specs.Rescue.{Held, rescue_refusal_of, rescue_checked_of, rebuilt_at, Saved, saved_at, rest_of, gone_on, mark_of_of, marks_of, rescue_ended, rescued, saved_of, rescue_of}
 
 -- ---- one macroblock
 -- the call, its arguments being good
@@ -131,11 +131,11 @@ marks_at M whole saved i h = get_or_build M (mark_of_of whole saved) i 0 h
 
 -- ---- the call
 module _ (t : Call) (m : Memory) (marks : List ℕ) {n : ℕ} (e : n ≡ rescue_refusal_of t (sizes_of m) (length marks)) where
-  pub rescue_bad : (n ≡ 0 → ⊥) → rescue_ended (R.Refused n) m marks ≡ rescue_of t m marks
+  pub rescue_bad : (n ≡ 0 → ⊥) → rescue_ended (Err (named n)) m marks ≡ rescue_of t m marks
   unfolding rescue_of
   rescue_bad f = go n e f
     where
-      go : (k : ℕ) → k ≡ rescue_refusal_of t (sizes_of m) (length marks) → (k ≡ 0 → ⊥) → rescue_ended (R.Refused k) m marks ≡ rescue_of t m marks
+      go : (k : ℕ) → k ≡ rescue_refusal_of t (sizes_of m) (length marks) → (k ≡ 0 → ⊥) → rescue_ended (Err (named k)) m marks ≡ rescue_of t m marks
       go zero e f = absurd (f refl)
       go (suc k) e f = rw (← e, rescue_of)
 
@@ -143,19 +143,35 @@ module _ (t : Call) (m : Memory) (marks : List ℕ) {n : ℕ} (e : n ≡ rescue_
   unfolding rescue_of
   rescue_good f = let z : rescue_refusal_of t (sizes_of m) (length marks) ≡ 0 = sym e ∙ f in rw (z, rescue_of)
 
+-- as the code finds its checks
+module _ (t : Call) (m : Memory) (marks : List ℕ) where
+  pub rescue_named : {r : Refusal} → Err r ≡ rescue_checked_of t (sizes_of m) (length marks) → rescue_ended (Err r) m marks ≡ rescue_of t m marks
+  rescue_named {r} f = go (rescue_refusal_of t (sizes_of m) (length marks)) f refl
+    where
+      go : (k : ℕ) → Err r ≡ told_by k → k ≡ rescue_refusal_of t (sizes_of m) (length marks) → rescue_ended (Err r) m marks ≡ rescue_of t m marks
+      go zero f e = cc
+      go (suc k) f e = let g : r ≡ named (suc k) = cc in rw g (rescue_bad t m marks e (λ z. omega arith))
+
+  pub rescue_passed : {u : Unit {0}} → Ok u ≡ rescue_checked_of t (sizes_of m) (length marks) → rescue_refusal_of t (sizes_of m) (length marks) ≡ 0
+  rescue_passed {u} f = go (rescue_refusal_of t (sizes_of m) (length marks)) f
+    where
+      go : (k : ℕ) → Ok u ≡ told_by k → k ≡ 0
+      go zero f = refl
+      go (suc k) f = cc
+
 -- as the code finds it: the picture call with its state, what comes after its stop, and the marks of both
 module _ (t : Call) (m : Memory) (marks : List ℕ) (e : rescue_refusal_of t (sizes_of m) (length marks) ≡ 0) {H : Halted} (h : H ≡ halted_of t m) where
   pub alive_found : Bytes t.bytes → Alive (pictured_of t) (blocks_of t.tile.width t.tile.height) H
   alive_found y = rw h (halted_alive t m (rescue_fine t (sizes_of m) (length marks) e).0 y)
 
   pub rescue_found : {s : Saved} → s ≡ gone_on (blocks_of t.tile.width t.tile.height) (pictured_of t) H.answer H.state → {whole : ℕ} → whole ≡ values_of H.answer
-      → {l : List ℕ} → l ≡ marks_of (length marks) whole s.count → rescue_ended (R.Saved s.count) s.mem l ≡ rescue_of t m marks
+      → {l : List ℕ} → l ≡ marks_of (length marks) whole s.count → rescue_ended (Ok s.count) s.mem l ≡ rescue_of t m marks
   rescue_found {s} r w k =
       let z : s ≡ saved_of t m = r ∙ ap (λ (x : Halted). gone_on (blocks_of t.tile.width t.tile.height) (pictured_of t) x.answer x.state) h in
       let n = (rescue_fine t (sizes_of m) (length marks) e).1 in
       let v = w ∙ ap (λ (x : Halted). values_of x.answer) h in
       let g = k ∙ (λ i. marks_of (n i) (v i) (z i).count) in
-      (λ i. rescue_ended (R.Saved (z i).count) (z i).mem (g i)) ∙ sym (rescue_good t m marks (sym e) refl)
+      (λ i. rescue_ended (Ok (z i).count) (z i).mem (g i)) ∙ sym (rescue_good t m marks (sym e) refl)
 
 -- ---- after the stop only the first partition, the frame, the width and the form of the columns decide, not the token partitions or their readers
 module _ (P Q : Picture) (first : P.first ≡ Q.first) (frame : P.frame ≡ Q.frame) (wide : P.wide ≡ Q.wide) (form : P.form ≡ Q.form) where

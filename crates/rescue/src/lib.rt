@@ -15,36 +15,31 @@ ghost use Rattle.rescue.specs.Rescue.{rescue_ended, rescue_of, rescue_number_of,
 use crate::checks::refusal_with_marks;
 use crate::marks::mark;
 use crate::rest::rest;
-use choices::answer::finished;
+use choices::answer::{Refusal, finished};
 use lent::sizes::Sizes;
 use picture::halt;
 use tile::Tile;
 
-// How many macroblocks are not grey; or the argument that was refused, 1 to 5.
-#[derive(Clone, Copy)]
-pub enum Rescued {
-    Saved(usize),
-    Refused(u32),
+// How many macroblocks are not grey; or the argument that was refused.
+pub type Rescued = Result<usize, Refusal>;
+
+// Its number: 0 where no argument was refused.
+pub fn number(answer: Rescued) -> u32
+    ensures { result ≡ rescue_number_of answer }
+{
+    match answer {
+        Ok(_) => 0,
+        Err(refusal) => refusal.number(),
+    }
 }
 
-impl Rescued {
-    pub fn number(self) -> u32
-        ensures { result ≡ rescue_number_of self }
-    {
-        match self {
-            Rescued::Saved(_) => 0,
-            Rescued::Refused(n) => n,
-        }
-    }
-
-    // The macroblocks marked 0 or 1, 0 where an argument was refused.
-    pub fn saved(self) -> usize
-        ensures { result ≡ saved_count_of self }
-    {
-        match self {
-            Rescued::Saved(n) => n,
-            Rescued::Refused(_) => 0,
-        }
+// The macroblocks marked 0 or 1, 0 where an argument was refused.
+pub fn saved(answer: Rescued) -> usize
+    ensures { result ≡ saved_count_of answer }
+{
+    match answer {
+        Ok(n) => n,
+        Err(_) => 0,
     }
 }
 
@@ -78,9 +73,8 @@ pub fn rescue(
         modes: modes.len(),
         strengths: strengths.len(),
     };
-    let bad = refusal_with_marks(bytes, tile, header, sizes, marks.len());
-    if bad != 0 {
-        return Rescued::Refused(bad);
+    if let Err(bad) = refusal_with_marks(bytes, tile, header, sizes, marks.len()) {
+        return Err(bad);
     }
     let stop = halt(
         bytes,
@@ -99,5 +93,5 @@ pub fn rescue(
         bytes, tile, header, stop, y, u, v, columns, modes, strengths,
     );
     mark(marks, whole, saved);
-    Rescued::Saved(saved)
+    Ok(saved)
 }

@@ -1,10 +1,8 @@
 -- The answers of the calls as the numbers that C is told.
 use Rattle.numbers.specs.Words.{ℕ}
 use Rattle.macroblock.specs.declared.arguments.SymbolCounts.{SymbolCounts}
-use Rattle.rescue.specs.declared.Rescued.{Rescued}
-use Rattle.rescue.specs.Rescue.{rescue_number_of, saved_count_of}
-use Rattle.profile.specs.declared.Profiled.{Profiled}
-use Rattle.profile.specs.Profile.{profile_number_of, profile_rule_of, profile_block_of}
+use Rattle.rescue.specs.Rescue.{Rescued, rescue_number_of, saved_count_of}
+use Rattle.profile.specs.Profile.{Profiled, profile_number_of, profile_rule_of, profile_block_of}
 
 -- ---- the macroblocks finished, and the symbols read (M-103)
 pub record CountsTold : Type 0 where

@@ -1,10 +1,8 @@
 -- The laws of what C is told, of the answers as the code finds them.
 use Rattle.std.specs.Prelude.{◌≡◌}
 use Rattle.numbers.specs.Words.{ℕ}
-use Rattle.rescue.specs.declared.Rescued.{Rescued}
-use Rattle.rescue.specs.Rescue.{rescue_number_of, saved_count_of}
-use Rattle.profile.specs.declared.Profiled.{Profiled}
-use Rattle.profile.specs.Profile.{profile_number_of, profile_rule_of, profile_block_of}
+use Rattle.rescue.specs.Rescue.{Rescued, rescue_number_of, saved_count_of}
+use Rattle.profile.specs.Profile.{Profiled, profile_number_of, profile_rule_of, profile_block_of}
 use Rattle.told.specs.Told.{rescue_told, rescue_told_of, profile_told, profile_told_of}
 
 pub rescue_told_lem : (a : Rescued) {n k : ℕ} → n ≡ rescue_number_of a → k ≡ saved_count_of a → rescue_told n k ≡ rescue_told_of a

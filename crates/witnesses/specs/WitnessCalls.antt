@@ -1,7 +1,7 @@
 -- No group of promises is about nothing: one small call of each, computed. Tiles and memory are those of Witness; files are in webp's own table
 -- (crates/webp/specs/Worked.antt).
 use Rattle.std.specs.Prelude.{◌+◌, ◌≡◌, ◌∷◌, ◌++◌}
-use Rattle.numbers.specs.Words.{ℕ, refl, true, false, List, [], get_or, replicate, build, placed, copied, clamp_z, up_to, wrap_z}
+use Rattle.numbers.specs.Words.{ℕ, refl, true, false, List, [], get_or, replicate, build, placed, copied, clamp_z, up_to, wrap_z, Ok, Err}
 use Rattle.reader.specs.Reading.{valid_of, symbol_of, split_of, grow, decided_of, run}
 use Rattle.lent.specs.Memory.{long_of, sizes_fine_of, record_at, record_set}
 use Rattle.tile.specs.Tile.{span_at_of, contents_of, pick_of, reader_of_of, readers_of, side_of, sides_of, count_of, inside_of, tokens_fine, partitions_of}
@@ -9,9 +9,8 @@ use Rattle.choices.specs.Choices.{lengths_of, failed, refusal_of, beside_of}
 use Rattle.header.specs.Header.{fine_to, entries_of}
 use Rattle.picture.specs.Halt.{halt_of, halted_of}
 use Rattle.macroblock.specs.Rebuilt.{rebuilt_of}
-use Rattle.rescue.specs.declared.Rescued.TheVariants as R
 use Rattle.rescue.specs.Rescue.{rescue_refusal_of, rebuilt_at, rest_of, mark_of_of, marks_of, rescue_of}
-use Rattle.profile.specs.declared.Profiled.TheVariants as P
+use Rattle.profile.specs.declared.Misfit.TheVariants as P
 use Rattle.profile.specs.Profile.{size_fits_of, count_fits_of, tile_rules_of, profile_of}
 use Rattle.filter.specs.declared.answers.Rule.TheVariants.{MacroblockEdge}
 use Rattle.filter.specs.Kernel.{filter_of, moved_of, steps_of, no_steps, common_steps_of, macroblock_steps_of, inner_steps_of, sides, part, half, eighth, tapped, across, rule_of, high_variance_of, rough_at, smooth, first_false, within_limit_of}
@@ -37,12 +36,12 @@ use Rattle.transform.specs.Transform.{grid_of, transpose_of, scaled_of, pass_of,
 use Rattle.witnesses.specs.Witness.{held_of, whole, cut}
 
 -- ---- rescuing: the tile whose token partition 1 was cut away; its second macroblock is rebuilt from its modes
-pub rescued_cut : ((rescue_of cut (held_of 2 9) (9 ∷ 9 ∷ [])).answer ≡ R.Saved 2) × ((rescue_of cut (held_of 2 9) (9 ∷ 9 ∷ [])).marks ≡ 0 ∷ 1 ∷ [])
+pub rescued_cut : ((rescue_of cut (held_of 2 9) (9 ∷ 9 ∷ [])).answer ≡ Ok 2) × ((rescue_of cut (held_of 2 9) (9 ∷ 9 ∷ [])).marks ≡ 0 ∷ 1 ∷ [])
 unfolding rescue_of rescue_refusal_of rebuilt_at rest_of mark_of_of marks_of halt_of halted_of rebuilt_of refusal_of failed sides_of side_of count_of entries_of fine_to lengths_of sizes_fine_of long_of partitions_of inside_of tokens_fine valid_of build up_to clamp_z placed copied wrap_z announced_of frame_of segmented_of delta_of level_of_of factors_of_of dc_steps ac_steps symbol_of split_of grow decided_of run extra_from walk step eleven_at probabilities rfc_table modes_of prefix segment skip mode_above_of mode_left_of small_from small_modes_of categories bases magnitude signed_value bands zigzag probability_place quantizer_at context_after block_from header_table coordinates kind_of spread second sixteen_at advance blocks_from residual_of record_at record_set packed_of digits_of end_of step_of contents_of span_at_of pick_of reader_of_of readers_of beside_of step_at run_of near_of four_above_of four_left_of first_places edge_of above_right_of block_above_right_of around_of rows_painted block_coefficients block_residual summed_of block_painted blocks_painted small_at prediction_rule square_painted dc_block_of sum_of_first grid_of transpose_of scaled_of pass_of rows_of vertical_pass horizontal_pass results_of samples_of
 rescued_cut = (refl, refl)
 
 -- ---- the profile: a tile that is not 256 by 256 fails rule 1
-pub profiled_small : (profile_of (whole 0) (held_of 2 7)).answer ≡ P.Rule 1
+pub profiled_small : (profile_of (whole 0) (held_of 2 7)).answer ≡ Err (P.Rule 1)
 unfolding profile_of tile_rules_of size_fits_of count_fits_of failed
 profiled_small = refl
 

@@ -1,7 +1,7 @@
-use Rattle.numbers.specs.Words.{arith, refl, sym, ◌∙◌}
+use Rattle.numbers.specs.Words.{arith, refl}
 use Rattle.lent.specs.Memory.{memory_of, sizes_of}
 use Rattle.choices.specs.Choices.{call_of}
-use Rattle.choices.specs.ChoicesLaws.{checks_passed, check_fails, check_number}
+use Rattle.choices.specs.ChoicesLaws.{checks_passed, check_fails, check_named}
 use Rattle.profile.specs.ProfileLaws.{profile_early, profile_refused, profile_late, profile_decoded}
 use Rattle.profile.proofs.profile.Goals as goal
 
@@ -17,8 +17,7 @@ pub returns-in-Err : goal.returns-in-Err
 returns-in-Err c =
     let t = call_of c.args.bytes.now c.args.tile c.args.header.now in
     let m = memory_of c.args.y.now c.args.u.now c.args.v.now c.args.columns.now c.args.modes.now c.args.strengths.now in
-    let n = c.number.ensures ∙ check_number t (sizes_of m) c.in-Err.ensures in
-    profile_refused t m c.tile_rules-early.ensures c.if-early-ne0.false n (λ z. check_fails t (sizes_of m) c.in-Err.ensures (sym n ∙ z))
+    rw (check_named t (sizes_of m) c.in-Err.ensures) (profile_refused t m c.tile_rules-early.ensures c.if-early-ne0.false refl (check_fails t (sizes_of m) c.in-Err.ensures))
 
 -- the header's rules fail
 pub returns-then-late-ne0 : goal.returns-then-late-ne0
