@@ -8,7 +8,7 @@ ghost use Rattle.reader.specs.Reading.{to_read, Valid, run, count};
 ghost use Rattle.coefficients.specs.Block.{category, magnitude, sign_of, bands, probability_place, quantizer_at, context_after, magnitude_of, signed_value, signed_of, numeric_of, number_answer, signed_answer, block_of, sixteen_bits, block_arguments, block_call_of, block_by_header_of, table_of, block, block_reads, block_by_header_reads};
 
 use header::entries::{COEFFICIENT_PROBABILITY, ENTRY_COUNT, PROBABILITY_COUNT, probability};
-use numbers::{Checked, Wrapped, wrap16};
+use numbers::{Checked, wrap16};
 use reader::boolean::{Counted, Read, Reader, Unread, valid};
 use reader::extra::extra_bits;
 use reader::token::walk_token;
@@ -93,10 +93,7 @@ fn wrapped(x: i64) -> i32
     requires { In (negsuc 999999999) (pos 1000000000) x }
     ensures { result ≡ wrap_z x }
 {
-    let Wrapped::Value(z) = wrap16(x) else {
-        return 0;
-    };
-    z
+    wrap16(x).unwrap_or(0)
 }
 
 // A number with its sign, times the quantizer, in 16 bits.

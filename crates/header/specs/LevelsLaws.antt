@@ -1,8 +1,7 @@
 -- The laws of filter levels: the range, and the answer with good arguments.
 use Rattle.std.specs.Prelude.{◌+◌, ◌≤◌, ◌<◌, ◌≡◌, ◌&&◌, ◌+ℤ◌}
-use Rattle.numbers.specs.Words.{ℕ, Bool, true, false, ltb, both_true, both_false, le-ltb, lt-ltb, List, ℤ, pos, negsuc, In, Each, In_wider, num, plainly, know_add, inside, up_to, up_to_le}
+use Rattle.numbers.specs.Words.{ℕ, Some, None, Bool, true, false, ltb, both_true, both_false, le-ltb, lt-ltb, List, ℤ, pos, negsuc, In, Each, In_wider, num, plainly, know_add, inside, up_to, up_to_le}
 use Rattle.header.specs.Header.{segment_level, frame_level, deltas_on, intra_delta, small_delta, present_at_of, header_of}
-use Rattle.header.specs.declared.levels.Level.TheVariants as L
 use Rattle.header.specs.Own.{segmented_of}
 use Rattle.header.specs.Levels.{level_deltas, delta_of, level_of_of, level_answer}
 
@@ -24,18 +23,18 @@ module _ (h : List ℤ) (small : Bool) where
   delta_on e = rw (e, delta_of)
 
 module _ (h : List ℤ) (segment : ℕ) (small : Bool) where
-  pub level_good : header_of h ≡ true → segment < 4 → level_answer h segment small ≡ L.Of (level_of_of h segment small)
+  pub level_good : header_of h ≡ true → segment < 4 → level_answer h segment small ≡ Some (level_of_of h segment small)
   unfolding level_answer
   level_good e l = rw (both_true e (lt-ltb _ _ l), level_answer)
 
-  refused : header_of h && ltb segment 4 ≡ false → L.Refused ≡ level_answer h segment small
+  refused : header_of h && ltb segment 4 ≡ false → None ≡ level_answer h segment small
   unfolding level_answer
   refused e = rw (e, level_answer)
 
-  pub level_header : header_of h ≡ false → L.Refused ≡ level_answer h segment small
+  pub level_header : header_of h ≡ false → None ≡ level_answer h segment small
   level_header e = refused (rw e)
 
-  pub level_none : 4 ≤ segment → L.Refused ≡ level_answer h segment small
+  pub level_none : 4 ≤ segment → None ≡ level_answer h segment small
   level_none l = refused (both_false (header_of h) (le-ltb _ _ l))
 
 -- what the deltas add stays small

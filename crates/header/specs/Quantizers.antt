@@ -1,12 +1,10 @@
 -- Quantizers (RFC 6386, sections 9.6, 2037-2050, and 14.1, 4251-4310, which points to the source, 20.4, 7996-8072, for scaling and
 -- clamping): what each kind of coefficient is multiplied by in a segment.
 use Rattle.std.specs.Prelude.{◌+◌, ◌*◌, ◌/◌, ◌&&◌, ◌∷◌, ◌+ℤ◌}
-use Rattle.numbers.specs.Words.{ℕ, min, max, true, false, ltb, List, [], get_or, ℤ, pos, up_to}
+use Rattle.numbers.specs.Words.{ℕ, Option, Some, None, min, max, true, false, ltb, List, [], get_or, ℤ, pos, up_to}
 use Rattle.header.specs.Header.{segment_index, base_index, ydc_delta, y2dc_delta, y2ac_delta, uvdc_delta, uvac_delta, entry, header_of}
 use Rattle.header.specs.Own.{segmented_of}
 pub use Rattle.header.specs.declared.quantizers.Factors.{Factors}
-use Rattle.header.specs.declared.quantizers.Quantizers.{Quantizers}
-use Rattle.header.specs.declared.quantizers.Quantizers.TheVariants as Q
 
 -- ---- section 14.1: the steps by index, dc_qlookup (4276-4288) and ac_qlookup (4290-4302)
 unfoldable pub dc_steps : List ℕ
@@ -67,13 +65,13 @@ factors_of_of h segment =
     }
 
 -- `for_segment`: refused where the header is not fine or there is no such segment
-unfoldable pub quantizers_of : List ℤ → ℕ → Quantizers
-quantizers_of h segment = elim (header_of h && ltb segment 4) [ true ↦ Q.Ready (factors_of_of h segment) | false ↦ Q.Refused ]
+unfoldable pub quantizers_of : List ℤ → ℕ → Option Factors
+quantizers_of h segment = elim (header_of h && ltb segment 4) [ true ↦ Some (factors_of_of h segment) | false ↦ None ]
 
 -- the answer's number: 0, or 9 for an argument that is refused
-abbrev pub quantizers_number_of : Quantizers → ℕ
-quantizers_number_of (Q.Ready f) = 0
-quantizers_number_of Q.Refused = 9
+abbrev pub quantizers_number_of : Option Factors → ℕ
+quantizers_number_of (Some f) = 0
+quantizers_number_of None = 9
 
 -- what stands for the factors after a refusal: zeros
 abbrev pub no_factors : Factors

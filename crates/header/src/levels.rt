@@ -11,13 +11,6 @@ use crate::entries::{
 use crate::own::segmented;
 use numbers::clamp_to;
 
-// The filter level, or an argument that is refused.
-#[derive(Clone, Copy)]
-pub enum Level {
-    Of(u8),
-    Refused,
-}
-
 // What the deltas add: the intra delta, and the small delta where the modes are small.
 fn delta(h: &[i32], small: bool) -> i32
     requires h_len { length h.now ≡ entry_count }
@@ -52,15 +45,15 @@ pub(crate) fn leveled(h: &[i32], segment: usize, small: bool) -> u8
     )
 }
 
-// The level, 0..63, of the macroblocks of a segment 0..3.
-pub fn for_macroblock(h: &[i32], segment: usize, small: bool) -> Level
+// The level, 0..63, of the macroblocks of a segment 0..3; none where an argument is refused.
+pub fn for_macroblock(h: &[i32], segment: usize, small: bool) -> Option<u8>
     ensures { result ≡ level_answer h.now segment small }
 {
     if !header_fine(h) {
-        return Level::Refused;
+        return None;
     }
     if 4 <= segment {
-        return Level::Refused;
+        return None;
     }
-    Level::Of(leveled(h, segment, small))
+    Some(leveled(h, segment, small))
 }

@@ -23,13 +23,6 @@ pub struct Factors {
     pub uvac: u16,
 }
 
-// The six factors, or an argument that is refused.
-#[derive(Clone, Copy)]
-pub enum Quantizers {
-    Ready(Factors),
-    Refused,
-}
-
 // The DC and AC steps by index (section 14.1).
 const DC: [[u16; 8]; 16] = [
     [4, 5, 6, 7, 8, 9, 10, 10],
@@ -149,15 +142,15 @@ pub(crate) fn six(h: &[i32], segment: usize) -> Factors
     }
 }
 
-// The factors of a segment 0..3.
-pub fn for_segment(h: &[i32], segment: usize) -> Quantizers
+// The factors of a segment 0..3; none where an argument is refused.
+pub fn for_segment(h: &[i32], segment: usize) -> Option<Factors>
     ensures { result ≡ quantizers_of h.now segment }
 {
     if !header_fine(h) {
-        return Quantizers::Refused;
+        return None;
     }
     if 4 <= segment {
-        return Quantizers::Refused;
+        return None;
     }
-    Quantizers::Ready(six(h, segment))
+    Some(six(h, segment))
 }

@@ -46,7 +46,7 @@ pub use Rattle.numbers.specs.Clamp.{clip_z, signed_to, signed_byte_z}
 pub use Rattle.numbers.specs.ClampLaws.{clamp_tests, clamp_cases, clamp_in, clamp_same, clamp_low, clamp_high, up_to_is, up_to_abs, up_to_le, up_to_same, signed_in}
 unfoldable pub use Rattle.numbers.specs.Wrap.{wrap_z, wrap16_of}
 pub use Rattle.numbers.specs.Wrap.{wrap16_number_of, signed16}
-pub use Rattle.numbers.specs.WrapLaws.{wrap_in, wrap_is, wrapped_source, wrapped_value, wrapped_never}
+pub use Rattle.numbers.specs.WrapLaws.{wrap_in, wrap_is, wrapped_source, wrapped_good, wrapped_value, wrapped_never}
 pub use Rattle.numbers.specs.Checked.{checked_number_of}
 -- the code's values, and what a proof of code must show
 pub use Rattle.std.specs.Int.{w8, w16, w32, w64}

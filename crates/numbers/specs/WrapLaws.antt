@@ -1,10 +1,9 @@
 -- Laws of wrapping: what determines the wrapped number, that it is the source's, and what a caller learns of the call's answer.
-use Rattle.std.specs.Prelude.{◌≡◌, ℕ, ℤ, pos, negsuc, ◌+ℤ◌, ◌-ℤ◌, ◌*ℤ◌, ◌≤ℤ◌}
+use Rattle.std.specs.Prelude.{◌≡◌, ℕ, Some, None, ℤ, pos, negsuc, ◌+ℤ◌, ◌-ℤ◌, ◌*ℤ◌, ◌≤ℤ◌}
 use Rattle.std.proofs.Common.{ap, ◌∙◌, arith, lit<}
 use Rattle.std.proofs.Math.Nat.{mod-add-div}
 use Rattle.std.proofs.Math.IntN.{+ℤ-neg_ℤ_cancel}
 use Rattle.std.specs.Int.Signed.{lt_z, shr_z, quot_z, rem_z}
-use Rattle.numbers.specs.declared.Wrapped.TheVariants.{Value, Refused}
 use Rattle.numbers.specs.Tests.{cond_at}
 use Rattle.numbers.specs.In.{In}
 use Rattle.numbers.specs.Parts.{up, dn, to_le, of_le, of_eq, lt_parts, nlt_le, le_true, add_parts, sub_parts_ℤ, up_times, dn_times}
@@ -77,12 +76,12 @@ wrapped_source {v} i =
 
 -- within a thousand million the call answers the wrapped number, so a caller that matches on the answer has it and is never refused
 module _ {v : ℤ} (i : In (negsuc 999999999) (pos 1000000000) v) where
-  pub wrapped_good : wrap16_of v ≡ Value (wrap_z v)
+  pub wrapped_good : wrap16_of v ≡ Some (wrap_z v)
   unfolding wrap16_of
   wrapped_good = rw (le_true i.low, le_true i.high)
 
-  pub wrapped_value : {z : ℤ} → wrap16_of v ≡ Value z → z ≡ wrap_z v
+  pub wrapped_value : {z : ℤ} → wrap16_of v ≡ Some z → z ≡ wrap_z v
   wrapped_value e = cc wrapped_good
 
-  pub wrapped_never : wrap16_of v ≡ Refused → ⊥
+  pub wrapped_never : wrap16_of v ≡ None → ⊥
   wrapped_never e = let z : ◌≡◌ {A = ℕ} 0 1 = cc wrapped_good in omega arith

@@ -14,26 +14,19 @@ pub enum Checked {
     Refused,
 }
 
-// A number in 16 bits, or an argument that is refused.
-#[derive(Clone, Copy)]
-pub enum Wrapped {
-    Value(i32),
-    Refused,
-}
-
-// v modulo 65536, in -32768..32767. The multiple of 65536 that is added keeps what is divided positive.
-pub fn wrap16(v: i64) -> Wrapped
+// v modulo 65536, in -32768..32767; none beyond a thousand million, either way. The multiple of 65536 that is added keeps what is divided positive.
+pub fn wrap16(v: i64) -> Option<i32>
     ensures { result ≡ wrap16_of v }
 {
     if (-1000000000 <= v) & (v <= 1000000000) {
         let u = (v + 4294967296) % 65536;
         if u < 32768 {
-            Wrapped::Value(u as i32)
+            Some(u as i32)
         } else {
-            Wrapped::Value((u - 65536) as i32)
+            Some((u - 65536) as i32)
         }
     } else {
-        Wrapped::Refused
+        None
     }
 }
 

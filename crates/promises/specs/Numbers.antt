@@ -3,7 +3,6 @@
 -- and the deblocking call have more of their own, in Refusals, Stops and Deblocked.
 use Rattle.std.specs.Prelude.{◌+◌, ◌*◌, ◌≤◌, ◌<◌, ◌≡◌, ◌&&◌}
 use Rattle.numbers.specs.Words.{ℕ, Bool, true, false, eqb, ltb, leb, List, length, get_or, replicate, ℤ, pos, negsuc, le_z, wrap_z, wrap16_of, wrap16_number_of, checked_number_of, Some, None, Err}
-use Rattle.numbers.specs.declared.Wrapped.TheVariants as Wrapped
 use Rattle.reader.specs.declared.boolean.Reader.{Reader}
 use Rattle.reader.specs.Reading.{Given, given, missing, valid_of, symbol_of, to_read, symbol_answer, read_number_of, run}
 use Rattle.reader.specs.Trees.{tree_of, walk, walk_answer}
@@ -12,9 +11,7 @@ use Rattle.reader.specs.Token.{token, eleven_at, token_answer}
 use Rattle.reader.specs.declared.boolean.Unread.TheVariants as Unread
 use Rattle.header.specs.Header.{entry_count, header_of}
 use Rattle.header.specs.Quantizers.{factors_of_of, quantizers_of, quantizers_number_of}
-use Rattle.header.specs.declared.quantizers.Quantizers.TheVariants as Quantizers
 use Rattle.header.specs.Levels.{level_of_of, level_answer, level_number_of}
-use Rattle.header.specs.declared.levels.Level.TheVariants as Level
 use Rattle.header.specs.Frame.{announced_of, frame_of, no_frame, framed_of, factors_at}
 use Rattle.header.specs.declared.frame.Announced.{Announced}
 use Rattle.header.specs.declared.frame.Frame.{Frame}
@@ -120,7 +117,7 @@ pub record WrapNumbers (frame out : List ℕ) : Type 0 where
 -- THE PROMISE: a field for each public call, by its path
 pub record Numbers : Type 0 where
   -- numbers::wrap16: beyond a thousand million, either way
-  pub wrap16 : (v : ℤ) → RefusedOr 9 (le_z (negsuc 999999999) v && le_z v (pos 1000000000)) (wrap16_number_of (wrap16_of v)) (wrap16_of v) Wrapped.Refused (Wrapped.Value (wrap_z v))
+  pub wrap16 : (v : ℤ) → RefusedOr 9 (le_z (negsuc 999999999) v && le_z v (pos 1000000000)) (wrap16_number_of (wrap16_of v)) (wrap16_of v) None (Some (wrap_z v))
   -- ---- reader: a missing byte is whatever number the layer above gives it
   -- reader::boolean::Reader::symbol
   pub symbol : (short : ℕ) (s : List ℕ) (r : Reader) (prob : ℕ)
@@ -136,9 +133,9 @@ pub record Numbers : Type 0 where
       → Answered short (valid_of s r && leb (at + 11) (length table)) (run (token (eleven_at table at) z) s r) (token_answer s table at z r) (read_number_of short) to_read (Err Unread.Refused)
   -- ---- header: 9
   -- header::quantizers::for_segment
-  pub for_segment_lem : (h : List ℤ) (segment : ℕ) → RefusedOr 9 (header_of h && ltb segment 4) (quantizers_number_of (quantizers_of h segment)) (quantizers_of h segment) Quantizers.Refused (Quantizers.Ready (factors_of_of h segment))
+  pub for_segment_lem : (h : List ℤ) (segment : ℕ) → RefusedOr 9 (header_of h && ltb segment 4) (quantizers_number_of (quantizers_of h segment)) (quantizers_of h segment) None (Some (factors_of_of h segment))
   -- header::levels::for_macroblock
-  pub for_macroblock_lem : (h : List ℤ) (segment : ℕ) (small : Bool) → RefusedOr 9 (header_of h && ltb segment 4) (level_number_of (level_answer h segment small)) (level_answer h segment small) Level.Refused (Level.Of (level_of_of h segment small))
+  pub for_macroblock_lem : (h : List ℤ) (segment : ℕ) (small : Bool) → RefusedOr 9 (header_of h && ltb segment 4) (level_number_of (level_answer h segment small)) (level_answer h segment small) None (Some (level_of_of h segment small))
   -- header::frame::take
   pub header_take : (h : List ℤ) → RefusedOr 9 (header_of h) (checked_number_of (framed_of h).answer) (framed_of h).frame no_frame (frame_of h)
   -- ---- coefficients: a missing byte is 7

@@ -1,6 +1,6 @@
 -- The residual one part at a time: what a part that the code read makes of the state, and what is then left to read.
 use Rattle.std.specs.Prelude.{◌+◌, ◌*◌, ◌≤◌, ◌<◌, ◌≡◌, ◌&&◌}
-use Rattle.numbers.specs.Words.{ℕ, zero, suc, add-one, arith, refl, sym, ◌∙◌, ap, ap₂, Bool, true, false, inl, inr, eqb, ltb, leb, lt_or, both_left, both_right, both_true, eq-eqb, eqb-true, le-leb, leb-true, List, length, get_or, set, replicate, get_or-eq_default, placed, placed_next, all_below, all_below_lem, ℤ, pos}
+use Rattle.numbers.specs.Words.{ℕ, Option, Some, None, zero, suc, add-one, arith, refl, sym, ◌∙◌, ap, ap₂, Bool, true, false, inl, inr, eqb, ltb, leb, lt_or, both_left, both_right, both_true, eq-eqb, eqb-true, le-leb, leb-true, List, length, get_or, set, replicate, get_or-eq_default, placed, placed_next, all_below, all_below_lem, ℤ, pos}
 use Rattle.header.specs.Header.{probability_count, header_of}
 use Rattle.reader.specs.declared.boolean.Reader.{Reader}
 use Rattle.reader.specs.Reading.{Given, given, missing, valid_of, run, count}
@@ -11,8 +11,6 @@ use Rattle.reader.specs.CountsLaws.{took_done, took_stops, took_then, took_ends}
 use Rattle.header.specs.declared.quantizers.Factors.{Factors}
 use Rattle.header.specs.Quantizers.{factors_of_of, quantizers_of}
 use Rattle.header.specs.QuantizersLaws.{segment_ready, segment_refused}
-use Rattle.header.specs.declared.quantizers.Quantizers.{Quantizers}
-use Rattle.header.specs.declared.quantizers.Quantizers.TheVariants as Q
 use Rattle.coefficients.specs.BlockLaws.{Sixteen, Good, decoded, decode_reads_lem}
 use Rattle.coefficients.specs.BlockSteps.{table_done}
 use Rattle.coefficients.specs.declared.block.Table.{Table}
@@ -187,22 +185,22 @@ module _ (s : List ℕ) (r : Reader) (h : List ℤ) (segment : ℕ) (small skip 
   header_reads e = rw (e, residual_by_header_reads)
 
   -- what the answer of the quantizers says
-  module _ {x : Quantizers} (e : x ≡ quantizers_of h segment) where
-    pub header_none : x ≡ Q.Refused → {a : ResidualRead} → a ≡ record { residual = no_residual_of E.Refused; reads = 0 } → HeaderDecoded a old
+  module _ {x : Option Factors} (e : x ≡ quantizers_of h segment) where
+    pub header_none : x ≡ None → {a : ResidualRead} → a ≡ record { residual = no_residual_of E.Refused; reads = 0 } → HeaderDecoded a old
     header_none n {a} k = go (header_of h && ltb segment 4) refl
       where
         go : (b : Bool) → header_of h && ltb segment 4 ≡ b → HeaderDecoded a old
-        go true w = let g : x ≡ Q.Ready (factors_of_of h segment) = e ∙ segment_ready h segment w in absurd (let z : ◌≡◌ {A = ℕ} 0 1 = cc in omega arith)
+        go true w = let g : x ≡ Some (factors_of_of h segment) = e ∙ segment_ready h segment w in absurd (let z : ◌≡◌ {A = ℕ} 0 1 = cc in omega arith)
         go false w = header_refused w k
 
-    pub header_some : {f : Factors} → x ≡ Q.Ready f → {t : Table} → t ≡ table_of h → {a : ResidualRead} {out : List ℤ} → Decoded s r t.bytes f small skip top left old a out → HeaderDecoded a out
+    pub header_some : {f : Factors} → x ≡ Some f → {t : Table} → t ≡ table_of h → {a : ResidualRead} {out : List ℤ} → Decoded s r t.bytes f small skip top left old a out → HeaderDecoded a out
     header_some {f} k {t} j {a} {out} d = go (header_of h && ltb segment 4) refl
       where
         go : (b : Bool) → header_of h && ltb segment 4 ≡ b → HeaderDecoded a out
         go true w =
-            let g : x ≡ Q.Ready (factors_of_of h segment) = e ∙ segment_ready h segment w in
+            let g : x ≡ Some (factors_of_of h segment) = e ∙ segment_ready h segment w in
             let i : f ≡ factors_of_of h segment = cc in
             let o : t.bytes ≡ header_table h = ap (λ (a : Table). a.bytes) (j ∙ sym (table_done h (header_length h (both_left _ _ w)) refl)) in
             let n : Decoded s r (header_table h) (factors_of_of h segment) small skip top left old a out = rw (i, o) at d in
             (n.0 ∙ header_passed w, n.1 ∙ header_reads w)
-        go false w = let g : x ≡ Q.Refused = e ∙ sym (segment_refused h segment w) in absurd (let z : ◌≡◌ {A = ℕ} 0 1 = cc in omega arith)
+        go false w = let g : x ≡ None = e ∙ sym (segment_refused h segment w) in absurd (let z : ◌≡◌ {A = ℕ} 0 1 = cc in omega arith)

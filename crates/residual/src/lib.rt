@@ -13,7 +13,7 @@ use crate::flat::squares;
 use crate::quick::read_quick;
 use coefficients::block::probabilities;
 use header::entries::PROBABILITY_COUNT;
-use header::quantizers::{Factors, Quantizers, for_segment};
+use header::quantizers::{Factors, for_segment};
 use reader::boolean::{Reader, valid};
 
 pub mod answers;
@@ -139,7 +139,7 @@ pub fn decode_header(
         ≡ residual_by_header_of s.now r h.now segment small skip top left out.old)
         × (result.reads ≡ residual_by_header_reads s.now r h.now segment small skip top left out.old) }
 {
-    let Quantizers::Ready(f) = for_segment(h, segment) else {
+    let Some(f) = for_segment(h, segment) else {
         return no_residual(Ended::Refused, 0);
     };
     let t = probabilities(h);

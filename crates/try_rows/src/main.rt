@@ -4,7 +4,7 @@
 
 use coefficients::block::decode;
 use filter::filter;
-use numbers::{Wrapped, wrap16};
+use numbers::wrap16;
 use reader::boolean::open;
 use std::io;
 use transform::transform;
@@ -35,7 +35,7 @@ fn dc(rt: &impl Print, d: i32, walsh: bool) -> io::Result<()> {
 }
 
 fn product(rt: &impl Print, x: i64) -> io::Result<()> {
-    let Wrapped::Value(v) = wrap16(x) else {
+    let Some(v) = wrap16(x) else {
         return Ok(());
     };
     print!(rt; "product")?;

@@ -1,5 +1,6 @@
 -- The wide reader stands for a reader of sixteen bits over padded bytes: `Sim`, and that each call keeps it.
 use Rattle.std.specs.Prelude.{◌+◌, ◌-◌, ◌*◌, ◌/◌, ◌%◌, ◌^◌, ◌≤◌, ◌<◌, ◌≡◌, ◌≢◌}
+pub use Rattle.numbers.specs.Words.{byte_bit}
 use Rattle.numbers.specs.Words.{ℕ, zero, suc, add-mul-mod_self_right, div-one, le_of_mul-le-mul_right, mod-add-div', mod-eq_of_lt, mod-le, mod-lt, mul-le-mul, mul-le-mul_right, mul-lt-mul_of_pos_right, mul-one, sub-add_cancel, arith, field, high, pow-add, pow_pos, shl-shr, shr-shr, split, bit_xor, xor_block, xor_lt, xor_self, xor_zero_r, count_leading_zeros, leading_le, leading_top, leading_unique, twice, doubled, halved, mod_scale, cases8, refl, sym, ◌∙◌, ap, subst, Bool, true, false, ⊎_elim, ltb, lit<, lt_or, eq_or, le-leb, le-ltb, leb-true, lt-leb, lt-ltb, ltb-true, bit_of, List, length, get_or, bool_byte}
 use Rattle.reader.specs.declared.boolean.Reader.{Reader}
 use Rattle.reader.specs.Reading.{split_of, chosen_of, shifted, loaded, grow, decided_of}
@@ -439,11 +440,6 @@ taken_fits x v false e = omega arith
 -- a split that is taken off is below 255
 pub taken_small : (x v : ℕ) (b : Bool) → b ≡ ltb x (v / 2 ^ 56) → v < 2 ^ 64 → b ≡ true → x < 255
 taken_small x v b e h f = let l : x < v / 2 ^ 56 = ltb-true _ _ (sym e ∙ f) in omega arith
-
--- a bool as the code's number
-pub byte_bit : (b : Bool) → bool_byte b ≡ bit_of b
-byte_bit true = refl
-byte_bit false = refl
 
 -- one symbol at probability 128, from its parts
 pub half_from : (w : Wide) (b : Bool) {x h v t : ℕ} {q : Wide} → x ≡ w.top / 2 → h ≡ w.value / 2 ^ 56 → b ≡ ltb x h → v ≡ w.value - taken_off x b → t ≡ odd_of w.top b → q ≡ doubled_of w v t → record { on = b; next = q } ≡ half_of w

@@ -3,7 +3,7 @@ use mathlib.Core.Path.{ap}
 use mathlib.Core.List.{List, [], ◌∷◌}
 use lib.IntN.{pos, negsuc}
 use mir.Syntax.{w32, w64}
-use Rattle.numbers.specs.declared.Wrapped.TheVariants.{Value}
+use Rattle.std.specs.Prelude.{Some}
 use Rattle.numbers.specs.Know.{num, fit, rounded, inside}
 use Rattle.numbers.specs.Eval.{E, Var, v, lit, ◌⊕◌, ◌⊖◌, rem, fits, know}
 use Rattle.numbers.specs.Hand.{known, any}
@@ -51,13 +51,13 @@ pub returns-then-u-lt32768 : goal.returns-then-u-lt32768
 returns-then-u-lt32768 c =
     let i = inside (good c.before).is in
     rw (wrapped_good i, wrapped_source i)
-    (simp (lt_is (small c).is (num (pos 32768)) c.if-u-lt32768.true) (ap Value (rounded w32 (small c).is tt).eq))
+    (simp (lt_is (small c).is (num (pos 32768)) c.if-u-lt32768.true) (ap Some (rounded w32 (small c).is tt).eq))
 
 pub returns-else-u-lt32768 : goal.returns-else-u-lt32768
 returns-else-u-lt32768 c =
     let i = inside (good c.before).is in
     rw (wrapped_good i, wrapped_source i)
-    (simp (lt_is (large c).is (num (pos 32768)) c.if-u-lt32768.false) (ap Value (rounded w32 (less c).is tt).eq))
+    (simp (lt_is (large c).is (num (pos 32768)) c.if-u-lt32768.false) (ap Some (rounded w32 (less c).is tt).eq))
 
 pub returns-else-v : goal.returns-else-v
 unfolding wrap16_of

@@ -5,4 +5,4 @@ pub returns-in_default : goal.returns-in_default
 returns-in_default c = header_none _ _ _ _ _ _ _ _ _ c.for_segment.ensures c.in_default.is c.no_residual.ensures
 
 pub returns : goal.returns
-returns c = header_some _ _ _ _ _ _ _ _ _ c.for_segment.ensures c.in-Ready.is c.probabilities-t.ensures c.decode.ensures
+returns c = header_some _ _ _ _ _ _ _ _ _ c.for_segment.ensures c.in-Some.is c.probabilities-t.ensures c.decode.ensures

@@ -1,7 +1,6 @@
-use Rattle.numbers.specs.Words.{◌≡◌, sym, ◌∙◌, ap, true, not-false, not-true, rules}
+use Rattle.numbers.specs.Words.{◌≡◌, Some, sym, ◌∙◌, ap, true, not-false, not-true, rules}
 use Rattle.header.specs.Header.{header_of}
 use Rattle.header.specs.HeaderLaws.{header_length, header_each}
-use Rattle.header.specs.declared.levels.Level.TheVariants as L
 use Rattle.header.specs.LevelsLaws.{level_good, level_header, level_none}
 use Rattle.header.proofs.levels.for_macroblock.Statement.{statement}
 use Rattle.header.proofs.levels.for_macroblock.Tie as tie
@@ -26,7 +25,7 @@ leveled-requires : tie.Need-leveled-requires
 leveled-requires c κs = ((header_length _ (fine c), search rules), header_each _ (fine c))
 
 returns-3 : tie.Need-returns
-returns-3 c = ap L.Of c.leveled.ensures ∙ sym (level_good _ _ _ (fine c.before) (search rules))
+returns-3 c = ap Some c.leveled.ensures ∙ sym (level_good _ _ _ (fine c.before) (search rules))
 
 pub for_macroblock_spec : {M : Type 1} → statement M
 for_macroblock_spec = tie.close (tie.spec header-fine-requires returns returns-2 leveled-requires returns-3)

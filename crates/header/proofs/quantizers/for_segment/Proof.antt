@@ -1,7 +1,6 @@
-use Rattle.numbers.specs.Words.{◌≡◌, sym, ◌∙◌, ap, true, not-false, not-true, rules}
+use Rattle.numbers.specs.Words.{◌≡◌, Some, sym, ◌∙◌, ap, true, not-false, not-true, rules}
 use Rattle.header.specs.Header.{header_of}
 use Rattle.header.specs.HeaderLaws.{header_length, header_each}
-use Rattle.header.specs.declared.quantizers.Quantizers.TheVariants as Q
 use Rattle.header.specs.QuantizersLaws.{segment_good, segment_header, segment_none}
 use Rattle.header.proofs.quantizers.for_segment.Statement.{statement}
 use Rattle.header.proofs.quantizers.for_segment.Tie as tie
@@ -26,7 +25,7 @@ six-requires : tie.Need-six-requires
 six-requires c κs = ((header_length _ (fine c), search rules), header_each _ (fine c))
 
 returns-3 : tie.Need-returns
-returns-3 c = ap Q.Ready c.six.ensures ∙ sym (segment_good _ _ (fine c.before) (search rules))
+returns-3 c = ap Some c.six.ensures ∙ sym (segment_good _ _ (fine c.before) (search rules))
 
 pub for_segment_spec : {M : Type 1} → statement M
 for_segment_spec = tie.close (tie.spec header-fine-requires returns returns-2 six-requires returns-3)
