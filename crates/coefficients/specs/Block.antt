@@ -1,14 +1,12 @@
 -- The coefficients of a block (RFC 6386, sections 13, 3350-3370, 13.2, 13.3 and 14.1), as grammars over the tokens of `reader`.
 use Rattle.std.specs.Prelude.{◌+◌, ◌-◌, ◌*◌, ◌&&◌, ◌∷◌}
-use Rattle.numbers.specs.Words.{ℕ, zero, suc, Bool, true, false, eqb, ltb, leb, List, [], length, get_or, set, replicate, build, ℤ, pos, negsuc, neg_ℤ, le_z, In, wrap_z, Ok, Err}
+use Rattle.numbers.specs.Words.{Option, Some, None, ℕ, zero, suc, Bool, true, false, eqb, ltb, leb, List, [], length, get_or, set, replicate, build, ℤ, pos, negsuc, neg_ℤ, le_z, In, wrap_z, Ok, Err}
 use Rattle.reader.specs.declared.boolean.Reader.{Reader}
 use Rattle.reader.specs.Reading.{Given, given, missing, ReadOf, to_read, valid_of, Reading, done, symbol, run, ◌>>=◌, count}
 use Rattle.reader.specs.Extra.{extra}
 use Rattle.header.specs.Header.{coefficient_probability, entry_count, probability_count, entry, probability_of}
 use Rattle.reader.specs.Token.{token, eleven_at}
 use Rattle.reader.specs.declared.boolean.Unread.TheVariants as U
-use Rattle.numbers.specs.declared.Checked.TheVariants as H
-pub use Rattle.coefficients.specs.declared.block.Table.{Table}
 
 -- ---- the number of a token (section 13.2, 3448-3494, DCTextra)
 -- the probabilities of a category's extra bits, Pcat1 to Pcat6 (3488-3494), and its least number
@@ -189,13 +187,14 @@ module _ (s : List ℕ) (r : Reader) where
         | false ↦ 0
       ]
 
--- `probabilities`: refused where the header's length is not its own
-unfoldable pub table_of : List ℤ → Table
-table_of h =
-    elim (eqb (length h) entry_count) [
-      | true ↦ record { answer = H.Done; bytes = header_table h }
-      | false ↦ record { answer = H.Refused; bytes = replicate probability_count 0 }
-    ]
+-- `probabilities`: none where the header's length is not its own
+unfoldable pub table_of : List ℤ → Option (List ℕ)
+table_of h = elim (eqb (length h) entry_count) [ true ↦ Some (header_table h) | false ↦ None ]
+
+-- its number: 0, or 9 for a header that is refused
+abbrev pub table_number_of : Option (List ℕ) → ℕ
+table_number_of (Some l) = 0
+table_number_of None = 9
 
 -- a number of 16 bits
 abbrev pub SixteenBits : ℤ → Type 0

@@ -1,6 +1,6 @@
 -- The laws of tokens and blocks that another crate cites.
 use Rattle.std.specs.Prelude.{◌+◌, ◌-◌, ◌*◌, ◌^◌, ◌≤◌, ◌<◌, ◌≡◌, ◌&&◌}
-use Rattle.numbers.specs.Words.{ℕ, zero, suc, arith, refl, sym, ◌∙◌, ap, Bool, true, false, inl, inr, ⊎_elim, eqb, ltb, leb, lit<, lt_or, eq_or, both_left, both_right, both_true, eq-eqb, le-leb, le-ltb, leb-true, lt-ltb, ltb-true, ne_eqb, List, [], length, get_or, set, get_or-eq_default, length-set, length_build, get_or_build, all_of, all_below, all_of_any, all_below_lem, ℤ, pos, negsuc, Each, le_true, each_set, wrap_z, wrap_in, Ok, Err}
+use Rattle.numbers.specs.Words.{Option, Some, None, ℕ, zero, suc, arith, refl, sym, ◌∙◌, ap, Bool, true, false, inl, inr, ⊎_elim, eqb, ltb, leb, lit<, lt_or, eq_or, both_left, both_right, both_true, eq-eqb, le-leb, le-ltb, leb-true, lt-ltb, ltb-true, ne_eqb, List, [], length, get_or, set, get_or-eq_default, length-set, length_build, get_or_build, all_of, all_below, all_of_any, all_below_lem, ℤ, pos, negsuc, Each, le_true, each_set, wrap_z, wrap_in, Ok, Err}
 use Rattle.reader.specs.declared.boolean.Reader.{Reader}
 use Rattle.reader.specs.Reading.{Given, given, missing, ReadOf, valid_of, Reading, done, ask, symbol, ◌>>=◌, run, Within, ends, count}
 use Rattle.reader.specs.ReadingLaws.{Bytes, Valid, valid_test, within_symbol, within_bind, within_more}
@@ -13,8 +13,7 @@ use Rattle.reader.specs.ExtraLaws.{extra_within}
 use Rattle.reader.specs.Token.{token}
 use Rattle.reader.specs.TokenLaws.{eleven_at_lem, token_fits}
 use Rattle.coefficients.specs.BlockSteps.{place_below, decode_passed, reads_passed, table_refused, table_done}
-use Rattle.coefficients.specs.Block.{Table, categories, bases, category, magnitude, sign_of, signed_value, zigzag, quantizer_at, context_after, header_table, probabilities_at, probability_place, Coefficients, block_from, block, BlockCalled, to_block_called, block_of, sixteen_bits, block_arguments, block_call_of, table_of, block_reads}
-use Rattle.numbers.specs.declared.Checked.TheVariants as H
+use Rattle.coefficients.specs.Block.{categories, bases, category, magnitude, sign_of, signed_value, zigzag, quantizer_at, context_after, header_table, probabilities_at, probability_place, Coefficients, block_from, block, BlockCalled, to_block_called, block_of, sixteen_bits, block_arguments, block_call_of, table_of, block_reads}
 pub use Rattle.coefficients.specs.Block.{SixteenBits}
 
 -- ---- what each grammar gives, and how much it asks
@@ -217,13 +216,13 @@ pub header_probability : (h : List ℤ) (kind n ctx j : ℕ) → kind < 4 → ct
 header_probability h kind n ctx j k c l = eleven_at_lem (header_table h) (probability_place kind n ctx) j l ∙ header_at h (probability_place kind n ctx + j) (omega (arith, place_below kind n ctx k c))
 
 -- what the table of an answer is
-module _ (h : List ℤ) {x : Table} (e : x ≡ table_of h) where
-  pub table_taken : x.answer ≡ H.Done → (length h ≡ entry_count) × (x.bytes ≡ header_table h)
-  table_taken f =
+module _ (h : List ℤ) {x : Option (List ℕ)} (e : x ≡ table_of h) where
+  pub table_taken : {b : List ℕ} → x ≡ Some b → (length h ≡ entry_count) × (b ≡ header_table h)
+  table_taken {b} f =
       elim (eq_or (length h) entry_count) [
-        | inl k ↦ let g : x ≡ record { answer = H.Done; bytes = header_table h } = e ∙ sym (table_done h k refl) in (k, ap (λ (y : Table). y.bytes) g)
-        | inr k ↦ let g : x.answer ≡ H.Refused = ap (λ (y : Table). y.answer) (e ∙ sym (table_refused h k)) in absurd (let z : ◌≡◌ {A = ℕ} 0 1 = cc in omega arith)
+        | inl k ↦ let g : Some (header_table h) ≡ table_of h = table_done h k refl in let z : b ≡ header_table h = cc in (k, z)
+        | inr k ↦ let g : None ≡ table_of h = table_refused h k in absurd (let z : ◌≡◌ {A = ℕ} 0 1 = cc in omega arith)
       ]
 
-  pub table_not : x.answer ≡ H.Refused → length h ≡ entry_count → ⊥
-  table_not f k = let g : x.answer ≡ H.Done = ap (λ (y : Table). y.answer) (e ∙ sym (table_done h k refl)) in let z : ◌≡◌ {A = ℕ} 0 1 = cc in omega arith
+  pub table_not : x ≡ None → length h ≡ entry_count → ⊥
+  table_not f k = let g : Some (header_table h) ≡ table_of h = table_done h k refl in let z : ◌≡◌ {A = ℕ} 0 1 = cc in omega arith

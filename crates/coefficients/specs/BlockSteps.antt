@@ -1,7 +1,7 @@
 -- One step of the code at a time: laws that this crate's proofs cite, and `table_done`, which callers of `probabilities` cite. What else
 -- another crate cites stands in TokenLaws.
 use Rattle.std.specs.Prelude.{◌+◌, ◌-◌, ◌*◌, ◌≤◌, ◌<◌, ◌≡◌, ◌&&◌}
-use Rattle.numbers.specs.Words.{ℕ, suc, add-one, arith, refl, sym, ◌∙◌, ap, Bool, true, false, eqb, ltb, leb, both_left, both_right, eq-eqb, eqb-true, leb-true, lt-ltb, ltb-true, ne_eqb, List, length, get_or, set, replicate, all_of_any, ℤ, pos, negsuc, le_z, wrap_z, Ok, Err}
+use Rattle.numbers.specs.Words.{Some, None, ℕ, suc, add-one, arith, refl, sym, ◌∙◌, ap, Bool, true, false, eqb, ltb, leb, both_left, both_right, eq-eqb, eqb-true, leb-true, lt-ltb, ltb-true, ne_eqb, List, length, get_or, set, replicate, all_of_any, ℤ, pos, negsuc, le_z, wrap_z, Ok, Err}
 use Rattle.header.specs.Header.{entry_count, probability_count}
 use Rattle.reader.specs.declared.boolean.Reader.{Reader}
 use Rattle.reader.specs.Reading.{Given, given, missing, ReadOf, to_read, valid_of, done, symbol, run, count}
@@ -13,7 +13,6 @@ use Rattle.reader.specs.Token.{token}
 use Rattle.reader.specs.declared.boolean.Counted.{Counted}
 use Rattle.reader.specs.declared.boolean.Unread.TheVariants as U
 use Rattle.coefficients.specs.Block.{category, magnitude, sign_of, signed_value, bands, zigzag, quantizer_at, context_after, magnitude_of, signed_of, numeric_of, number_answer, signed_answer, header_table, probabilities_at, probability_place, Coefficients, block_from, refused_block, block, block_of, sixteen_bits, block_arguments, block_call_of, block_by_header_of, table_of, block_reads, block_by_header_reads}
-use Rattle.numbers.specs.declared.Checked.TheVariants as H
 
 -- ---- positions
 pub band_below : (n : ℕ) → get_or bands n 0 < 8
@@ -188,11 +187,11 @@ module _ (s : List ℕ) (r : Reader) (table : List ℕ) (kind ctx first q0 q1 : 
     refused = (decode_refused, rw (e, block_reads))
 
 -- ---- with a header
-pub table_refused : (h : List ℤ) → (length h ≡ entry_count → ⊥) → record { answer = H.Refused; bytes = replicate probability_count 0 } ≡ table_of h
+pub table_refused : (h : List ℤ) → (length h ≡ entry_count → ⊥) → None ≡ table_of h
 unfolding table_of
 table_refused h f = rw (ne_eqb _ _ f, table_of)
 
-pub table_done : (h : List ℤ) {l : List ℕ} → length h ≡ entry_count → l ≡ header_table h → record { answer = H.Done; bytes = l } ≡ table_of h
+pub table_done : (h : List ℤ) {l : List ℕ} → length h ≡ entry_count → l ≡ header_table h → Some l ≡ table_of h
 unfolding table_of
 table_done h e f = rw (f, eq-eqb _ _ e, table_of)
 

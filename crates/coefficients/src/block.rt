@@ -8,7 +8,7 @@ ghost use Rattle.reader.specs.Reading.{to_read, Valid, run, count};
 ghost use Rattle.coefficients.specs.Block.{category, magnitude, sign_of, bands, probability_place, quantizer_at, context_after, magnitude_of, signed_value, signed_of, numeric_of, number_answer, signed_answer, block_of, sixteen_bits, block_arguments, block_call_of, block_by_header_of, table_of, block, block_reads, block_by_header_reads};
 
 use header::entries::{COEFFICIENT_PROBABILITY, ENTRY_COUNT, PROBABILITY_COUNT, probability};
-use numbers::{Checked, wrap16};
+use numbers::wrap16;
 use reader::boolean::{Counted, Read, Reader, Unread, valid};
 use reader::extra::extra_bits;
 use reader::token::walk_token;
@@ -30,13 +30,6 @@ pub const CAT4: [u8; 4] = [176, 155, 140, 135];
 pub const CAT5: [u8; 5] = [180, 157, 141, 134, 130];
 
 pub const CAT6: [u8; 11] = [254, 254, 243, 230, 196, 177, 153, 140, 133, 130, 129];
-
-// The 1056 probabilities of a header as bytes; zeros where it was refused.
-#[derive(Clone, Copy)]
-pub struct Table {
-    pub answer: Checked,
-    pub bytes: [u8; PROBABILITY_COUNT],
-}
 
 // ---- the number of a token
 
@@ -282,24 +275,18 @@ pub fn decode(
     read_block(s, r, table, kind, ctx, first, q0, q1, out)
 }
 
-// The probabilities of a header, once for every block of a picture.
-pub fn probabilities(h: &[i32]) -> Table
+// The 1056 probabilities of a header as bytes, once for every block of a picture; none of a header that is not as long as it must be.
+pub fn probabilities(h: &[i32]) -> Option<[u8; PROBABILITY_COUNT]>
     ensures { result ≡ table_of h.now }
 {
-    let mut bytes = [0u8; PROBABILITY_COUNT];
     if h.len() != ENTRY_COUNT {
-        return Table {
-            answer: Checked::Refused,
-            bytes,
-        };
+        return None;
     }
+    let mut bytes = [0u8; PROBABILITY_COUNT];
     for i in 0..PROBABILITY_COUNT {
         bytes[i] = probability(h[COEFFICIENT_PROBABILITY + i]);
     }
-    Table {
-        answer: Checked::Done,
-        bytes,
-    }
+    Some(bytes)
 }
 
 // `decode` with a header in place of its table.
@@ -318,13 +305,11 @@ pub fn decode_header(
         ≡ block_by_header_of s.now r h.now kind ctx first q0 q1 out.old)
         × (result.reads ≡ block_by_header_reads s.now r h.now kind ctx first q0 q1 out.old) }
 {
-    let t = probabilities(h);
-    let Checked::Done = t.answer else {
+    let Some(bytes) = probabilities(h) else {
         return Counted {
             answer: Err(Unread::Refused),
             reads: 0,
         };
     };
-    let bytes = t.bytes;
     decode(s, r, &bytes, kind, ctx, first, q0, q1, out)
 }

@@ -1,13 +1,11 @@
 -- What all macroblocks of a picture share, from the header (RFC 6386, sections 9.3, 9.4, 9.6, 9.11, 10 and 14.1: the files of each have the lines).
 use Rattle.std.specs.Prelude.{◌+◌, ◌<◌, ◌∷◌}
-use Rattle.numbers.specs.Words.{ℕ, Bool, true, false, List, [], get_or, replicate, ℤ, up_to}
-use Rattle.numbers.specs.declared.Checked.TheVariants as T
+use Rattle.numbers.specs.Words.{ℕ, Option, Some, None, Bool, true, false, List, [], get_or, ℤ, up_to}
 use Rattle.header.specs.Header.{map_on, map_probability, sharpness, skips_on, skip_probability_of, entry, present_at_of, probability_at_of, header_of}
 use Rattle.header.specs.Quantizers.{Factors, factors_of_of, no_factors}
 use Rattle.header.specs.Levels.{level_of_of}
 pub use Rattle.header.specs.declared.frame.Announced.{Announced}
 pub use Rattle.header.specs.declared.frame.Frame.{Frame}
-use Rattle.header.specs.declared.frame.Framed.{Framed}
 
 -- the filter levels of the four segments, for small modes or large
 abbrev pub levels_of : List ℤ → Bool → List ℕ
@@ -32,20 +30,6 @@ frame_of h = record {
   announced = announced_of h;
 }
 
--- what stands for what is announced after a refusal
-abbrev pub no_announced : Announced
-no_announced = record { map = false; map_probabilities = replicate 3 0; skips = false; skip_probability = 0 }
-
--- what stands for the frame after a refusal: zeros
-abbrev pub no_frame : Frame
-no_frame = record {
-  factors = no_factors ∷ no_factors ∷ no_factors ∷ no_factors ∷ [];
-  large = replicate 4 0;
-  small = replicate 4 0;
-  sharp = 0;
-  announced = no_announced;
-}
-
 -- the factors of a macroblock, by its segment
 abbrev pub factors_at : Frame → ℕ → Factors
 factors_at f segment = get_or f.factors segment no_factors
@@ -55,13 +39,14 @@ abbrev pub level_at : Frame → Bool → ℕ → ℕ
 level_at f true segment = get_or f.small segment 0
 level_at f false segment = get_or f.large segment 0
 
--- `take`: refused where the header is not fine
-unfoldable pub framed_of : List ℤ → Framed
-framed_of h =
-    elim (header_of h) [
-      | true ↦ record { answer = T.Done; frame = frame_of h }
-      | false ↦ record { answer = T.Refused; frame = no_frame }
-    ]
+-- `take`: none where the header is not fine
+unfoldable pub framed_of : List ℤ → Option Frame
+framed_of h = elim (header_of h) [ true ↦ Some (frame_of h) | false ↦ None ]
+
+-- its number: 0, or 9 for a header that is refused
+abbrev pub frame_number_of : Option Frame → ℕ
+frame_number_of (Some f) = 0
+frame_number_of None = 9
 
 -- probabilities are bytes
 pub record Probabilities (a : Announced) : Type 0 where

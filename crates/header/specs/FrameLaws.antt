@@ -1,20 +1,15 @@
 -- The laws of a frame: its parts, the answer with a good header, and what a macroblock reads of it.
 use Rattle.std.specs.Prelude.{◌+◌, ◌≤◌, ◌<◌, ◌≡◌, ◌∷◌}
-use Rattle.numbers.specs.Words.{ℕ, zero, suc, arith, refl, Bool, true, false, List, [], get_or, replicate, ℤ, up_to}
+use Rattle.numbers.specs.Words.{ℕ, Option, Some, None, zero, suc, arith, refl, Bool, true, false, List, [], get_or, replicate, ℤ, up_to}
 use Rattle.header.specs.HeaderLaws.{probability_below}
 use Rattle.header.specs.Header.{map_on, map_probability, sharpness, skips_on, skip_probability_of, entry, present_at_of, probability_at_of, header_of}
-use Rattle.header.specs.Quantizers.{Factors, factors_of_of, no_factors}
+use Rattle.header.specs.Quantizers.{Factors, factors_of_of}
 use Rattle.header.specs.Levels.{level_of_of}
 use Rattle.header.specs.LevelsLaws.{level_in}
-use Rattle.numbers.specs.declared.Checked.TheVariants as T
-use Rattle.header.specs.Frame.{Announced, Frame, levels_of, announced_of, no_announced, frame_of, no_frame, factors_at, level_at, framed_of}
+use Rattle.header.specs.Frame.{Announced, Frame, levels_of, announced_of, frame_of, factors_at, level_at, framed_of}
 pub use Rattle.header.specs.Frame.{Probabilities}
 
 -- ---- the parts together
-pub no_frame_lem : {a b c d : Factors} {n : Announced} → a ≡ no_factors → b ≡ no_factors → c ≡ no_factors → d ≡ no_factors → n ≡ no_announced
-    → ◌≡◌ {A = Frame} (record { factors = a ∷ b ∷ c ∷ d ∷ []; large = replicate 4 0; small = replicate 4 0; sharp = 0; announced = n }) no_frame
-no_frame_lem e f g h k = rw (e, f, g, h, k)
-
 pub announced_is : (h : List ℤ) {m k : Bool} {a b c p : ℕ} → m ≡ present_at_of h map_on
     → a ≡ probability_at_of h map_probability → b ≡ probability_at_of h (map_probability + 1) → c ≡ probability_at_of h (map_probability + 2)
     → k ≡ present_at_of h skips_on → p ≡ probability_at_of h skip_probability_of
@@ -49,13 +44,18 @@ announced_bytes h =
     }
 
 -- ---- the public call
-pub frame_good : (h : List ℤ) → header_of h ≡ true → framed_of h ≡ record { answer = T.Done; frame = frame_of h }
+pub frame_good : (h : List ℤ) → header_of h ≡ true → framed_of h ≡ Some (frame_of h)
 unfolding framed_of
 frame_good h e = rw (e, framed_of)
 
-pub frame_refused_lem : (h : List ℤ) → header_of h ≡ false → framed_of h ≡ record { answer = T.Refused; frame = no_frame }
+pub frame_refused_lem : (h : List ℤ) → header_of h ≡ false → framed_of h ≡ None
 unfolding framed_of
 frame_refused_lem h e = rw (e, framed_of)
+
+-- as a caller that knows its header finds it
+module _ (h : List ℤ) (e : header_of h ≡ true) {o : Option Frame} (k : o ≡ framed_of h) where
+  pub frame_taken : {f : Frame} → o ≡ Some f → f ≡ frame_of h
+  frame_taken {f} g = let z = frame_good h e in cc
 
 -- ---- what a macroblock reads of it
 module _ (h : List ℤ) where

@@ -3,8 +3,7 @@
 ghost use Rattle.std.specs.Prelude.{◌≡◌, pos, negsuc, length};
 ghost use Rattle.numbers.specs.In.{Each};
 ghost use Rattle.header.specs.Header.{entry_count};
-ghost use Rattle.header.specs.Quantizers.{no_factors};
-ghost use Rattle.header.specs.Frame.{levels_of, announced_of, no_announced, frame_of, framed_of, no_frame};
+ghost use Rattle.header.specs.Frame.{levels_of, announced_of, frame_of, framed_of};
 
 use crate::entries::{
     MAP_ON, MAP_PROBABILITY, SHARPNESS, SKIP_PROBABILITY, SKIPS_ON, header_fine, present_at,
@@ -12,7 +11,7 @@ use crate::entries::{
 };
 use crate::levels::leveled;
 use crate::quantizers::{Factors, six};
-use numbers::{Checked, clamp_to};
+use numbers::clamp_to;
 
 // What stands before each macroblock's modes: a segment where there is a map, a skip flag where there are such; with what
 // probabilities.
@@ -33,26 +32,6 @@ pub struct Frame {
     pub small: [u8; 4],
     pub sharp: u8,
     pub announced: Announced,
-}
-
-// Whether the header was taken, and the frame: zeros where it was refused.
-#[derive(Clone, Copy)]
-pub struct Framed {
-    pub answer: Checked,
-    pub frame: Frame,
-}
-
-fn nothing() -> Factors
-    ensures { result ≡ no_factors }
-{
-    Factors {
-        ydc: 0,
-        yac: 0,
-        y2dc: 0,
-        y2ac: 0,
-        uvdc: 0,
-        uvac: 0,
-    }
 }
 
 fn levels(h: &[i32], small: bool) -> [u8; 4]
@@ -98,41 +77,12 @@ fn made(h: &[i32]) -> Frame
     }
 }
 
-fn silence() -> Announced
-    ensures { result ≡ no_announced }
-{
-    Announced {
-        map: false,
-        map_probabilities: [0; 3],
-        skips: false,
-        skip_probability: 0,
-    }
-}
-
-fn none() -> Frame
-    ensures { result ≡ no_frame }
-{
-    Frame {
-        factors: [nothing(), nothing(), nothing(), nothing()],
-        large: [0; 4],
-        small: [0; 4],
-        sharp: 0,
-        announced: silence(),
-    }
-}
-
-// The frame of a header of 1096 entries in -255..255.
-pub fn take(h: &[i32]) -> Framed
+// The frame of a header of 1096 entries in -255..255; none of another.
+pub fn take(h: &[i32]) -> Option<Frame>
     ensures { result ≡ framed_of h.now }
 {
     if !header_fine(h) {
-        return Framed {
-            answer: Checked::Refused,
-            frame: none(),
-        };
+        return None;
     }
-    Framed {
-        answer: Checked::Done,
-        frame: made(h),
-    }
+    Some(made(h))
 }

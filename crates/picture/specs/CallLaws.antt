@@ -1,15 +1,14 @@
 -- The laws of the picture call: a refused argument, and what good arguments give to the first macroblock.
 use Rattle.std.specs.Prelude.{◌*◌, ◌/◌, ◌≡◌}
-use Rattle.numbers.specs.Words.{ℕ, zero, suc, arith, refl, sym, ◌∙◌, ap, List, length, replicate, length-replicate, Err}
+use Rattle.numbers.specs.Words.{Some, ℕ, zero, suc, arith, refl, sym, ◌∙◌, ap, List, length, replicate, length-replicate, Err}
 use Rattle.reader.specs.Reading.{no_reader_of}
 use Rattle.reader.specs.ReadingLaws.{Bytes}
-use Rattle.coefficients.specs.declared.block.Table.{Table}
 use Rattle.coefficients.specs.Block.{header_table, table_of}
-use Rattle.coefficients.specs.BlockSteps.{table_done}
+use Rattle.coefficients.specs.BlockLaws.{table_taken}
 use Rattle.coefficients.specs.BlockLaws.{length_header, header_bytes}
 use Rattle.lent.specs.ColumnsLaws.{columns_empty}
 use Rattle.lent.specs.SizesLaws.{luma_area, chroma_area}
-use Rattle.header.specs.declared.frame.Framed.{Framed}
+use Rattle.header.specs.declared.frame.Frame.{Frame}
 use Rattle.header.specs.Frame.{frame_of, framed_of}
 use Rattle.header.specs.FrameLaws.{frame_good, frame_sound}
 use Rattle.tile.specs.PartitionsLaws.{readers_length}
@@ -73,15 +72,15 @@ module _ (t : Call) (m : Memory) (e : refusal_of t (sizes_of m) ≡ 0) where
       }
 
   -- as the code finds them: the frame and the table made of the header, the memory filled
-  module _ {f : Framed} {x : Table} {b : Memory} (g : f ≡ framed_of t.header) (y : x ≡ table_of t.header) (h : b ≡ blank_of m) where
+  module _ {f : Frame} {x : List ℕ} {b : Memory} (g : Some f ≡ framed_of t.header) (y : Some x ≡ table_of t.header) (h : b ≡ blank_of m) where
     abbrev found : Picture
-    found = cut_out t.form t.bytes t.tile f.frame x.bytes
+    found = cut_out t.form t.bytes t.tile f x
 
-    frame_found : f.frame ≡ frame_of t.header
-    frame_found = ap (λ (x : Framed). x.frame) (g ∙ frame_good t.header (fine_header t (sizes_of m) e))
+    frame_found : f ≡ frame_of t.header
+    frame_found = let z = frame_good t.header (fine_header t (sizes_of m) e) in cc
 
-    table_found : x.bytes ≡ header_table t.header
-    table_found = ap (λ (x : Table). x.bytes) (y ∙ sym (table_done t.header (fine_lengths t (sizes_of m) e).header refl))
+    table_found : x ≡ header_table t.header
+    table_found = (table_taken t.header y refl).1
 
     pub picture_found : found ≡ pictured_of t
     picture_found = λ i. cut_out t.form t.bytes t.tile (frame_found i) (table_found i)

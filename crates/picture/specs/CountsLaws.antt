@@ -1,10 +1,9 @@
 -- The laws of a picture's counts: one turn of their recursion, the call, and how many they can be.
 use Rattle.std.specs.Prelude.{◌+◌, ◌*◌, ◌≤◌, ◌<◌, ◌≡◌}
-use Rattle.numbers.specs.Words.{ℕ, zero, suc, arith, refl, sym, ◌∙◌, subst, List}
+use Rattle.numbers.specs.Words.{Some, ℕ, zero, suc, arith, refl, sym, ◌∙◌, subst, List}
 use Rattle.reader.specs.ReadingLaws.{Bytes}
-use Rattle.coefficients.specs.declared.block.Table.{Table}
 use Rattle.coefficients.specs.Block.{table_of}
-use Rattle.header.specs.declared.frame.Framed.{Framed}
+use Rattle.header.specs.declared.frame.Frame.{Frame}
 use Rattle.header.specs.Frame.{framed_of}
 use Rattle.lent.specs.Memory.{Memory, sizes_of, blank_of}
 use Rattle.tile.specs.Tile.{span_at_of, blocks_of}
@@ -63,8 +62,8 @@ module _ (t : Call) (m : Memory) {n : ℕ} (e : n ≡ refusal_of t (sizes_of m))
   cost_good f = let z : refusal_of t (sizes_of m) ≡ 0 = sym e ∙ f in rw (z, cost_of)
 
 -- as the code finds it: the frame and the table made of the header, the memory filled
-module _ (t : Call) (m : Memory) (e : refusal_of t (sizes_of m) ≡ 0) {f : Framed} {x : Table} {b : Memory} (g : f ≡ framed_of t.header) (y : x ≡ table_of t.header) (h : b ≡ blank_of m) where
-  pub cost_found : {w : SymbolCounts} → w ≡ reads_from (blocks_of t.tile.width t.tile.height) (cut_out t.form t.bytes t.tile f.frame x.bytes) 0 (start_of t.bytes t.tile b) → w ≡ cost_of t m
+module _ (t : Call) (m : Memory) (e : refusal_of t (sizes_of m) ≡ 0) {f : Frame} {x : List ℕ} {b : Memory} (g : Some f ≡ framed_of t.header) (y : Some x ≡ table_of t.header) (h : b ≡ blank_of m) where
+  pub cost_found : {w : SymbolCounts} → w ≡ reads_from (blocks_of t.tile.width t.tile.height) (cut_out t.form t.bytes t.tile f x) 0 (start_of t.bytes t.tile b) → w ≡ cost_of t m
   cost_found q =
       q
       ∙ (λ i. reads_from (blocks_of t.tile.width t.tile.height) (picture_found t m e g y h i) 0 (start_of t.bytes t.tile (h i)))

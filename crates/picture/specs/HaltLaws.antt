@@ -1,10 +1,9 @@
 -- The laws of the picture call with its state: one turn of its recursion; its answer and memory are the picture call's; the call.
 use Rattle.std.specs.Prelude.{◌+◌, ◌*◌, ◌≤◌, ◌<◌, ◌≡◌}
-use Rattle.numbers.specs.Words.{ℕ, zero, suc, arith, refl, sym, ◌∙◌, ap, Ok, Err}
+use Rattle.numbers.specs.Words.{Some, List, ℕ, zero, suc, arith, refl, sym, ◌∙◌, ap, Ok, Err}
 use Rattle.reader.specs.ReadingLaws.{Bytes}
-use Rattle.coefficients.specs.declared.block.Table.{Table}
 use Rattle.coefficients.specs.Block.{table_of}
-use Rattle.header.specs.declared.frame.Framed.{Framed}
+use Rattle.header.specs.declared.frame.Frame.{Frame}
 use Rattle.header.specs.Frame.{framed_of}
 use Rattle.modes.specs.Modes.{empty_context}
 use Rattle.macroblock.specs.Macroblock.{Finished, Step, finished, no_modes, no_tokens, no_reads}
@@ -76,8 +75,8 @@ halted_picture t m = go (refusal_of t (sizes_of m)) refl
     go (suc n) e = ap ended_in (sym (halted_bad t m e (λ z. omega arith))) ∙ picture_bad t m e (λ z. omega arith)
 
 -- as the code finds it: the frame and the table made of the header, the memory filled
-module _ (t : Call) (m : Memory) (e : refusal_of t (sizes_of m) ≡ 0) {f : Framed} {x : Table} {b : Memory} (g : f ≡ framed_of t.header) (y : x ≡ table_of t.header) (h : b ≡ blank_of m) where
-  pub halted_found : {H : Halted} → H ≡ halt_of (blocks_of t.tile.width t.tile.height) (cut_out t.form t.bytes t.tile f.frame x.bytes) 0 (start_of t.bytes t.tile b) → H ≡ halted_of t m
+module _ (t : Call) (m : Memory) (e : refusal_of t (sizes_of m) ≡ 0) {f : Frame} {x : List ℕ} {b : Memory} (g : Some f ≡ framed_of t.header) (y : Some x ≡ table_of t.header) (h : b ≡ blank_of m) where
+  pub halted_found : {H : Halted} → H ≡ halt_of (blocks_of t.tile.width t.tile.height) (cut_out t.form t.bytes t.tile f x) 0 (start_of t.bytes t.tile b) → H ≡ halted_of t m
   halted_found q =
       q
       ∙ (λ i. halt_of (blocks_of t.tile.width t.tile.height) (picture_found t m e g y h i) 0 (start_of t.bytes t.tile (h i)))

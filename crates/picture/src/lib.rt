@@ -95,10 +95,8 @@ pub fn halt(
         &mut modes[..],
         &mut strengths[..],
     );
-    let table = probabilities(header);
-    let numbers = table.bytes;
-    let framed = take(header);
-    let frame = framed.frame;
+    let numbers = probabilities(header).unwrap();
+    let frame = take(header).unwrap();
     rows(
         bytes,
         tile,

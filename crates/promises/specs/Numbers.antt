@@ -12,12 +12,12 @@ use Rattle.reader.specs.declared.boolean.Unread.TheVariants as Unread
 use Rattle.header.specs.Header.{entry_count, header_of}
 use Rattle.header.specs.Quantizers.{factors_of_of, quantizers_of, quantizers_number_of}
 use Rattle.header.specs.Levels.{level_of_of, level_answer, level_number_of}
-use Rattle.header.specs.Frame.{announced_of, frame_of, no_frame, framed_of, factors_at}
+use Rattle.header.specs.Frame.{announced_of, frame_of, framed_of, frame_number_of, factors_at}
 use Rattle.header.specs.declared.frame.Announced.{Announced}
 use Rattle.header.specs.declared.frame.Frame.{Frame}
 use Rattle.header.specs.declared.quantizers.Factors.{Factors}
 use Rattle.coefficients.specs.Block as Tokens
-use Rattle.coefficients.specs.Block.{magnitude, signed_value, block, header_table, numeric_of, number_answer, signed_answer, sixteen_bits, table_of}
+use Rattle.coefficients.specs.Block.{magnitude, signed_value, block, header_table, numeric_of, number_answer, signed_answer, sixteen_bits, table_of, table_number_of}
 use Rattle.transform.specs.Transform.{block_fits, samples_of, transform_of}
 use Rattle.filter.specs.Kernel.{filter_of, pixel_of, pixel_number_of}
 use Rattle.filter.specs.Strengths.{strength_of_of, no_strength, strength_answer, strengths_number_of, strengths_values_of, strength_fine_of}
@@ -137,7 +137,7 @@ pub record Numbers : Type 0 where
   -- header::levels::for_macroblock
   pub for_macroblock_lem : (h : List ℤ) (segment : ℕ) (small : Bool) → RefusedOr 9 (header_of h && ltb segment 4) (level_number_of (level_answer h segment small)) (level_answer h segment small) None (Some (level_of_of h segment small))
   -- header::frame::take
-  pub header_take : (h : List ℤ) → RefusedOr 9 (header_of h) (checked_number_of (framed_of h).answer) (framed_of h).frame no_frame (frame_of h)
+  pub header_take : (h : List ℤ) → RefusedOr 9 (header_of h) (frame_number_of (framed_of h)) (framed_of h) None (Some (frame_of h))
   -- ---- coefficients: a missing byte is 7
   -- coefficients::block::number
   pub number : (s : List ℕ) (token : ℕ) (r : Reader)
@@ -154,7 +154,7 @@ pub record Numbers : Type 0 where
       → Answered 7 (eqb (length h) entry_count && (valid_of s r && (Tokens.block_arguments (header_table h) kind ctx first && sixteen_bits old 16))) (run (block (header_table h) kind q0 q1 ctx first old) s r)
       (Tokens.block_by_header_of s r h kind ctx first q0 q1 old) (λ c. read_number_of 7 c.answer) (Tokens.to_block_called old) (Tokens.refused_block old)
   -- coefficients::block::probabilities
-  pub probabilities : (h : List ℤ) → RefusedOr 9 (eqb (length h) entry_count) (checked_number_of (table_of h).answer) (table_of h).bytes (replicate 1056 0) (header_table h)
+  pub probabilities : (h : List ℤ) → RefusedOr 9 (eqb (length h) entry_count) (table_number_of (table_of h)) (table_of h) None (Some (header_table h))
   -- transform::transform: 8
   pub transform : (c : List ℤ) (walsh : Bool) → RefusedOr 8 (block_fits c) (transform_of c walsh).number (transform_of c walsh).samples (replicate 16 (pos 0)) (samples_of walsh c)
   -- ---- filter: 9

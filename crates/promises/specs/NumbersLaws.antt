@@ -9,12 +9,10 @@ use Rattle.reader.specs.Token.{token, eleven_at, token_of, token_answer}
 use Rattle.header.specs.Header.{entry_count, header_of}
 use Rattle.header.specs.Quantizers.{factors_of_of, quantizers_of, quantizers_number_of}
 use Rattle.header.specs.Levels.{level_answer, level_number_of}
-use Rattle.header.specs.Frame.{announced_of, framed_of}
-use Rattle.header.specs.declared.frame.Framed.{Framed}
-use Rattle.coefficients.specs.declared.block.Table.{Table}
+use Rattle.header.specs.Frame.{announced_of, framed_of, frame_number_of}
 use Rattle.transform.specs.declared.Transformed.{Transformed}
 use Rattle.coefficients.specs.Block as Tokens
-use Rattle.coefficients.specs.Block.{magnitude, signed_value, block, header_table, magnitude_of, number_answer, signed_of, signed_answer, sixteen_bits, table_of}
+use Rattle.coefficients.specs.Block.{magnitude, signed_value, block, header_table, magnitude_of, number_answer, signed_of, signed_answer, sixteen_bits, table_of, table_number_of}
 use Rattle.transform.specs.Transform.{transform_of}
 use Rattle.filter.specs.Kernel.{pixel_of, pixel_number_of}
 use Rattle.filter.specs.Strengths.{strength_answer, strengths_number_of, strengths_values_of}
@@ -187,12 +185,12 @@ numbers_bind = record {
   walk_token_lem = λ short s table at z r. reads _ (run (token (eleven_at table at) z) s r) (read_number_of short) to_read refl refl (λ t q. refl);
   for_segment_lem = λ h segment. checked _ quantizers_number_of (λ x. x) refl refl refl refl;
   for_macroblock_lem = λ h segment small. checked _ level_number_of (λ x. x) refl refl refl refl;
-  header_take = λ h. checked _ (λ (f : Framed). checked_number_of f.answer) (λ (f : Framed). f.frame) refl refl refl refl;
+  header_take = λ h. checked _ frame_number_of (λ f. f) refl refl refl refl;
   number = λ s token r. reads _ (run (magnitude token) s r) (read_number_of 7) to_read refl refl (λ v q. refl);
   dequant = λ s token q r. reads _ (run (signed_value token q) s r) (read_number_of 7) to_read refl refl (λ v p. refl);
   block_decode = λ s r table kind ctx first q0 q1 old. reads _ (run (block table kind q0 q1 ctx first old) s r) (λ c. read_number_of 7 c.answer) (Tokens.to_block_called old) refl refl (λ x q. refl);
   block_decode_header = λ s r h kind ctx first q0 q1 old. reads_both (eqb (length h) entry_count) (valid_of s r && (Tokens.block_arguments (header_table h) kind ctx first && sixteen_bits old 16)) (run (block (header_table h) kind q0 q1 ctx first old) s r) (λ c. read_number_of 7 c.answer) (Tokens.to_block_called old) {refusal = Tokens.refused_block old} refl refl (λ x q. refl);
-  probabilities = λ h. checked _ (λ (t : Table). checked_number_of t.answer) (λ (t : Table). t.bytes) refl refl refl refl;
+  probabilities = λ h. checked _ table_number_of (λ t. t) refl refl refl refl;
   transform = λ c walsh. checked_cond _ (λ (t : Transformed). t.number) (λ (t : Transformed). t.samples) refl refl refl refl;
   pixel = λ e simple edge limit inner threshold k. checked_cond _ pixel_number_of (λ x. x) refl refl refl refl;
   at_level = λ level sharp inside. checked _ strengths_number_of strengths_values_of refl refl refl refl;

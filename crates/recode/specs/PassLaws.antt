@@ -1,10 +1,11 @@
 -- The call: its two passes over the tokens, its room, its refusals.
 use Rattle.std.specs.Prelude.{◌+◌, ◌-◌, ◌≤◌, ◌<◌, ◌≡◌, ◌++◌}
-use Rattle.numbers.specs.Words.{ℕ, zero, suc, arith, refl, sym, ◌∙◌, ap, subst, ⊎_elim, lit<, lt_or, eq_or, le-leb, lt-leb, List, append_assoc, append-nil, length, take, drop, replicate, drop_of_length-le, length-append, length-drop, take-append-drop, drop-append_seam, drop-drop, length-take-le, take_all, ℤ, Ok, Err}
+use Rattle.numbers.specs.Words.{Option, Some, None, ℕ, zero, suc, arith, refl, sym, ◌∙◌, ap, subst, ⊎_elim, lit<, lt_or, eq_or, le-leb, lt-leb, List, append_assoc, append-nil, length, take, drop, replicate, drop_of_length-le, length-append, length-drop, take-append-drop, drop-append_seam, drop-drop, length-take-le, take_all, ℤ, Ok, Err}
 use Rattle.reader.specs.ReadingLaws.{Bytes}
-use Rattle.coefficients.specs.declared.block.Table.{Table}
+use Rattle.coefficients.specs.BlockLaws.{table_not}
 use Rattle.coefficients.specs.Block.{table_of}
-use Rattle.header.specs.declared.frame.Framed.{Framed}
+use Rattle.header.specs.declared.frame.Frame.{Frame}
+use Rattle.header.specs.FrameLaws.{frame_good}
 use Rattle.header.specs.Frame.{framed_of}
 use Rattle.lent.specs.Memory.{Memory, memory_of, sizes_of, filled, blank_of, packed}
 use Rattle.tile.specs.declared.Tile.{Tile}
@@ -15,7 +16,7 @@ use Rattle.macroblock.specs.Macroblock.{Step, finished, no_modes, no_tokens}
 use Rattle.choices.specs.declared.answer.Refusal.{Refusal}
 use Rattle.choices.specs.declared.answer.Stop.TheVariants as Stop
 use Rattle.choices.specs.Choices.{Call, call_of, call_in, refusal_of, named, refusal_number_of, number_of, Decoded}
-use Rattle.choices.specs.ChoicesLaws.{refusal_most, refusal_named, fine_side, fine_count}
+use Rattle.choices.specs.ChoicesLaws.{fine_header, fine_lengths, refusal_most, refusal_named, fine_side, fine_count}
 use Rattle.picture.specs.CallLaws.{picture_bad, picture_good, picture_found, shared_start, live_start, shared_found, live_found, run_found}
 use Rattle.picture.specs.Picture.{cost_of, Picture, State, Ended, cut_out, pictured_of, start_of, begun_of, step_at, next_of, run_of, picture_of, Live}
 use Rattle.picture.specs.CountsLaws.{cost_good}
@@ -94,13 +95,13 @@ dropped : (i : ℕ) (l : List ℕ) → length (drop i l) ≡ length l - i
 dropped i l = rw length-drop
 
 -- ---- a pass
-pub pass_done : (bytes : List ℕ) (tile : Tile) (header : List ℤ) (columns room : List ℕ) {cols after room1 new : List ℕ} {x : Table} {f : Framed} {w : Writer} {n : ℕ} → Bytes bytes
-    → cols ≡ filled columns 0 → x ≡ table_of header → f ≡ framed_of header → WalkCopies bytes tile f.frame x.bytes cols room w after room1 → ended_of n new ≡ flush_answer w room1 → Passes bytes tile header columns room n after new
+pub pass_done : (bytes : List ℕ) (tile : Tile) (header : List ℤ) (columns room : List ℕ) {cols after room1 new : List ℕ} {x : List ℕ} {f : Frame} {w : Writer} {n : ℕ} → Bytes bytes
+    → cols ≡ filled columns 0 → Some x ≡ table_of header → Some f ≡ framed_of header → WalkCopies bytes tile f x cols room w after room1 → ended_of n new ≡ flush_answer w room1 → Passes bytes tile header columns room n after new
 unfolding encode_of tokens_read
 pass_done bytes tile header columns room {cols} {after} {room1} {new} {x} {f} {w} {n} y a b g o e m M end l p =
     let c : Call = call_of bytes tile header in
     let fine : refusal_of c (sizes_of m) ≡ 0 = whole_fine c m p in
-    let P : Picture = cut_out packed bytes tile f.frame x.bytes in
+    let P : Picture = cut_out packed bytes tile f x in
     let S : State = start_of bytes tile (blank_of m) in
     let N : ℕ = blocks_of tile.width tile.height in
     let found : P ≡ pictured_of c = picture_found c m fine g b refl in
@@ -121,6 +122,19 @@ pass_done bytes tile header columns room {cols} {after} {room1} {new} {x} {f} {w
       size = z.size;
       same = λ h. z.same (subst (λ (k : List ℕ). length k ≤ length room) (sym s) h) ∙ (λ i. s i ++ drop (length (s i)) room);
     }
+
+-- of a header that is not fine: no picture call answers 0 then
+module _ (bytes : List ℕ) (tile : Tile) (header : List ℤ) (columns room : List ℕ) {n : ℕ} {after new : List ℕ} where
+  pub pass_no_table : {x : Option (List ℕ)} → x ≡ table_of header → x ≡ None → Passes bytes tile header columns room n after new
+  pass_no_table a e m M end l p =
+      let c : Call = call_of bytes tile header in
+      absurd (table_not header a e (fine_lengths c (sizes_of m) (whole_fine c m p)).header)
+
+  pub pass_no_frame : {f : Option Frame} → f ≡ framed_of header → f ≡ None → Passes bytes tile header columns room n after new
+  pass_no_frame a e m M end l p =
+      let c : Call = call_of bytes tile header in
+      let g = frame_good header (fine_header c (sizes_of m) (whole_fine c m p)) in
+      absurd (let z : ◌≡◌ {A = ℕ} 0 1 = cc in omega arith)
 
 pub pass_measures : (bytes : List ℕ) (tile : Tile) (header : List ℤ) (columns room : List ℕ) {n : ℕ} {after new : List ℕ} → Passes bytes tile header columns room n after new → Measures bytes tile header columns n after
 pass_measures bytes tile header columns room p m M end l e = let z = p m M end l e in (z.columns, z.long)

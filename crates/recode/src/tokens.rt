@@ -28,10 +28,12 @@ fn pass(bytes: &[u8], tile: Tile, header: &[i32], columns: &mut [u8], out: &mut 
         result columns.new out.new }
 {
     fill(&mut columns[..], 0);
-    let table = probabilities(header);
-    let numbers = table.bytes;
-    let framed = take(header);
-    let frame = framed.frame;
+    let Some(numbers) = probabilities(header) else {
+        return 0;
+    };
+    let Some(frame) = take(header) else {
+        return 0;
+    };
     let w = walk(bytes, tile, frame, &numbers, &mut columns[..], &mut out[..]);
     w.flush(&mut out[..])
 }

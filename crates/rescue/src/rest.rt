@@ -51,8 +51,7 @@ pub(crate) fn rest(
     let wide = tile.width / 16;
     let blocks = wide * (tile.height / 16);
     let first = part(bytes, tile.first);
-    let framed = take(header);
-    let frame = framed.frame;
+    let frame = take(header).unwrap();
     let mut r = stop.reader;
     let mut readers = stop.readers;
     let mut left = stop.left;

@@ -12,8 +12,7 @@ use Rattle.header.specs.declared.quantizers.Factors.{Factors}
 use Rattle.header.specs.Quantizers.{factors_of_of, quantizers_of}
 use Rattle.header.specs.QuantizersLaws.{segment_ready, segment_refused}
 use Rattle.coefficients.specs.BlockLaws.{Sixteen, Good, decoded, decode_reads_lem}
-use Rattle.coefficients.specs.BlockSteps.{table_done}
-use Rattle.coefficients.specs.declared.block.Table.{Table}
+use Rattle.coefficients.specs.BlockLaws.{table_taken, table_not}
 use Rattle.coefficients.specs.Block.{Coefficients, block, header_table, table_of}
 use Rattle.coefficients.specs.Block as tokens
 use Rattle.reader.specs.declared.boolean.Counted.{Counted}
@@ -193,14 +192,22 @@ module _ (s : List ℕ) (r : Reader) (h : List ℤ) (segment : ℕ) (small skip 
         go true w = let g : x ≡ Some (factors_of_of h segment) = e ∙ segment_ready h segment w in absurd (let z : ◌≡◌ {A = ℕ} 0 1 = cc in omega arith)
         go false w = header_refused w k
 
-    pub header_some : {f : Factors} → x ≡ Some f → {t : Table} → t ≡ table_of h → {a : ResidualRead} {out : List ℤ} → Decoded s r t.bytes f small skip top left old a out → HeaderDecoded a out
-    header_some {f} k {t} j {a} {out} d = go (header_of h && ltb segment 4) refl
+    -- and that of the table
+    pub table_none : {y : Option (List ℕ)} → y ≡ table_of h → y ≡ None → {a : ResidualRead} → a ≡ record { residual = no_residual_of E.Refused; reads = 0 } → HeaderDecoded a old
+    table_none j n {a} k = go (header_of h && ltb segment 4) refl
+      where
+        go : (b : Bool) → header_of h && ltb segment 4 ≡ b → HeaderDecoded a old
+        go true w = absurd (table_not h j n (header_length h (both_left _ _ w)))
+        go false w = header_refused w k
+
+    pub header_some : {f : Factors} → x ≡ Some f → {y : Option (List ℕ)} → y ≡ table_of h → {b : List ℕ} → y ≡ Some b → {a : ResidualRead} {out : List ℤ} → Decoded s r b f small skip top left old a out → HeaderDecoded a out
+    header_some {f} k {y} j {b} q {a} {out} d = go (header_of h && ltb segment 4) refl
       where
         go : (b : Bool) → header_of h && ltb segment 4 ≡ b → HeaderDecoded a out
         go true w =
             let g : x ≡ Some (factors_of_of h segment) = e ∙ segment_ready h segment w in
             let i : f ≡ factors_of_of h segment = cc in
-            let o : t.bytes ≡ header_table h = ap (λ (a : Table). a.bytes) (j ∙ sym (table_done h (header_length h (both_left _ _ w)) refl)) in
+            let o : b ≡ header_table h = (table_taken h j q).1 in
             let n : Decoded s r (header_table h) (factors_of_of h segment) small skip top left old a out = rw (i, o) at d in
             (n.0 ∙ header_passed w, n.1 ∙ header_reads w)
         go false w = let g : x ≡ None = e ∙ sym (segment_refused h segment w) in absurd (let z : ◌≡◌ {A = ℕ} 0 1 = cc in omega arith)

@@ -142,7 +142,8 @@ pub fn decode_header(
     let Some(f) = for_segment(h, segment) else {
         return no_residual(Ended::Refused, 0);
     };
-    let t = probabilities(h);
-    let bytes = t.bytes;
+    let Some(bytes) = probabilities(h) else {
+        return no_residual(Ended::Refused, 0);
+    };
     decode(s, r, &bytes, f, small, skip, top, left, out)
 }

@@ -213,10 +213,12 @@ fn all(rt: &impl Print, list: &[u8]) -> io::Result<()> {
         return Ok(());
     }
     let h = entries(list);
-    let p = probabilities(&h);
-    let table = p.bytes;
-    let f = take(&h);
-    let frame = f.frame;
+    let Some(table) = probabilities(&h) else {
+        return Ok(());
+    };
+    let Some(frame) = take(&h) else {
+        return Ok(());
+    };
     cases(rt, &list[2192..], frame, &table)
 }
 

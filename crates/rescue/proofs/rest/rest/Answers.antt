@@ -1,7 +1,6 @@
 use Rattle.numbers.specs.Words.{ℕ, ◌*◌, ◌/◌, ◌<◌, mul-le-mul, arith, ◌≡◌, sym, ◌∙◌, ap, Err}
 use Rattle.choices.specs.declared.answer.Stop.{Stop}
-use Rattle.header.specs.declared.frame.Framed.{Framed}
-use Rattle.header.specs.FrameLaws.{frame_good}
+use Rattle.header.specs.FrameLaws.{frame_good, frame_taken}
 use Rattle.tile.specs.PartitionsLaws.{part_bytes, pick_below}
 use Rattle.lent.specs.Memory.{memory_of}
 use Rattle.choices.specs.Choices.{call_of, values_of}
@@ -29,6 +28,9 @@ returns-in_default-end c =
 pub overflow_mul-blocks : goal.overflow_mul-blocks
 overflow_mul-blocks c = omega (arith, mul-le-mul c.requires.shared.wide c.requires.shared.high)
 
+pub unwrap-frame-requires : goal.unwrap-frame-requires
+unwrap-frame-requires c = rw (c.take.ensures ∙ frame_good _ c.requires.header_value)
+
 pub loop-k-init : goal.loop-k-init
 loop-k-init c = going_start _ _ _ (tokens_upto (c.in-Err.is ∙ ap (λ (s : Stop). Err s) c.in-NoTokens.is) c.requires.answer_bound) c.requires.live
 
@@ -43,7 +45,7 @@ turn-m-requires c =
     let P : Picture = pictured_of (call_of c.args.bytes.now c.args.tile c.args.header.now) in
     let l = c.loop-k in
     let S : State = state_of l.r l.readers l.left (memory_of l.y l.u l.v l.columns l.modes l.strengths) in
-    let f = ap (λ (x : Framed). x.frame) (c.take-framed.ensures ∙ frame_good _ c.requires.header_value) in
+    let f = frame_taken _ c.requires.header_value c.take.ensures c.unwrap-frame.ensures in
     let a = rebuilt_asks P S l.k c.requires.shared l.invariant.live c.loop-k-test.true (task_is P l.k S c.task_of.ensures c.pick-p.ensures f) c.part-first.ensures in
     record { legible = a.0; held = a.1.0; laid = a.1.1.0; room = a.1.1.1 }
 
@@ -58,7 +60,7 @@ loop-k-preserved c =
     let P : Picture = pictured_of (call_of c.args.bytes.now c.args.tile c.args.header.now) in
     let l = c.loop-k in
     let S : State = state_of l.r l.readers l.left (memory_of l.y l.u l.v l.columns l.modes l.strengths) in
-    let f = ap (λ (x : Framed). x.frame) (c.take-framed.ensures ∙ frame_good _ c.requires.header_value) in
+    let f = frame_taken _ c.requires.header_value c.take.ensures c.unwrap-frame.ensures in
     let n = c.turn-m.new in
     let T : Turned = turned_of c.turn-m.result.answer c.turn-m.result.left (memory_of n.y n.u n.v n.columns n.modes n.strengths) in
     let e = rebuilt_turn P l.k S _ c.turn-m.ensures (task_is P l.k S c.task_of.ensures c.pick-p.ensures f) c.part-first.ensures in
@@ -70,7 +72,7 @@ returns-in_default-finish c =
     let a = c.args in
     let l = c.loop-k in
     let S : State = state_of l.r l.readers l.left (memory_of l.y l.u l.v l.columns l.modes l.strengths) in
-    let f = ap (λ (x : Framed). x.frame) (c.take-framed.ensures ∙ frame_good _ c.requires.header_value) in
+    let f = frame_taken _ c.requires.header_value c.take.ensures c.unwrap-frame.ensures in
     let n = c.turn-m.new in
     let T : Turned = turned_of c.turn-m.result.answer c.turn-m.result.left (memory_of n.y n.u n.v n.columns n.modes n.strengths) in
     let e = rebuilt_turn P l.k S _ c.turn-m.ensures (task_is P l.k S c.task_of.ensures c.pick-p.ensures f) c.part-first.ensures in
