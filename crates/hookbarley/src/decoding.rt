@@ -49,6 +49,12 @@ pub fn hookbarley_decode(
     );
     let ended = d.answer;
     let reads = d.reads;
-    tell_counts(answer::finished(ended), reads, finished, first_reads, token_reads);
+    tell_counts(
+        answer::finished(ended),
+        reads,
+        finished,
+        first_reads,
+        token_reads,
+    );
     answer::number(ended)
 }

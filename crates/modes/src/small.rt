@@ -129,7 +129,13 @@ pub(crate) fn contexts_fine(top: &[u8; 4], left: &[u8; 4]) -> bool
 }
 
 // The sixteen small modes of a macroblock into `modes`, which keeps what it held unless all are read.
-pub fn small_modes(s: &[u8], r: Reader, top: &[u8; 4], left: &[u8; 4], modes: &mut [u8; 16]) -> Result<Reader, Unread>
+pub fn small_modes(
+    s: &[u8],
+    r: Reader,
+    top: &[u8; 4],
+    left: &[u8; 4],
+    modes: &mut [u8; 16],
+) -> Result<Reader, Unread>
     ensures { record { answer = result; modes = modes.new }
         ≡ small_answer s.now r top.now left.now modes.old }
 {

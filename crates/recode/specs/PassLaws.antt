@@ -66,10 +66,10 @@ answered : (c : Call) (m : Memory) → Answered (picture_of c m)
 answered c m =
     ⊎_elim
     (λ (f : refusal_of c (sizes_of m) ≡ 0). subst Answered (sym (picture_good c m refl f)) (run_answered _ (pictured_of c) 0 (begun_of c m)))
-    (λ (f : refusal_of c (sizes_of m) ≡ 0 → ⊥). 
-      let e = refusal_named c (sizes_of m) f in
-      let l = refusal_most c (sizes_of m) in
-      subst Answered (picture_bad c m refl f) (bad (named (refusal_of c (sizes_of m))) m (omega arith) (λ z. f (sym e ∙ z))))
+    (λ (f : refusal_of c (sizes_of m) ≡ 0 → ⊥).
+    let e = refusal_named c (sizes_of m) f in
+    let l = refusal_most c (sizes_of m) in
+    subst Answered (picture_bad c m refl f) (bad (named (refusal_of c (sizes_of m))) m (omega arith) (λ z. f (sym e ∙ z))))
     (eq_or (refusal_of c (sizes_of m)) 0)
 
 pub picture_whole : (c : Call) (m : Memory) → number_of (picture_of c m).answer ≡ 0 → IsWhole (picture_of c m)

@@ -81,7 +81,13 @@ fn show_strength(rt: &impl Print, t: Strength) -> io::Result<()> {
 }
 
 fn show_kinds(rt: &impl Print, k: Kinds) -> io::Result<()> {
-    print!(rt; " {} {} {} {}", k.segment, u8::from(k.skip), u8::from(k.small), k.chroma)
+    print!(rt;
+        " {} {} {} {}",
+        k.segment,
+        u8::from(k.skip),
+        u8::from(k.small),
+        k.chroma
+    )
 }
 
 fn show_context(rt: &impl Print, c: Context) -> io::Result<()> {
