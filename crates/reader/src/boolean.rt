@@ -141,11 +141,17 @@ fn whole(window: u32, shifts: u32) -> bool
 }
 
 // Whether a reader is in range over s: what every call checks of its reader.
+#[tactic(auto, unfolding(crate::specs::Reading::valid_of))]
 pub fn valid(s: &[u8], r: Reader) -> bool
     ensures { result ≡ valid_of s.now r }
 {
-    ((2 <= r.at) & (r.at <= s.len() + 2) & (128 <= r.range) & (r.range < 256))
-        & ((r.shifts < 8) & (r.window < 65536) & whole(r.window, r.shifts))
+    2 <= r.at
+        && r.at <= s.len() + 2
+        && 128 <= r.range
+        && r.range < 256
+        && r.shifts < 8
+        && r.window < 65536
+        && whole(r.window, r.shifts)
 }
 
 // Opens a partition: two bytes in the window, zero past the end, and range 255.
