@@ -138,6 +138,7 @@ pub record Sixteen : Type 0 where
   pub answer : Result Reader Unread
   pub modes : List ℕ
 
+-- the same for all of a macroblock's modes
 pub record Staged : Type 0 where
   pub answer : ReadOf Kinds
   pub modes : List ℕ

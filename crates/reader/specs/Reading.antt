@@ -77,6 +77,7 @@ valid_of s r =
 abbrev pub ReadOf : Type 0 → Type 0
 ReadOf A = Result (A × Reader) Unread
 
+-- what a run gives, as a call answers it
 abbrev pub to_read : {A : Type 0} → Given A → ReadOf A
 to_read (given a r) = Ok (a, r)
 to_read missing = Err U.Missing
