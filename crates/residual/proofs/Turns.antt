@@ -1,5 +1,5 @@
 -- The parts of a macroblock as the code reads them, and the turns of the loop over its blocks, as laws on plain values.
-use Rattle.numbers.specs.Words.{ℕ, zero, suc, ◌+◌, ◌*◌, ◌≤◌, ◌<◌, add-zero, zero-add, arith, ◌≡◌, refl, sym, ◌∙◌, ap, Bool, true, false, ◌&&◌, ltb, leb, bit_of, List, length, get_or, set, replicate, ℤ, pos, negsuc, Each, Ok}
+use Rattle.numbers.specs.Words.{ℕ, zero, suc, ◌+◌, ◌*◌, ◌≤◌, ◌<◌, add-zero, zero-add, arith, ◌≡◌, refl, sym, ◌∙◌, ap, Bool, true, false, ◌&&◌, ltb, leb, bit_of, List, length, get_or, set, replicate, ℤ, pos, negsuc, Each, Ok, Err}
 use Rattle.reader.specs.declared.boolean.Reader.{Reader}
 use Rattle.reader.specs.Reading.{Given, given, missing, Reading, run, Within, ends, count}
 use Rattle.reader.specs.ReadingLaws.{Bytes, Valid, ReadTo, run_valid, count_within}
@@ -16,7 +16,7 @@ use Rattle.residual.specs.Residual.{Kind, FlagsAt, Model, Flags, ModelInRange, i
 use Rattle.residual.specs.ResidualLaws.{kind_in, initial_whole, zeros_sixteen, sixteen_in, sixteen_fit, second_within, advance_within, blocks_few, residual_within}
 use Rattle.residual.specs.Parts.{model_of, turn_of, Part, BlockPart, Held}
 use Rattle.residual.specs.ResidualSteps.{coded_at, second_missing, second_ended, advance_missing, advance_ended, blocks_none, blocks_missing, blocks_next, residual_skip, residual_missing, residual_next, call_missing, call_handed}
-use Rattle.residual.specs.declared.answers.Ended.TheVariants as E
+use Rattle.reader.specs.declared.boolean.Unread.TheVariants as U
 use Rattle.residual.specs.declared.answers.ResidualRead.{ResidualRead}
 use Rattle.residual.specs.declared.blocks.State.{State}
 use Rattle.residual.specs.declared.blocks.Turn.{Turn}
@@ -161,7 +161,7 @@ numbers l missing = l
 
 -- what the inner call returns after it
 module _ (s : List ℕ) (r : Reader) (table : List ℕ) (f : Factors) (small skip : Bool) (top left : List ℕ) (old : List ℤ) (t : Turn) (to : List ℤ) (e : Part (residual_of table f small skip top left) s r t to) where
-  pub call_lost : t.ended ≡ false → {q : ResidualRead} → q ≡ record { residual = no_residual_of E.Missing; reads = t.reads } → (record { answer = q.residual; out = old } ≡ residual_answer s r table f small skip top left old) × (q.reads ≡ count (residual_of table f small skip top left) s r)
+  pub call_lost : t.ended ≡ false → {q : ResidualRead} → q ≡ record { residual = no_residual_of (Err U.Missing); reads = t.reads } → (record { answer = q.residual; out = old } ≡ residual_answer s r table f small skip top left old) × (q.reads ≡ count (residual_of table f small skip top left) s r)
   call_lost h k = (call_missing s r table f small skip top left old (turn_lost t to h e).gave (rw k refl), rw k e.took)
 
   pub call_got : t.ended ≡ true → {out : List ℤ} → out ≡ macroblock_lanes to → (record { answer = (to_residual_called old (given (model_of t.state to) t.state.reader)).answer; out = out } ≡ residual_answer s r table f small skip top left old) × (t.reads ≡ count (residual_of table f small skip top left) s r)

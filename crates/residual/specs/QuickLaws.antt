@@ -1,6 +1,6 @@
 -- The laws of a macroblock over a wide reader: its parts, the list of their numbers, and the whole.
 use Rattle.std.specs.Prelude.{◌+◌, ◌-◌, ◌*◌, ◌/◌, ◌%◌, ◌^◌, ◌≤◌, ◌<◌, ◌≡◌, ◌≢◌, ◌&&◌}
-use Rattle.numbers.specs.Words.{ℕ, zero, suc, add-one, arith, refl, sym, ◌∙◌, ap, ap₂, Bool, true, false, inl, inr, ⊎_elim, lt_or, eq_or, le-ltb, lt-ltb, bit_of, List, length, get_or, set, take, replicate, length-set, get_or-set_other, get_or-set_same, get_or-take, length-take-le, length_build, get_or_build, built, build_same, get_or_constant, build_constant, placed, placed_none, placed_next, length_placed, stored_at, length_stored, ℤ, pos, negsuc, Each}
+use Rattle.numbers.specs.Words.{ℕ, zero, suc, add-one, arith, refl, sym, ◌∙◌, ap, ap₂, Bool, true, false, inl, inr, ⊎_elim, lt_or, eq_or, le-ltb, lt-ltb, bit_of, List, length, get_or, set, take, replicate, length-set, get_or-set_other, get_or-set_same, get_or-take, length-take-le, length_build, get_or_build, built, build_same, get_or_constant, build_constant, placed, placed_none, placed_next, length_placed, stored_at, length_stored, ℤ, pos, negsuc, Each, Ok}
 use Rattle.reader.specs.ReadingLaws.{Bytes, Valid}
 use Rattle.reader.specs.Reading.{done, ◌>>=◌, count}
 use Rattle.reader.specs.declared.boolean.Reader.{Reader}
@@ -20,7 +20,6 @@ use Rattle.transform.specs.LanesLaws.{squares_are}
 use Rattle.residual.specs.Quick.{Spots, Wider, block_spots, number_place, in_blocks, model_at, kind_at, place_at, quick_part, parts_from, QuickWhere}
 use Rattle.residual.specs.Residual.{Model, initial, second_kind_of, kind_of, coordinates, coded, flagged, spread, second_place, second, sixteen_at, stored, empty_of, advance, blocks_from, residual_of, residual_answer}
 use Rattle.residual.specs.ResidualSteps.{call_handed}
-use Rattle.residual.specs.declared.answers.Ended.TheVariants as E
 use Rattle.residual.specs.declared.quick.Quick.{Quick}
 
 -- ---- the parts are the macroblock
@@ -203,7 +202,7 @@ firsts_next p dc k e h =
 pub quick_fine : (s : List ℕ) (r : Reader) (table : List ℕ) (f : Factors) (small : Bool) (top left : List ℕ) (old : List ℤ) (m : Wider) (flat : List ℤ) {start : Wide} → Bytes s → Valid s r → length s < 2 ^ 63 → start ≡ widen_of r
     → WideReads s 0 30400 (counted 0 (residual_of table f small false top left)) start (model_at m flat, m.reads) m.next → eight_inside s m.next ≡ true → {x : Reader} → x ≡ narrow_of s m.next
     → length flat ≡ 400 → {new : List ℤ} → new ≡ take 384 flat
-    → QuickWhere true s r table f small top left old new (record { fine = true; read = record { residual = record { answer = E.Done x m.empty; top = m.top; left = m.left }; reads = m.reads } })
+    → QuickWhere true s r table f small top left old new (record { fine = true; read = record { residual = record { answer = Ok (m.empty, x); top = m.top; left = m.left }; reads = m.reads } })
 quick_fine s r table f small top left old m flat y v n w h i {x} e l {new} k =
     let c = wide_counted s r (residual_of table f small false top left) 30400 y v (omega (arith, v.inside)) (rw w at h) i in
     (rw e (call_handed s r table f small false top left old c.same (k ∙ in_blocks_squares flat l)), sym c.reads)

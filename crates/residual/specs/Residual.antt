@@ -1,17 +1,16 @@
 -- The residual of a macroblock (RFC 6386, sections 13, 3338-3348, and 19.3, 7316-7324), as a grammar: the coefficients of its blocks, and
 -- the flags that they leave behind for the macroblocks below and to the right.
 use Rattle.std.specs.Prelude.{◌+◌, ◌-◌, ◌*◌, ◌/◌, ◌%◌, ◌≤◌, ◌≡◌, ◌&&◌}
-use Rattle.numbers.specs.Words.{ℕ, zero, suc, Bool, true, false, eqb, ltb, leb, bit_of, List, length, get_or, set, replicate, build, placed, all_below, ℤ, pos, negsuc, Each}
+use Rattle.numbers.specs.Words.{ℕ, zero, suc, Bool, true, false, eqb, ltb, leb, bit_of, List, length, get_or, set, replicate, build, placed, all_below, ℤ, pos, negsuc, Each, Ok, Err}
 use Rattle.header.specs.Header.{probability_count, header_of}
 use Rattle.reader.specs.declared.boolean.Reader.{Reader}
-use Rattle.reader.specs.Reading.{Given, given, missing, valid_of, Reading, done, run, ◌>>=◌, count}
+use Rattle.reader.specs.declared.boolean.Unread.TheVariants as U
+use Rattle.reader.specs.Reading.{Given, given, missing, valid_of, Reading, done, run, ◌>>=◌, count, ReadOf, read_number_of}
 use Rattle.header.specs.declared.quantizers.Factors.{Factors}
 use Rattle.header.specs.Quantizers.{factors_of_of}
 use Rattle.coefficients.specs.Block.{Coefficients, block, header_table}
 use Rattle.transform.specs.Transform.{samples_of}
 use Rattle.transform.specs.Lanes.{macroblock_lanes}
-use Rattle.residual.specs.declared.answers.Ended.{Ended}
-use Rattle.residual.specs.declared.answers.Ended.TheVariants as E
 pub use Rattle.residual.specs.declared.answers.Residual.{Residual}
 pub use Rattle.residual.specs.declared.blocks.Kind.{Kind}
 pub use Rattle.residual.specs.declared.contexts.FlagsAt.{FlagsAt}
@@ -155,17 +154,17 @@ pub record ResidualCalled : Type 0 where
   pub out : List ℤ
 
 -- the answer where it has not ended: zeros
-abbrev pub no_residual_of : Ended → Residual
+abbrev pub no_residual_of : ReadOf Bool → Residual
 no_residual_of a = record { answer = a; top = replicate 9 0; left = replicate 9 0 }
 
 -- a run as an answer, and the lent numbers after it: the coefficients by lanes
 abbrev pub to_residual_called : (old : List ℤ) → Given Model → ResidualCalled
-to_residual_called old (given m r) = record { answer = record { answer = E.Done r m.empty; top = m.top; left = m.left }; out = macroblock_lanes m.coefficients }
-to_residual_called old missing = record { answer = no_residual_of E.Missing; out = old }
+to_residual_called old (given m r) = record { answer = record { answer = Ok (m.empty, r); top = m.top; left = m.left }; out = macroblock_lanes m.coefficients }
+to_residual_called old missing = record { answer = no_residual_of (Err U.Missing); out = old }
 
 -- a refusal: the lent numbers are as they were
 abbrev pub refused_residual : (old : List ℤ) → ResidualCalled
-refused_residual old = record { answer = no_residual_of E.Refused; out = old }
+refused_residual old = record { answer = no_residual_of (Err U.Refused); out = old }
 
 -- each flag is 0 or 1
 abbrev pub flags_of : List ℕ → Bool
@@ -214,7 +213,5 @@ module _ (s : List ℕ) (r : Reader) where
       ]
 
 -- ---- the answer's number: 7 where the tokens run out, 9 for a refusal
-abbrev pub residual_number_of : Ended → ℕ
-residual_number_of (E.Done r empty) = 0
-residual_number_of E.Missing = 7
-residual_number_of E.Refused = 9
+abbrev pub residual_number_of : ReadOf Bool → ℕ
+residual_number_of = read_number_of 7

@@ -1,9 +1,9 @@
 -- The laws of the residual that another crate cites.
-use Rattle.std.specs.Prelude.{◌+◌, ◌-◌, ◌*◌, ◌≤◌, ◌<◌, ◌≡◌, ◌&&◌, ◌⊎◌}
-use Rattle.numbers.specs.Words.{ℕ, zero, suc, arith, refl, sym, ◌∙◌, ap, Bool, true, false, inl, inr, ⊎_elim, ltb, lt_or, not_first, both_true, le-ltb, lt-ltb, bit_of, List, length, get_or, set, replicate, length-replicate, length-set, set_keeps, length_build, get_or_build, get_or_build_past, get_or_constant, placed, length_placed, placed_keeps, ℤ, pos, negsuc, Each, In_wider, num, inside, each_set}
+use Rattle.std.specs.Prelude.{◌+◌, ◌-◌, ◌*◌, ◌≤◌, ◌<◌, ◌≡◌, ◌&&◌}
+use Rattle.numbers.specs.Words.{ℕ, zero, suc, arith, refl, sym, ◌∙◌, ap, Bool, true, false, inl, inr, ⊎_elim, ltb, lt_or, both_true, le-ltb, lt-ltb, bit_of, List, length, get_or, set, replicate, length-replicate, length-set, set_keeps, length_build, get_or_build, get_or_build_past, get_or_constant, placed, length_placed, placed_keeps, ℤ, pos, negsuc, Each, In_wider, num, inside, each_set, Ok, Err}
 use Rattle.header.specs.Header.{probability_count, header_of}
 use Rattle.reader.specs.declared.boolean.Reader.{Reader}
-use Rattle.reader.specs.Reading.{Given, given, missing, valid_of, run, Within, ends, count}
+use Rattle.reader.specs.Reading.{Given, given, missing, valid_of, run, Within, ends, count, ReadOf}
 use Rattle.reader.specs.ReadingLaws.{Bytes, Valid, valid_test, never_both, run_valid, within_bind, within_more, count_within}
 use Rattle.reader.specs.ReadingLaws as ReadingLaws
 use Rattle.header.specs.declared.quantizers.Factors.{Factors}
@@ -16,8 +16,6 @@ use Rattle.transform.specs.Transform.{samples_of}
 use Rattle.transform.specs.TransformLaws.{CoefficientsIn, transform_good, transform_walsh_in}
 use Rattle.residual.specs.Residual.{Residual, Kind, FlagsAt, Model, Flags, ModelInRange, initial, coordinates, second_kind_of, luma_kind, kind_of, flagged, spread, second_place, second, sixteen_at, empty_of, advance, blocks_from, cleared, residual_of, ResidualCalled, to_residual_called, residual_arguments, residual_answer, residual_call_of, residual_by_header_of, residual_reads}
 use Rattle.residual.specs.ResidualSteps.{arguments_good, decode_passed, reads_passed, decode_refused, header_passed}
-use Rattle.residual.specs.declared.answers.Ended.{Ended}
-use Rattle.residual.specs.declared.answers.Ended.TheVariants as E
 
 -- ---- what a block goes by: coordinates below 8, a kind below 4, a first position of 0 or 1
 pub coordinates_in : (i : ℕ) → i < 24 → ((coordinates i).x < 8) × ((coordinates i).y < 8)
@@ -174,16 +172,9 @@ pub record Good (table top left : List ℕ) (old : List ℤ) : Type 0 where
   pub long : length old ≡ 384
 
 -- what an answer, with the numbers behind it, says of the grammar
-abbrev pub from_ended : (top left : List ℕ) → List ℤ → Ended → Given Model
-from_ended top left l (E.Done r empty) = given (record { top = top; left = left; coefficients = l; empty = empty }) r
-from_ended top left l E.Missing = missing
-from_ended top left l E.Refused = missing
-
--- for `let .. else`: every answer but Done says that a byte is missing; `tag` numbers the enum's cases from 0
-pub not_done : (tag : Ended → ℕ) → ((r : Reader) (empty : Bool) → tag (E.Done r empty) ≡ 0) → (top left : List ℕ) (l : List ℤ) (a : Ended) → (tag a ≡ 1) ⊎ (tag a ≡ 2) → from_ended top left l a ≡ missing
-not_done tag z top left l (E.Done r empty) e = absurd (not_first e (z r empty))
-not_done tag z top left l E.Missing e = refl
-not_done tag z top left l E.Refused e = refl
+abbrev pub from_ended : (top left : List ℕ) → List ℤ → ReadOf Bool → Given Model
+from_ended top left l (Ok (empty, r)) = given (record { top = top; left = left; coefficients = l; empty = empty }) r
+from_ended top left l (Err e) = missing
 
 abbrev pub from_residual : List ℤ → Residual → Given Model
 from_residual l x = from_ended x.top x.left l x.answer

@@ -1,6 +1,6 @@
 -- The residual one part at a time: what a part that the code read makes of the state, and what is then left to read.
 use Rattle.std.specs.Prelude.{◌+◌, ◌*◌, ◌≤◌, ◌<◌, ◌≡◌, ◌&&◌}
-use Rattle.numbers.specs.Words.{ℕ, Option, Some, None, zero, suc, add-one, arith, refl, sym, ◌∙◌, ap, ap₂, Bool, true, false, inl, inr, eqb, ltb, leb, lt_or, both_left, both_right, both_true, eq-eqb, eqb-true, le-leb, leb-true, List, length, get_or, set, replicate, get_or-eq_default, placed, placed_next, all_below, all_below_lem, ℤ, pos}
+use Rattle.numbers.specs.Words.{ℕ, Option, Some, None, zero, suc, add-one, arith, refl, sym, ◌∙◌, ap, ap₂, Bool, true, false, inl, inr, eqb, ltb, leb, lt_or, both_left, both_right, both_true, eq-eqb, eqb-true, le-leb, leb-true, List, length, get_or, set, replicate, get_or-eq_default, placed, placed_next, all_below, all_below_lem, ℤ, pos, Err}
 use Rattle.header.specs.Header.{probability_count, header_of}
 use Rattle.reader.specs.declared.boolean.Reader.{Reader}
 use Rattle.reader.specs.Reading.{Given, given, missing, valid_of, run, count}
@@ -20,7 +20,7 @@ use Rattle.transform.specs.Transform.{samples_of}
 use Rattle.transform.specs.Lanes.{macroblock_lanes}
 use Rattle.residual.specs.Parts.{model_of, BlockPart}
 use Rattle.residual.specs.Residual.{Residual, Kind, FlagsAt, Model, Flags, initial, coordinates, second_kind_of, kind_of, coded, flagged, spread, second_place, second, sixteen_at, stored, empty_of, advance, blocks_from, dc_stage_of, cleared, residual_of, no_residual_of, to_residual_called, flags_of, residual_arguments, residual_answer, residual_call_of, residual_by_header_of, residual_reads, residual_by_header_reads}
-use Rattle.residual.specs.declared.answers.Ended.TheVariants as E
+use Rattle.reader.specs.declared.boolean.Unread.TheVariants as U
 use Rattle.residual.specs.declared.answers.ResidualRead.{ResidualRead}
 use Rattle.residual.specs.declared.blocks.State.{State}
 
@@ -133,7 +133,7 @@ module _ (table top left : List ℕ) (size : ℕ) where
 
 module _ (s : List ℕ) (r : Reader) (table : List ℕ) (f : Factors) (small skip : Bool) (top left : List ℕ) (old : List ℤ) where
   -- what the code returns with the numbers behind it
-  pub call_missing : run (residual_of table f small skip top left) s r ≡ missing → {q : Residual} → q ≡ no_residual_of E.Missing → record { answer = q; out = old } ≡ residual_answer s r table f small skip top left old
+  pub call_missing : run (residual_of table f small skip top left) s r ≡ missing → {q : Residual} → q ≡ no_residual_of (Err U.Missing) → record { answer = q; out = old } ≡ residual_answer s r table f small skip top left old
   unfolding residual_answer
   call_missing e h = rw h (sym (ap (to_residual_called old) e))
 
@@ -158,11 +158,11 @@ module _ (s : List ℕ) (r : Reader) (table : List ℕ) (f : Factors) (small ski
     passed p = (p.0 ∙ decode_passed, p.1 ∙ reads_passed)
 
   module _ (e : valid_of s r && residual_arguments table top left (length old) ≡ false) where
-    pub decode_refused : {q : Residual} → q ≡ no_residual_of E.Refused → record { answer = q; out = old } ≡ residual_call_of s r table f small skip top left old
+    pub decode_refused : {q : Residual} → q ≡ no_residual_of (Err U.Refused) → record { answer = q; out = old } ≡ residual_call_of s r table f small skip top left old
     unfolding residual_call_of
     decode_refused h = rw (h, e, residual_call_of)
 
-    pub refused : {a : ResidualRead} → a ≡ record { residual = no_residual_of E.Refused; reads = 0 } → Decoded a old
+    pub refused : {a : ResidualRead} → a ≡ record { residual = no_residual_of (Err U.Refused); reads = 0 } → Decoded a old
     unfolding residual_reads
     refused d = (decode_refused (rw d refl), rw d (rw (e, residual_reads)))
 
@@ -171,7 +171,7 @@ module _ (s : List ℕ) (r : Reader) (h : List ℤ) (segment : ℕ) (small skip 
   abbrev pub HeaderDecoded : ResidualRead → List ℤ → Type 0
   HeaderDecoded a out = (record { answer = a.residual; out = out } ≡ residual_by_header_of s r h segment small skip top left old) × (a.reads ≡ residual_by_header_reads s r h segment small skip top left old)
 
-  header_refused : header_of h && ltb segment 4 ≡ false → {a : ResidualRead} → a ≡ record { residual = no_residual_of E.Refused; reads = 0 } → HeaderDecoded a old
+  header_refused : header_of h && ltb segment 4 ≡ false → {a : ResidualRead} → a ≡ record { residual = no_residual_of (Err U.Refused); reads = 0 } → HeaderDecoded a old
   unfolding residual_by_header_of residual_by_header_reads
   header_refused e k = (rw k (rw (e, residual_by_header_of)), rw k (rw (e, residual_by_header_reads)))
 
@@ -185,7 +185,7 @@ module _ (s : List ℕ) (r : Reader) (h : List ℤ) (segment : ℕ) (small skip 
 
   -- what the answer of the quantizers says
   module _ {x : Option Factors} (e : x ≡ quantizers_of h segment) where
-    pub header_none : x ≡ None → {a : ResidualRead} → a ≡ record { residual = no_residual_of E.Refused; reads = 0 } → HeaderDecoded a old
+    pub header_none : x ≡ None → {a : ResidualRead} → a ≡ record { residual = no_residual_of (Err U.Refused); reads = 0 } → HeaderDecoded a old
     header_none n {a} k = go (header_of h && ltb segment 4) refl
       where
         go : (b : Bool) → header_of h && ltb segment 4 ≡ b → HeaderDecoded a old
@@ -193,7 +193,7 @@ module _ (s : List ℕ) (r : Reader) (h : List ℤ) (segment : ℕ) (small skip 
         go false w = header_refused w k
 
     -- and that of the table
-    pub table_none : {y : Option (List ℕ)} → y ≡ table_of h → y ≡ None → {a : ResidualRead} → a ≡ record { residual = no_residual_of E.Refused; reads = 0 } → HeaderDecoded a old
+    pub table_none : {y : Option (List ℕ)} → y ≡ table_of h → y ≡ None → {a : ResidualRead} → a ≡ record { residual = no_residual_of (Err U.Refused); reads = 0 } → HeaderDecoded a old
     table_none j n {a} k = go (header_of h && ltb segment 4) refl
       where
         go : (b : Bool) → header_of h && ltb segment 4 ≡ b → HeaderDecoded a old

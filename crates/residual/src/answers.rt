@@ -2,20 +2,13 @@
 ghost use Rattle.std.specs.Prelude.{◌≡◌};
 ghost use Rattle.residual.specs.Residual.{no_residual_of};
 
-use reader::boolean::Reader;
+use reader::boolean::Read;
 
-// The reader after the macroblock, and whether it is empty; Missing where a byte was; Refused where an argument is out of range.
-#[derive(Clone, Copy)]
-pub enum Ended {
-    Done(Reader, bool),
-    Missing,
-    Refused,
-}
-
-// The answer, and the flags for the macroblocks below and to the right; zeros where there are none.
+// Whether the macroblock is empty, and the reader after it. The flags for the macroblocks below and to the right stay beside the answer:
+// a caller is promised that they are zeros where it is an Err.
 #[derive(Clone, Copy)]
 pub struct Residual {
-    pub answer: Ended,
+    pub answer: Read<bool>,
     pub top: [u8; 9],
     pub left: [u8; 9],
 }
@@ -27,7 +20,7 @@ pub struct ResidualRead {
     pub reads: u64,
 }
 
-pub(crate) fn no_residual(answer: Ended, reads: u64) -> ResidualRead
+pub(crate) fn no_residual(answer: Read<bool>, reads: u64) -> ResidualRead
     ensures { result ≡ record { residual = no_residual_of answer; reads = reads } }
 {
     let residual = Residual {

@@ -6,7 +6,7 @@ ghost use Rattle.header.specs.Header.{probability_count};
 ghost use Rattle.reader.specs.Reading.{Valid, count};
 ghost use Rattle.residual.specs.Residual.{Flags, residual_arguments, residual_of, residual_answer, residual_call_of, residual_by_header_of, residual_reads, residual_by_header_reads};
 
-use crate::answers::{Ended, Residual, ResidualRead, no_residual};
+use crate::answers::{Residual, ResidualRead, no_residual};
 use crate::blocks::read;
 use crate::contexts::flags_fine;
 use crate::flat::squares;
@@ -14,7 +14,7 @@ use crate::quick::read_quick;
 use coefficients::block::probabilities;
 use header::entries::PROBABILITY_COUNT;
 use header::quantizers::{Factors, for_segment};
-use reader::boolean::{Reader, valid};
+use reader::boolean::{Reader, Unread, valid};
 
 pub mod answers;
 mod blocks;
@@ -47,7 +47,7 @@ fn read_residual(
     let mut flat = [0; 384];
     let t = read(s, r, table, f, small, skip, top, left, &mut flat[..]);
     if !t.ended {
-        return no_residual(Ended::Missing, t.reads);
+        return no_residual(Err(Unread::Missing), t.reads);
     }
     squares(out, &flat, skip);
     let m = t.state;
@@ -55,7 +55,7 @@ fn read_residual(
     let top = m.top;
     let left = m.left;
     let residual = Residual {
-        answer: Ended::Done(next, m.empty),
+        answer: Ok((m.empty, next)),
         top,
         left,
     };
@@ -118,7 +118,7 @@ pub fn decode(
         × (result.reads ≡ residual_reads s.now r table.now f small skip top left out.old) }
 {
     if !(valid(s, r) & arguments(table, top, left, out.len())) {
-        return no_residual(Ended::Refused, 0);
+        return no_residual(Err(Unread::Refused), 0);
     }
     read_fast(s, r, table, f, small, skip, top, left, out)
 }
@@ -140,10 +140,10 @@ pub fn decode_header(
         × (result.reads ≡ residual_by_header_reads s.now r h.now segment small skip top left out.old) }
 {
     let Some(f) = for_segment(h, segment) else {
-        return no_residual(Ended::Refused, 0);
+        return no_residual(Err(Unread::Refused), 0);
     };
     let Some(bytes) = probabilities(h) else {
-        return no_residual(Ended::Refused, 0);
+        return no_residual(Err(Unread::Refused), 0);
     };
     decode(s, r, &bytes, f, small, skip, top, left, out)
 }

@@ -12,12 +12,12 @@ ghost use Rattle.residual.specs.Fast.{places_after_of};
 ghost use Rattle.residual.specs.Quick.{wider_of, model_at, QuickWhere};
 ghost use Rattle.residual.specs.Groups.{group_of, GroupFits, settled_of, none_after, zeros_at, Ready, Passed};
 
-use crate::answers::{Ended, Residual, ResidualRead, no_residual};
+use crate::answers::{Residual, ResidualRead, no_residual};
 use crate::blocks::{Kind, kind_of, second_kind};
 use crate::fast::{Spots, places_after, read_block};
 use crate::norms::norms;
 use header::quantizers::Factors;
-use reader::boolean::Reader;
+use reader::boolean::{Reader, Unread};
 use transform::transform;
 use wide::wide::{Wide, inside, narrow, widen};
 
@@ -286,12 +286,12 @@ pub(crate) fn read_quick(
     if !inside(s, w) {
         return Quick {
             fine: false,
-            read: no_residual(Ended::Missing, 0),
+            read: no_residual(Err(Unread::Missing), 0),
         };
     }
     out.copy_from_slice(&flat[0..384]);
     let residual = Residual {
-        answer: Ended::Done(narrow(s, w), m.empty),
+        answer: Ok((m.empty, narrow(s, w))),
         top: above,
         left: beside,
     };

@@ -16,7 +16,6 @@ use macroblock::checks::{around_fine, frame_fine, laid};
 use macroblock::ending::{ModeData, Outcome, Residue, Unfinished, complete, nothing};
 use modes::whole::read_modes;
 use reader::boolean::{Reader, valid};
-use residual::answers::Ended;
 
 // An outcome, and how many symbols were read for it.
 #[derive(Clone, Copy)]
@@ -105,8 +104,7 @@ fn with_tokens(
         &mut c,
     );
     let d = read.residual;
-    let answer = d.answer;
-    let Ended::Done(after, empty) = answer else {
+    let Ok((empty, after)) = d.answer else {
         return stopped(Unfinished::NoTokens, m.reads, read.reads);
     };
     let top_after = d.top;

@@ -6,13 +6,10 @@ use Rattle.header.specs.Frame.{factors_at}
 use Rattle.modes.specs.Modes.{macroblock_of}
 use Rattle.transform.specs.Lanes.{macroblock_blocks}
 use Rattle.residual.specs.Residual.{residual_of}
-use Rattle.residual.specs.ResidualLaws.{from_residual, from_ended, decoded, decode_ends, not_done}
+use Rattle.residual.specs.ResidualLaws.{from_residual, from_ended, decoded, decode_ends}
 use Rattle.residual.specs.ResidualLaws as ResidualLaws
 use Rattle.macroblock.specs.Macroblock.{planes_of, reads_made, macroblock_token_reads}
 use Rattle.macroblock.specs.MacroblockLaws.{tokens_missing, tokens_done, painting, complete_good}
-use denote.Enum.Declared.{tag_of}
-use borrow.Enum.Refused.{opened}
-use Rattle.residual.specs.contracts.answers.Ended as ended-answer
 use Rattle.whole.proofs.with_tokens.Goals as goal
 use Rattle.whole.proofs.with_tokens.Goals.{After-decode-read}
 
@@ -31,14 +28,14 @@ counted c =
 pub returns-in_default : goal.returns-in_default
 returns-in_default c =
     let d = (goal.at.returns-in_default c).After-decode-read in (
-      tokens_missing c.args.tokens.now c.args.t c.args.frame c.args.table.now c.args.around c.args.place (macroblock_of c.args.m.kinds c.args.m.modes) _ _ (is d ∙ not_done (tag_of ended-answer.the_type) (λ r empty. refl) _ _ _ c.decode-read.result.residual.answer (opened c.in_default.in_default-own.keys2)) c.stopped.ensures.0,
+      tokens_missing c.args.tokens.now c.args.t c.args.frame c.args.table.now c.args.around c.args.place (macroblock_of c.args.m.kinds c.args.m.modes) _ _ (is d ∙ ap (from_ended d.decode-read.result.residual.top d.decode-read.result.residual.left (macroblock_blocks d.decode-read.new.out)) c.in_default.is) c.stopped.ensures.0,
       c.stopped.ensures.1 ∙ ap (reads_made c.args.m.reads) (counted d),
     )
 
 pub returns : goal.returns
 returns c =
     let d = (goal.at.returns c).After-decode-read in
-    let g = is d ∙ ap (from_ended d.decode-read.result.residual.top d.decode-read.result.residual.left (macroblock_blocks d.decode-read.new.out)) c.in-Done.is in
+    let g = is d ∙ ap (from_ended d.decode-read.result.residual.top d.decode-read.result.residual.left (macroblock_blocks d.decode-read.new.out)) c.in-Ok.is in
     let e = decode_ends _ _ _ _ _ _ _ _ (replicate 384 (pos 0)) c.requires.tokens.token (record { size = c.requires.tokens.size; top_flags = c.requires.tokens.top; left_flags = c.requires.tokens.left; long = refl }) (λ i. (c.type_inv.tokens i).fits) (λ i. (c.type_inv.table i).fits) g in
     let m = macroblock_of c.args.m.kinds c.args.m.modes in
     let q = planes_of c.args.y.now c.args.u.now c.args.v.now in (
