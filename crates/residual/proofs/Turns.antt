@@ -1,5 +1,5 @@
 -- The parts of a macroblock as the code reads them, and the turns of the loop over its blocks, as laws on plain values.
-use Rattle.numbers.specs.Words.{ℕ, zero, suc, ◌+◌, ◌*◌, ◌≤◌, ◌<◌, add-zero, zero-add, arith, ◌≡◌, refl, sym, ◌∙◌, ap, Bool, true, false, ◌&&◌, ltb, leb, bit_of, List, length, get_or, set, replicate, ℤ, pos, negsuc, Each, Ok, Err}
+use Rattle.numbers.specs.Words.{ℕ, zero, suc, ◌+◌, ◌*◌, ◌≤◌, ◌<◌, add-zero, zero-add, arith, ◌≡◌, refl, sym, ◌∙◌, ap, Bool, true, false, ◌&&◌, ltb, leb, bit_of, List, length, get_or, set, replicate, ℤ, pos, negsuc, Each, Some, None, Ok, Err}
 use Rattle.reader.specs.declared.boolean.Reader.{Reader}
 use Rattle.reader.specs.Reading.{Given, given, missing, Reading, run, Within, ends, count}
 use Rattle.reader.specs.ReadingLaws.{Bytes, Valid, ReadTo, run_valid, count_within}
@@ -31,11 +31,11 @@ module _ (s table : List ℕ) (f : Factors) (m : State) (flat : List ℤ) where
     asked : Took (coded table (second_kind_of f) second_place m.top m.left (replicate 16 (pos 0))) s m.reader (from_block l a.answer) a.reads
     asked = rw e at (coded_at s m.reader table k second_place m.top m.left (replicate 16 (pos 0)) n g.read)
 
-    pub second_lost : from_block l a.answer ≡ missing → Part (second table f (model_of m flat)) s m.reader (record { ended = false; state = m; reads = a.reads }) flat
+    pub second_lost : from_block l a.answer ≡ missing → Part (second table f (model_of m flat)) s m.reader (record { state = None; reads = a.reads }) flat
     second_lost h = second_missing table f s (model_of m flat) m.reader (took_as h refl asked)
 
     pub second_read : Valid s m.reader → Bytes s → Bytes table → {end : ℕ} {q : Reader} → a.answer ≡ Ok (end, q) → {t : Transformed} → t ≡ transform_of l true → {to : List ℤ} → to ≡ spread flat t.samples 16
-        → {n : State} → n ≡ after m q k second_place end m.empty → Part (second table f (model_of m flat)) s m.reader (record { ended = true; state = n; reads = a.reads }) to
+        → {n : State} → n ≡ after m q k second_place end m.empty → Part (second table f (model_of m flat)) s m.reader (record { state = Some n; reads = a.reads }) to
     second_read v y b {end} {q} h {t} i {to} j {n} o =
         let z = took_as (ap (from_block l) h) refl asked in
         let w = run_valid (block_within table 1 f.y2dc f.y2ac b 0 (get_or m.top 8 0 + get_or m.left 8 0) (replicate 16 (pos 0)) (omega arith) zeros_sixteen) y v z.gave in
@@ -47,11 +47,11 @@ module _ (s table : List ℕ) (f : Factors) (m : State) (flat : List ℤ) where
     wanted : Took (coded table (kind_of f small i) (coordinates i) m.top m.left (sixteen_at flat (16 * i))) s m.reader (from_block l a.answer) a.reads
     wanted = rw (e, c, u) at (coded_at s m.reader table k p m.top m.left old n g.read)
 
-    pub advance_lost : from_block l a.answer ≡ missing → Part (advance table f small i (model_of m flat)) s m.reader (record { ended = false; state = m; reads = a.reads }) flat
+    pub advance_lost : from_block l a.answer ≡ missing → Part (advance table f small i (model_of m flat)) s m.reader (record { state = None; reads = a.reads }) flat
     advance_lost h = advance_missing table f s (model_of m flat) m.reader small i (took_as h refl wanted)
 
     pub advance_read : {end : ℕ} {q : Reader} → a.answer ≡ Ok (end, q) → {to : List ℤ} → to ≡ stored flat (16 * i) l → {z : Bool} → z ≡ zero_of (get_or l 0 (pos 0))
-        → {n : State} → n ≡ after m q k p end (m.empty && (leb end 1 && z)) → Part (advance table f small i (model_of m flat)) s m.reader (record { ended = true; state = n; reads = a.reads }) to
+        → {n : State} → n ≡ after m q k p end (m.empty && (leb end 1 && z)) → Part (advance table f small i (model_of m flat)) s m.reader (record { state = Some n; reads = a.reads }) to
     advance_read {end} {q} h {to} j {z} t {n} o =
         rw (o, e, c, j, t) (advance_ended table f s (model_of m flat) m.reader small i (took_as (ap (from_block l) h) refl wanted))
 
@@ -71,11 +71,11 @@ pub going_start : {s table : List ℕ} {m : State} {flat : List ℤ} (f : Factor
 going_start f small h = record { more = 24; sum = omega arith; on = λ y j t. took_as refl (sym (zero-add j)) t; few = omega arith; held = h }
 
 -- what a part that ended, or not, gave
-pub turn_lost : (t : Turn) (to : List ℤ) {g : Reading Model} {s : List ℕ} {r : Reader} → t.ended ≡ false → Part g s r t to → Took g s r missing t.reads
-turn_lost t to h e = took_as (ap (λ (b : Bool). turn_of b t.state to) h) refl e
+pub turn_lost : (t : Turn) (to : List ℤ) {g : Reading Model} {s : List ℕ} {r : Reader} → t.state ≡ None → Part g s r t to → Took g s r missing t.reads
+turn_lost t to h e = took_as (ap (turn_of to) h) refl e
 
-pub turn_got : (t : Turn) (to : List ℤ) {g : Reading Model} {s : List ℕ} {r : Reader} → t.ended ≡ true → Part g s r t to → Took g s r (given (model_of t.state to) t.state.reader) t.reads
-turn_got t to h e = took_as (ap (λ (b : Bool). turn_of b t.state to) h) refl e
+pub turn_got : (t : Turn) (to : List ℤ) {g : Reading Model} {s : List ℕ} {r : Reader} {n : State} → t.state ≡ Some n → Part g s r t to → Took g s r (given (model_of n to) n.reader) t.reads
+turn_got t to h e = took_as (ap (turn_of to) h) refl e
 
 -- what it then holds
 pub turn_held : {s table : List ℕ} {m n : State} {flat to : List ℤ} → Held s table m flat → ReadTo ModelInRange s m.reader (model_of n to) n.reader → Held s table n to
@@ -100,13 +100,13 @@ module _ {s table : List ℕ} {f : Factors} {small : Bool} {whole : Reading Mode
     pub turn_few : Bytes table → t.reads ≤ 304
     turn_few b = omega (arith, e.took, count_within s m.reader (advance_within table f b small i g.held.whole))
 
-    pub going_missing : t.ended ≡ false → Took whole s r₀ missing (reads + t.reads)
+    pub going_missing : t.state ≡ None → Took whole s r₀ missing (reads + t.reads)
     going_missing h = turn l (Took whole s r₀ missing (reads + t.reads)) (λ k p w. w _ t.reads (blocks_missing table f s (model_of m flat) m.reader small i k (turn_lost t to h e)))
 
-    pub going_next : Bytes s → Bytes table → t.ended ≡ true → Going s table f small whole r₀ (i + 1) t.state to (reads + t.reads)
-    going_next y b h =
+    pub going_next : Bytes s → Bytes table → {n : State} → t.state ≡ Some n → Going s table f small whole r₀ (i + 1) n to (reads + t.reads)
+    going_next y b {n} h =
         let z = turn_got t to h e in
-        turn l (Going s table f small whole r₀ (i + 1) t.state to (reads + t.reads)) (λ k p w.
+        turn l (Going s table f small whole r₀ (i + 1) n to (reads + t.reads)) (λ k p w.
         record {
           more = k;
           sum = p;
@@ -128,7 +128,7 @@ module _ (table : List ℕ) (f : Factors) (small : Bool) where
       go false = second_within table f b w
 
   module _ {s : List ℕ} {m : State} {flat : List ℤ} (t : Turn) (to : List ℤ) (h : Held s table m flat) (b : Bytes table) (e : Part (dc_stage_of table f small (model_of m flat)) s m.reader t to) where
-    pub dc_held : Bytes s → t.ended ≡ true → Held s table t.state to
+    pub dc_held : Bytes s → {n : State} → t.state ≡ Some n → Held s table n to
     dc_held y k = turn_held h (run_valid (dc_within b h.whole) y h.reader (turn_got t to k e).gave)
 
     pub dc_few : t.reads ≤ 304
@@ -141,17 +141,17 @@ module _ (s table : List ℕ) (f : Factors) (small skip : Bool) (r : Reader) (to
   pub first_held : Valid s r → length table ≡ 1056 → Flags top → Flags left → Held s table (first r top left) flat
   first_held v n t l = record { reader = v; size = n; whole = rw z (initial_whole t l) }
 
-  pub read_skipped : skip ≡ true → {n : State} → n ≡ first r (cleared small top) (cleared small left) → Part (residual_of table f small skip top left) s r (record { ended = true; state = n; reads = 0 }) flat
+  pub read_skipped : skip ≡ true → {n : State} → n ≡ first r (cleared small top) (cleared small left) → Part (residual_of table f small skip top left) s r (record { state = Some n; reads = 0 }) flat
   read_skipped k e = rw (k, e, z) (residual_skip table f small s top left r)
 
   module _ (k : skip ≡ false) (t : Turn) (to : List ℤ) (e : Part (dc_stage_of table f small (model_of (first r top left) flat)) s r t to) where
     begun : Part (dc_stage_of table f small (initial top left)) s r t to
     begun = rw z at e
 
-    pub read_lost : t.ended ≡ false → Part (residual_of table f small skip top left) s r t to
-    read_lost h = took_as (ap (λ (b : Bool). turn_of b t.state to) (sym h)) refl (rw k (residual_missing table f small s top left r (turn_lost t to h begun)))
+    pub read_lost : t.state ≡ None → Part (residual_of table f small skip top left) s r t to
+    read_lost h = took_as (ap (turn_of to) (sym h)) refl (rw k (residual_missing table f small s top left r (turn_lost t to h begun)))
 
-    pub read_on : t.ended ≡ true → (u : Turn) (last : List ℤ) → Part (blocks_from table f small 24 0 (model_of t.state to)) s t.state.reader u last → Part (residual_of table f small skip top left) s r (record { ended = u.ended; state = u.state; reads = t.reads + u.reads }) last
+    pub read_on : {n : State} → t.state ≡ Some n → (u : Turn) (last : List ℤ) → Part (blocks_from table f small 24 0 (model_of n to)) s n.reader u last → Part (residual_of table f small skip top left) s r (record { state = u.state; reads = t.reads + u.reads }) last
     read_on h u last g = rw k (residual_next table f small s top left r (turn_got t to h begun) g)
 
 -- the numbers of what a run gave
@@ -161,20 +161,20 @@ numbers l missing = l
 
 -- what the inner call returns after it
 module _ (s : List ℕ) (r : Reader) (table : List ℕ) (f : Factors) (small skip : Bool) (top left : List ℕ) (old : List ℤ) (t : Turn) (to : List ℤ) (e : Part (residual_of table f small skip top left) s r t to) where
-  pub call_lost : t.ended ≡ false → {q : ResidualRead} → q ≡ record { residual = no_residual_of (Err U.Missing); reads = t.reads } → (record { answer = q.residual; out = old } ≡ residual_answer s r table f small skip top left old) × (q.reads ≡ count (residual_of table f small skip top left) s r)
+  pub call_lost : t.state ≡ None → {q : ResidualRead} → q ≡ record { residual = no_residual_of (Err U.Missing); reads = t.reads } → (record { answer = q.residual; out = old } ≡ residual_answer s r table f small skip top left old) × (q.reads ≡ count (residual_of table f small skip top left) s r)
   call_lost h k = (call_missing s r table f small skip top left old (turn_lost t to h e).gave (rw k refl), rw k e.took)
 
-  pub call_got : t.ended ≡ true → {out : List ℤ} → out ≡ macroblock_lanes to → (record { answer = (to_residual_called old (given (model_of t.state to) t.state.reader)).answer; out = out } ≡ residual_answer s r table f small skip top left old) × (t.reads ≡ count (residual_of table f small skip top left) s r)
+  pub call_got : {n : State} → t.state ≡ Some n → {out : List ℤ} → out ≡ macroblock_lanes to → (record { answer = (to_residual_called old (given (model_of n to) n.reader)).answer; out = out } ≡ residual_answer s r table f small skip top left old) × (t.reads ≡ count (residual_of table f small skip top left) s r)
   call_got h k = (call_handed s r table f small skip top left old (turn_got t to h e).gave k, e.took)
 
   -- the numbers that it lays over: of sixteen bits, and zeros where nothing was read
-  module _ (h : t.ended ≡ true) where
-    pub call_whole : Valid s r → Bytes s → Bytes table → Flags top → Flags left → ModelInRange (model_of t.state to)
+  module _ {n : State} (h : t.state ≡ Some n) where
+    pub call_whole : Valid s r → Bytes s → Bytes table → Flags top → Flags left → ModelInRange (model_of n to)
     call_whole v y b i j = (run_valid (residual_within table f b small skip i j) y v (turn_got t to h e).gave).value
 
     pub call_zeros : skip ≡ true → to ≡ replicate 384 (pos 0)
     call_zeros k =
-        let g : run (residual_of table f small true top left) s r ≡ given (model_of t.state to) t.state.reader = rw k at (turn_got t to h e).gave in
+        let g : run (residual_of table f small true top left) s r ≡ given (model_of n to) n.reader = rw k at (turn_got t to h e).gave in
         ap (numbers to) (sym g ∙ (residual_skip table f small s top left r).gave)
 
 -- the kinds that the code made

@@ -1,6 +1,6 @@
 -- A macroblock read one part at a time: what the code's state stands for, what a part gives, and what every part asks and leaves.
 use Rattle.std.specs.Prelude.{◌≡◌}
-use Rattle.numbers.specs.Words.{ℕ, Bool, true, false, List, length, ℤ}
+use Rattle.numbers.specs.Words.{ℕ, Option, Some, None, List, length, ℤ}
 use Rattle.header.specs.Header.{probability_count}
 use Rattle.reader.specs.declared.boolean.Reader.{Reader}
 use Rattle.reader.specs.Reading.{Given, given, missing, Reading}
@@ -18,13 +18,13 @@ abbrev pub model_of : State → List ℤ → Model
 model_of m l = record { top = m.top; left = m.left; coefficients = l; empty = m.empty }
 
 -- what a part that ended, or not, gives
-abbrev pub turn_of : Bool → State → List ℤ → Given Model
-turn_of true m l = given (model_of m l) m.reader
-turn_of false m l = missing
+abbrev pub turn_of : List ℤ → Option State → Given Model
+turn_of l (Some m) = given (model_of m l) m.reader
+turn_of l None = missing
 
 -- a part as the code read it: what it gave, and how many symbols it took
 abbrev pub Part : Reading Model → List ℕ → Reader → Turn → List ℤ → Type 0
-Part g s r t flat = Took g s r (turn_of t.ended t.state flat) t.reads
+Part g s r t flat = Took g s r (turn_of flat t.state) t.reads
 
 -- a block, the same
 pub record BlockPart (table : List ℕ) (k : Kind) (ctx : ℕ) (old : List ℤ) (s : List ℕ) (r : Reader) (a : Counted ℕ) (l : List ℤ) : Type 0 where

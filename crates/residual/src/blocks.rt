@@ -35,8 +35,7 @@ pub(crate) struct State {
 // The state after a part, unless a byte was missing; and how many symbols the part alone read, up to a missing one.
 #[derive(Clone, Copy)]
 pub(crate) struct Turn {
-    pub ended: bool,
-    pub state: State,
+    pub state: Option<State>,
     pub reads: u64,
 }
 
@@ -119,19 +118,14 @@ fn read_second(s: &[u8], table: &[u8], f: Factors, m: State, flat: &mut [i32]) -
     let b = decode(s, m.reader, table, k.kind, ctx, k.first, k.q0, k.q1, &mut c);
     let reads = b.reads;
     let Ok((end, r)) = b.answer else {
-        return Turn {
-            ended: false,
-            state: m,
-            reads,
-        };
+        return Turn { state: None, reads };
     };
     let t = transform(&c, true);
     let dc = t.samples;
     spread(flat, &dc);
     let next = passed(m, r, p, k.first < end, m.empty);
     Turn {
-        ended: true,
-        state: next,
+        state: Some(next),
         reads,
     }
 }
@@ -157,18 +151,13 @@ fn block(
     let b = decode(s, m.reader, table, k.kind, ctx, k.first, k.q0, k.q1, &mut c);
     let reads = b.reads;
     let Ok((end, r)) = b.answer else {
-        return Turn {
-            ended: false,
-            state: m,
-            reads,
-        };
+        return Turn { state: None, reads };
     };
     store(flat, 16 * i, &c);
     let empty = m.empty & ((end <= 1) & (c[0] == 0));
     let next = passed(m, r, p, k.first < end, empty);
     Turn {
-        ended: true,
-        state: next,
+        state: Some(next),
         reads,
     }
 }
@@ -183,18 +172,13 @@ fn blocks(s: &[u8], table: &[u8], f: Factors, small: bool, start: State, flat: &
     for i in 0..24usize {
         let t = block(s, table, f, small, m, i, flat);
         reads = reads + t.reads;
-        m = t.state;
-        if !t.ended {
-            return Turn {
-                ended: false,
-                state: m,
-                reads,
-            };
-        }
+        let Some(next) = t.state else {
+            return Turn { state: None, reads };
+        };
+        m = next;
     }
     Turn {
-        ended: true,
-        state: m,
+        state: Some(m),
         reads,
     }
 }
@@ -207,8 +191,7 @@ fn dc_stage(s: &[u8], table: &[u8], f: Factors, small: bool, m: State, flat: &mu
 {
     if small {
         return Turn {
-            ended: true,
-            state: m,
+            state: Some(m),
             reads: 0,
         };
     }
@@ -249,8 +232,7 @@ pub(crate) fn read(
     if skip {
         let next = skipped(r, small, top, left);
         return Turn {
-            ended: true,
-            state: next,
+            state: Some(next),
             reads: 0,
         };
     }
@@ -261,15 +243,12 @@ pub(crate) fn read(
         empty: true,
     };
     let t = dc_stage(s, table, f, small, start, flat);
-    if !t.ended {
+    let Some(next) = t.state else {
         return t;
-    }
-    let next = t.state;
+    };
     let rest = blocks(s, table, f, small, next, flat);
-    let last = rest.state;
     Turn {
-        ended: rest.ended,
-        state: last,
+        state: rest.state,
         reads: t.reads + rest.reads,
     }
 }

@@ -46,16 +46,14 @@ fn read_residual(
 {
     let mut flat = [0; 384];
     let t = read(s, r, table, f, small, skip, top, left, &mut flat[..]);
-    if !t.ended {
+    let Some(m) = t.state else {
         return no_residual(Err(Unread::Missing), t.reads);
-    }
+    };
     squares(out, &flat, skip);
-    let m = t.state;
-    let next = m.reader;
     let top = m.top;
     let left = m.left;
     let residual = Residual {
-        answer: Ok((m.empty, next)),
+        answer: Ok((m.empty, m.reader)),
         top,
         left,
     };
