@@ -1,4 +1,4 @@
--- One turn of each loop over sub_blocks_lem, and each way out of the public call, on plain values.
+-- One turn of each loop over sub-blocks, and each way out of the public call, on plain values.
 use Rattle.numbers.specs.Words.{ℕ, ◌+◌, ◌*◌, ◌/◌, ◌%◌, ◌^◌, ◌≤◌, ◌<◌, add-one, zero-add, ◌≡◌, sym, ◌∙◌, ap, Bool, true, false, ◌&&◌, cond, eqb, both_true, both_false, List, length, get_or, Bytes, all_below, ℤ, pos, negsuc, mag, Know, round, any, w16, hbits}
 use Rattle.numbers.specs.declared.Checked.TheVariants.{Done, Refused}
 use Rattle.planes.specs.declared.edges.Spot.{Spot}
@@ -13,7 +13,7 @@ use Rattle.planes.specs.PiecesLaws.{added_block, painted_then, small_at_long}
 pub taken : (z : ℤ) → mag z < 2 ^ hbits w16 → Know (round w16 z) z (negsuc 32767) (pos 32767)
 taken z p = any w16 {z = z} (record { sfits = p })
 
--- ---- sub_blocks_lem
+-- ---- sub-blocks
 module _ {c : List ℤ} {from : ℕ} {cs : List ℤ} {coded : List Bool} {r : List ℤ} {n : ℕ} (ready : Ready c from cs coded r n) (w x y m i : ℕ) (h : i < n) {s : Spot} (a : Sub w x y m i s) (l : s.x + 4 ≤ w)
     {j : ℕ} {b : Bool} {dc : ℤ} (o : j ≡ from + i) (f : b ≡ get_or coded j false) (g : dc ≡ get_or c j (pos 0)) where
   -- one added to what stands there

@@ -1,7 +1,7 @@
 -- Planes: painting.
 pub mod Paint
 pub mod Pieces
--- where squares and sub_blocks_lem lie
+-- where squares and sub-blocks lie
 pub mod Places
 -- what callers and proofs cite
 pub mod PaintLaws

@@ -94,7 +94,7 @@ summed_of pred res = build 16 (λ k. clip_z (pos (get_or pred k 0) +ℤ get_or r
 unfoldable pub block_painted : List ℕ → (w x y : ℕ) (pred : List ℕ) → List ℤ → ℕ → List ℕ
 block_painted p w x y pred c i = painted p w x y (summed_of pred (block_residual c i))
 
--- ---- a square of m by m sub_blocks_lem at column x, row y
+-- ---- a square of m by m sub-blocks at column x, row y
 -- where sub-block i lies in it: they go in raster order
 abbrev pub cell_column : (m i : ℕ) → ℕ
 cell_column m i = 4 * (i % m)

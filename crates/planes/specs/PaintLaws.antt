@@ -1,7 +1,7 @@
 -- What callers and proofs cite of painting. Callers: `length_paint`, `paint_bytes`, `paint_off`, `paint-in`,
 -- `paint-same` and `paint_good`, at the end.
 use Rattle.std.specs.Prelude.{◌+◌, ◌-◌, ◌*◌, ◌/◌, ◌%◌, ◌≤◌, ◌<◌, ◌≡◌, ◌&&◌, ◌||◌, ◌⊎◌, ◌+ℤ◌}
-use Rattle.numbers.specs.Words.{ℕ, zero, suc, add-one, add_assoc, div-mul-le_self, mul-div_cancel, mul-le-mul, mul-le-mul_right, mul-mod_left, mul-one, zero-add, ℕ_discrete, arith, refl, sym, ◌∙◌, ap, subst, Bool, true, false, inl, inr, eqb, ltb, leb, lt_or, eq_or, both_left, both_right, both_true, cond_at, eq-eqb, eqb-true, le-leb, leb-true, lt-ltb, ltb-true, List, [], length, get_or, set, take, drop, replicate, length-drop, length-take, get_or-drop, get_or-take, get_or_build, get_or_build_past, placed, Off, off_less, placed_none, placed_next, length_placed, placed_in, placed_off, placed_keeps, placed_same, copied_placed, all_below, all_below_lem, ℤ, pos, negsuc, Each, le_true, inside, up_to_le}
+use Rattle.numbers.specs.Words.{ℕ, zero, suc, add-one, add_assoc, div-mul-le_self, mul-div_cancel, mul-le-mul, mul-le-mul_right, mul-mod_left, mul-one, zero-add, ℕ_discrete, arith, refl, sym, ◌∙◌, ap, subst, Bool, true, false, inl, inr, eqb, ltb, leb, lt_or, eq_or, both_left, both_right, both_true, cond_at, eq-eqb, eqb-true, le-leb, leb-true, lt-ltb, ltb-true, List, [], length, get_or, set, take, drop, replicate, length-drop, length-take, get_or-drop, get_or-take, get_or_build, get_or_build_past, placed, Off, off_less, placed_none, placed_next, length_placed, placed_in, placed_off, placed_keeps, placed_same, copied_placed, all_below, all_below_lem, ℤ, pos, negsuc, Each, le_true, up_to_le}
 pub use Rattle.numbers.specs.Lists.{Bytes}
 use Rattle.transform.specs.Lanes.{by_blocks}
 use Rattle.numbers.specs.declared.Checked.TheVariants.{Done, Refused}
@@ -160,7 +160,7 @@ module _ (p : List ℕ) (w x y : ℕ) (pred : List ℕ) (cs : List ℤ) (i : ℕ
   unfolding block_painted
   one_in c r s h = painted_in_lem p w x y (summed_of pred (block_residual cs i)) c r s h
 
--- ---- sub_blocks_lem painted one after the other
+-- ---- sub-blocks painted one after the other
 module _ (rule : List ℕ → ℕ → List ℕ) (p : List ℕ) (w x y m : ℕ) (cs : List ℤ) where
   pub blocks_none : blocks_painted rule p w x y m cs 0 ≡ p
   unfolding blocks_painted

@@ -92,7 +92,7 @@ FirstFit c from n = (i : ℕ) → i < n → Fits16 (get_or c (from + i) (pos 0))
 abbrev pub blocks_fine_of : (n len from : ℕ) → Bool
 blocks_fine_of n len from = known_length_of len && leb (16 * from + n * n) len
 
--- ---- what is known of the residuals of n sub_blocks_lem
+-- ---- what is known of the residuals of n sub-blocks
 -- the first n coefficients of sub-block i but the first are 0
 abbrev pub PlainBlock : (n : ℕ) (c : List ℤ) (i : ℕ) → Type 0
 PlainBlock n c i = (k : ℕ) → 0 < k → k < n → get_or c (16 * i + k) (pos 0) ≡ pos 0

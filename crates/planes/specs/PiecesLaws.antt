@@ -1,7 +1,7 @@
 -- Laws of the code's two steps: what is predicted is put into the plane, and the residual is added to what stands there. Sub-block after
 -- sub-block, and square after square, that is what the definitions paint.
 use Rattle.std.specs.Prelude.{◌+◌, ◌-◌, ◌*◌, ◌/◌, ◌%◌, ◌≤◌, ◌<◌, ◌≡◌, ◌∷◌, ◌+ℤ◌, ◌≤ℤ◌}
-use Rattle.numbers.specs.Words.{ℕ, zero, add_assoc, add-mul, add-zero, div-add-mod', mod-lt, mul-zero, one-mul, zero-add, arith, bit_or, and_le_l, and_le_r, or_add_and, or_lt, refl, sym, ◌∙◌, ap, ap₂, subst, Bool, true, false, cond, inl, inr, ⊎_elim, eqb, leb, lit<, lt_or, eq_or, never, not_so, both_left, both_right, both_true, eq-eqb, leb-false, leb-true, ne_eqb, List, [], length, get_or, set, take, drop, replicate, get_or-replicate, length-drop, length-replicate, length-set, length-take, ext_get_or, get_or-drop, get_or-set_other, get_or-set_same, get_or-take, length-take-le, build, ◌∷≡◌, build_listed, get_or_build, built, build_same, get_or_constant, placed, placed_none, placed_next, length_placed, placed_self, placed_same, ℤ, pos, negsuc, lt_z, le_z_yes, Each, up, of_le, lt_parts, add_parts, same_bits, each_[], each_∷, clip_z, clamp_cases, clamp_low, clamp_high, up_to_is, up_to_same, w16, SFits, of_z, to_z, Fits-of_z, to_z_inj}
+use Rattle.numbers.specs.Words.{ℕ, add_assoc, add-mul, add-zero, div-add-mod', mod-lt, mul-zero, one-mul, zero-add, arith, bit_or, and_le_l, and_le_r, or_add_and, or_lt, refl, sym, ◌∙◌, ap, ap₂, subst, Bool, true, false, cond, inl, inr, ⊎_elim, eqb, leb, lit<, lt_or, eq_or, never, not_so, both_left, both_right, both_true, eq-eqb, leb-false, leb-true, ne_eqb, List, [], length, get_or, set, take, drop, replicate, get_or-replicate, length-drop, length-replicate, length-set, length-take, ext_get_or, get_or-drop, get_or-set_other, get_or-set_same, get_or-take, length-take-le, build, ◌∷≡◌, build_listed, get_or_build, built, build_same, get_or_constant, placed, placed_none, placed_next, length_placed, placed_self, placed_same, ℤ, pos, negsuc, lt_z, le_z_yes, Each, up, of_le, lt_parts, add_parts, same_bits, each_[], each_∷, clip_z, clamp_cases, clamp_low, clamp_high, up_to_is, up_to_same, w16, SFits, of_z, to_z, Fits-of_z, to_z_inj}
 use Rattle.transform.specs.Transform.{grid_row, samples_of}
 use Rattle.transform.specs.Lanes.{by_blocks, known_length_of, short_residual, lane_residual, row_place, residuals_of}
 use Rattle.transform.specs.LanesLaws.{length_by_blocks, blocks_at, block_is, known_blocks, whole_blocks, residuals_at, residuals_in}

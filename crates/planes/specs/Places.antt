@@ -1,4 +1,4 @@
--- Where squares and sub_blocks_lem lie in a plane of `len` samples, w to a row.
+-- Where squares and sub-blocks lie in a plane of `len` samples, w to a row.
 use Rattle.std.specs.Prelude.{◌+◌, ◌-◌, ◌*◌, ◌/◌, ◌%◌, ◌^◌, ◌≤◌, ◌<◌, ◌≡◌, ◌⊎◌}
 use Rattle.numbers.specs.Words.{ℕ, add-mul, mul-le-mul_right, one-mul, dec_lt, ℕ_discrete, arith, bit_and, and_mask, refl, sym, ◌∙◌, ap, subst, false, cond, inl, inr, eqb, lt_or, eqb-false, Off}
 use Rattle.planes.specs.declared.edges.Spot.{Spot}
@@ -107,7 +107,7 @@ outside_sub a b k f g (inl (inr h)) = inl (inr (omega arith))
 outside_sub a b k f g (inr (inl h)) = inr (inl (omega arith))
 outside_sub a b k f g (inr (inr h)) = inr (inr (omega arith))
 
--- ---- sub_blocks_lem
+-- ---- sub-blocks
 -- how many a side has, and sub-block i among them
 abbrev pub BlockSides : ℕ → Type 0
 BlockSides m = (m ≡ 2) ⊎ (m ≡ 4)
@@ -247,7 +247,7 @@ size_some s = by_size (λ (n : ℕ). (0 < n) × (n ≤ 16)) (omega arith, omega 
 pub size_luma : {n : ℕ} → Size n → cond (eqb n 16) 16 8 ≡ n
 size_luma s = by_size (λ (n : ℕ). cond (eqb n 16) 16 8 ≡ n) refl refl s
 
--- a square of n by n as sub_blocks_lem
+-- a square of n by n as sub-blocks
 pub quarter : {n : ℕ} → Size n → 4 * (n / 4) ≡ n
 quarter s = by_size (λ (n : ℕ). 4 * (n / 4) ≡ n) refl refl s
 

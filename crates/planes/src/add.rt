@@ -15,7 +15,7 @@ fn sum(p: u8, r: i16) -> u8
     requires { Residual r }
     ensures { result ≡ clip_z (pos p +ℤ r) }
 {
-    clipped(p as i16 + r)
+    clipped(i16::from(p) + r)
 }
 
 // Four of them, side by side: all are read before one is stored.
@@ -66,7 +66,7 @@ fn add_lane(p: &mut [u8], w: usize, at: usize, r: &[i16; 256], i: usize)
 fn mean(dc: i16) -> i16
     ensures { (result ≡ mean_of dc) × Residual result }
 {
-    ((dc as i32 + 4) >> 3) as i16
+    ((i32::from(dc) + 4) >> 3) as i16
 }
 
 fn add_mean(p: &mut [u8], w: usize, at: usize, dc: i16)

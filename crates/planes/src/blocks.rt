@@ -63,6 +63,7 @@ pub(crate) fn coded_blocks(c: &[i16], n: usize) -> [bool; 16]
 pub(crate) fn any(coded: &[bool; 16]) -> bool
     ensures { result ≡ false → NoneBelow coded.now 16 }
 {
+    // All are looked at, and not until the first, so that the compiler takes them together.
     let mut some = false;
     for i in 0..16usize {
         some = coded[i] | some;

@@ -7,6 +7,7 @@ ghost use Rattle.planes.specs.Pieces.{blocks_fine_of};
 fn each_below(modes: &[u8; 16], limit: u8) -> bool
     ensures { result ≡ modes_below limit modes.now }
 {
+    // All are looked at, and not until the first, so that the compiler takes them together.
     let mut fine = true;
     for k in 0..16usize {
         fine = (modes[k] < limit) & fine;
@@ -31,9 +32,10 @@ fn among(side: usize, k: usize, size: usize) -> bool
     ensures { result ≡ side_fine_of side k size }
 {
     if size == 16 {
-        return (side % 16 == 0) & (k < side / 16);
+        (side % 16 == 0) & (k < side / 16)
+    } else {
+        (side % 8 == 0) & (k < side / 8)
     }
-    (side % 8 == 0) & (k < side / 8)
 }
 
 // The plane, and the square in it.

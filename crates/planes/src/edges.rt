@@ -34,7 +34,7 @@ fn near(p: &[u8], w: usize, x: usize, y: usize) -> u8
 }
 
 // A sub-block by its column, its row and the place of its first sample.
-#[derive(Clone, Copy)]
+#[derive(Clone, Copy, Debug, PartialEq, Eq)]
 pub(crate) struct Spot {
     pub x: usize,
     pub y: usize,
@@ -109,13 +109,13 @@ pub(crate) fn edge(p: &[u8], w: usize, x: usize, y: usize, size: usize) -> Borde
     requires size_bound { size ≤ 16 }
     ensures { result ≡ edge_of p.now w x y size }
 {
-    let a = first_above(p, w, x, y, size);
-    let l = first_left(p, w, x, y, size);
+    let above = first_above(p, w, x, y, size);
+    let left = first_left(p, w, x, y, size);
     let corner = near(p, w, x, y);
     Border {
-        above: a,
-        left: l,
-        corner: corner,
+        above,
+        left,
+        corner,
         above_inside: 0 < y,
         left_inside: 0 < x,
     }
@@ -132,7 +132,7 @@ pub(crate) fn above_right(p: &[u8], w: usize, x: usize, y: usize) -> [u8; 4]
     }
     let s = Spot {
         x: x + 16,
-        y: y,
+        y,
         at: place(y, w, x + 16),
     };
     four_above(p, w, s)

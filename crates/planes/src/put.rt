@@ -55,6 +55,7 @@ fn put_row(p: &mut [u8], at: usize, b: &[u8; 16], size: usize)
     }
 }
 
+// Three functions stay: the row differs, and a loop over all three would call a closure a row.
 // A square whose rows are all b.
 fn put_same(p: &mut [u8], w: usize, x: usize, y: usize, size: usize, b: [u8; 16])
     requires square { Square (length p.old) w x y size }

@@ -1,5 +1,5 @@
 -- `any` meets its contract: where nothing was found, none of those passed has a flag.
-use Rattle.numbers.specs.Words.{ℕ, ◌-◌, arith, ◌≡◌, refl, Bool, true, false, ◌||◌, never, get_or}
+use Rattle.numbers.specs.Words.{ℕ, arith, ◌≡◌, refl, Bool, true, false, ◌||◌, never, get_or}
 use Rattle.transform.specs.TransformLaws.{below_next}
 use Rattle.planes.proofs.blocks.any.Goals as goal
 

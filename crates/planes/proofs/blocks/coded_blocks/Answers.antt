@@ -1,5 +1,5 @@
 -- `coded_blocks` meets its contract: eight blocks, or twice eight.
-use Rattle.numbers.specs.Words.{◌-◌, arith, ◌≡◌, refl}
+use Rattle.numbers.specs.Words.{arith, ◌≡◌, refl}
 use Rattle.planes.specs.PiecesLaws.{coded_none, coded_next}
 use Rattle.planes.proofs.blocks.coded_blocks.Goals as goal
 

@@ -1,5 +1,5 @@
 -- `join` meets its contract: a number a turn.
-use Rattle.numbers.specs.Words.{◌+◌, ◌-◌, arith, ◌≡◌, get_or, pos, inside, any, w16}
+use Rattle.numbers.specs.Words.{◌+◌, arith, ◌≡◌, get_or, pos, inside, any, w16}
 use Rattle.planes.specs.PiecesLaws.{joined_none, joined_next, joined_zero}
 use Rattle.planes.proofs.blocks.join.Goals as goal
 

@@ -1,5 +1,5 @@
 -- `mark` meets its contract: a flag a turn.
-use Rattle.numbers.specs.Words.{◌-◌, ◌^◌, ◌<◌, arith, ◌≡◌, false, not, eqb, lit<, eqb-true, not-false, get_or, ℤ, pos, mag, same_bits, w16, hbits, of_z}
+use Rattle.numbers.specs.Words.{◌^◌, ◌<◌, arith, ◌≡◌, false, not, eqb, lit<, eqb-true, not-false, get_or, ℤ, pos, mag, same_bits, w16, hbits, of_z}
 use Rattle.planes.specs.PiecesLaws.{marked_none, marked_next}
 use Rattle.planes.proofs.blocks.mark.Goals as goal
 

@@ -1,5 +1,5 @@
 -- `each_below` meets its contract: what the loop holds is true of the modes passed.
-use Rattle.numbers.specs.Words.{ℕ, ◌-◌, arith, ◌≡◌, refl, ltb, get_or}
+use Rattle.numbers.specs.Words.{ℕ, arith, ◌≡◌, refl, ltb, get_or}
 use Rattle.planes.proofs.Turns.{all_next}
 use Rattle.planes.proofs.checks.each_below.Goals as goal
 

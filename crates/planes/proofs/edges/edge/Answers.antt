@@ -4,4 +4,4 @@ use Rattle.planes.proofs.edges.edge.Goals as goal
 
 pub returns : goal.returns
 unfolding edge_of
-returns c = rw (c.near-corner.ensures, c.first_left-l.ensures, c.first_above-a.ensures)
+returns c = rw (c.near-corner.ensures, c.first_left-left.ensures, c.first_above-above.ensures)

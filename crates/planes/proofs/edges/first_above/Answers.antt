@@ -1,5 +1,5 @@
 -- `first_above` meets its contract: the array is filled, place by place.
-use Rattle.numbers.specs.Words.{◌-◌, arith, ◌≡◌, sym}
+use Rattle.numbers.specs.Words.{arith, ◌≡◌, sym}
 use Rattle.planes.specs.PaintLaws.{first_none, first_next}
 use Rattle.planes.specs.Places.{reach_above}
 use Rattle.planes.proofs.edges.first_above.Goals as goal

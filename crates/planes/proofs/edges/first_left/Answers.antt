@@ -1,5 +1,5 @@
 -- `first_left` meets its contract: the array is filled, place by place.
-use Rattle.numbers.specs.Words.{◌-◌, arith, ◌≡◌, sym}
+use Rattle.numbers.specs.Words.{arith, ◌≡◌, sym}
 use Rattle.planes.specs.PaintLaws.{first_none, first_next}
 use Rattle.planes.specs.Places.{reach_left}
 use Rattle.planes.proofs.edges.first_left.Goals as goal

@@ -1,5 +1,5 @@
 -- `put` meets its contract: a sample a turn.
-use Rattle.numbers.specs.Words.{◌-◌, arith, ◌≡◌, sym, placed_none, placed_next, length_placed}
+use Rattle.numbers.specs.Words.{arith, ◌≡◌, sym, placed_none, placed_next, length_placed}
 use Rattle.planes.proofs.put.put.Goals as goal
 
 pub loop-k-init : goal.loop-k-init

@@ -1,5 +1,5 @@
 -- `put_left` meets its contract: a row a turn.
-use Rattle.numbers.specs.Words.{◌-◌, arith, ◌≡◌, sym, get_or-replicate}
+use Rattle.numbers.specs.Words.{arith, ◌≡◌, sym, get_or-replicate}
 use Rattle.planes.specs.PaintLaws.{rows_none, length_rows}
 use Rattle.planes.specs.Places.{size_some}
 use Rattle.planes.specs.PiecesLaws.{row_room, row_turn}

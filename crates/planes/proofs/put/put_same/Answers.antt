@@ -1,5 +1,5 @@
 -- `put_same` meets its contract: a row a turn.
-use Rattle.numbers.specs.Words.{◌-◌, arith, ◌≡◌, refl, sym}
+use Rattle.numbers.specs.Words.{arith, ◌≡◌, refl, sym}
 use Rattle.planes.specs.PaintLaws.{rows_none, length_rows}
 use Rattle.planes.specs.PiecesLaws.{row_room, row_turn}
 use Rattle.planes.proofs.put.put_same.Goals as goal

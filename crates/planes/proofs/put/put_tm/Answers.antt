@@ -1,5 +1,5 @@
 -- `put_tm` meets its contract: a row a turn.
-use Rattle.numbers.specs.Words.{ℕ, ◌-◌, arith, ◌≡◌, sym, ◌∙◌, ap, List, get_or, get_or_build}
+use Rattle.numbers.specs.Words.{ℕ, arith, ◌≡◌, sym, ◌∙◌, ap, List, get_or, get_or_build}
 use Rattle.planes.specs.PaintLaws.{rows_none, length_rows}
 use Rattle.planes.specs.Places.{size_some}
 use Rattle.planes.specs.PiecesLaws.{row_room, row_turn}
