@@ -1,12 +1,11 @@
 -- The laws of column records, in both forms: what was written is read back, the other columns stay, and every context in the memory stays in
 -- range.
 use Rattle.std.specs.Prelude.{◌+◌, ◌*◌, ◌<◌, ◌≡◌}
-use Rattle.numbers.specs.Words.{ℕ, zero-add, arith, refl, sym, ◌∙◌, ap, ap₂, true, ⊎_elim, lit<, eq_or, List, length, get_or, replicate, get_or-append, length-append, get_or-append-add}
+use Rattle.numbers.specs.Words.{Ok, ℕ, zero-add, arith, refl, sym, ◌∙◌, ap, ap₂, true, ⊎_elim, lit<, eq_or, List, length, get_or, replicate, get_or-append, length-append, get_or-append-add}
 use Rattle.modes.specs.declared.contexts.Context.{Context}
 use Rattle.modes.specs.Modes.{empty_context, context_fine_of, Shaped}
 use Rattle.column.specs.Column.{digits_of}
 use Rattle.column.specs.ColumnLaws.{unpacked_shaped, context_back}
-use Rattle.numbers.specs.declared.Checked.TheVariants as K
 use Rattle.lent.specs.Memory.{ColumnRecord, record_at, records_in, Form, packed, old, form_width, column_width, column_bytes, context_in, column_at, column_set, column_found, Columns}
 use Rattle.lent.specs.RecordsLaws.{bytes_are, record_back, record_other, record_set_length, record_zeros, read_good}
 
@@ -73,7 +72,7 @@ pub columns_empty : (form : Form) (n : ℕ) → Columns form (replicate n 0)
 columns_empty form n x h = ap context_fine_of (column_empty form n x)
 
 -- the call that reads it
-pub column_read : (mem : List ℕ) (x : ℕ) → x < records_in column_width mem → column_found mem x ≡ record { answer = K.Done; context = column_at packed mem x }
+pub column_read : (mem : List ℕ) (x : ℕ) → x < records_in column_width mem → column_found mem x ≡ record { answer = Ok tt; context = column_at packed mem x }
 column_read mem x h = λ i. let r = read_good column_width mem x h i in record { answer = r.answer; context = context_in packed r.bytes }
 
 -- as a caller finds it

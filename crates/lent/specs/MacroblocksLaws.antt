@@ -1,10 +1,9 @@
 -- The laws of the records of macroblocks: what was written is read back, and the other records stay.
 use Rattle.std.specs.Prelude.{◌+◌, ◌<◌, ◌≡◌, ◌&&◌, ◌∷◌, ◌++◌}
-use Rattle.numbers.specs.Words.{ℕ, suc, refl, sym, ◌∙◌, ap, Bool, true, false, ltb, lit<, both_left, both_true, lt-ltb, bit_of, List, [], length, get_or, get_or-append, length-append, get_or-append-add, get_or-append_seam, copied}
+use Rattle.numbers.specs.Words.{Ok, ℕ, suc, refl, sym, ◌∙◌, ap, Bool, true, false, ltb, lit<, both_left, both_true, lt-ltb, bit_of, List, [], length, get_or, get_or-append, length-append, get_or-append-add, get_or-append_seam, copied}
 use Rattle.modes.specs.Modes.{zeros, Macroblock, kinds_of}
 use Rattle.modes.specs.ModesLaws.{InRange}
 use Rattle.modes.specs.declared.answers.Kinds.{Kinds}
-use Rattle.numbers.specs.declared.Checked.TheVariants as K
 use Rattle.filter.specs.declared.strengths.Strength.{Strength}
 use Rattle.filter.specs.Strengths.{strength_fine_of}
 use Rattle.lent.specs.Memory.{StrengthRecord, records_in, FoundRecord, mode_width, mode_record, is_on, kinds_in, modes_in, kinds_at, modes_at, mode_set, kinds_fine_of, mode_found, strength_width, strength_record, strength_in, strength_at_of, strength_set, strength_found}
@@ -52,7 +51,7 @@ module _ (mem : List ℕ) (i : ℕ) (k : Kinds) (modes : List ℕ) where
     pub modes_other : modes_at (mode_set mem i k modes) o ≡ modes_at mem o
     modes_other = ap modes_in (record_other mode_width mem i (mode_record k modes) o n)
 
-pub mode_read : (mem : List ℕ) (i : ℕ) → i < records_in mode_width mem → mode_found mem i ≡ record { answer = K.Done; kinds = kinds_at mem i; modes = modes_at mem i }
+pub mode_read : (mem : List ℕ) (i : ℕ) → i < records_in mode_width mem → mode_found mem i ≡ record { answer = Ok tt; kinds = kinds_at mem i; modes = modes_at mem i }
 mode_read mem i h = λ o. let r = read_good mode_width mem i h o in record { answer = r.answer; kinds = kinds_in r.bytes; modes = modes_in r.bytes }
 
 -- modes in range can be written

@@ -1,13 +1,12 @@
 -- The memory that the caller lends: its parts, its records, its lengths.
 use Rattle.std.specs.Prelude.{◌+◌, ◌*◌, ◌/◌, ◌<◌, ◌≡◌, ◌&&◌, ◌∷◌, ◌++◌}
-use Rattle.numbers.specs.Words.{ℕ, List, length, replicate, Bool, true, false, not, eqb, ltb, bit_of, [], get_or, build, listed, copied}
+use Rattle.numbers.specs.Words.{Ok, Err, Checked, ℕ, List, length, replicate, Bool, true, false, not, eqb, ltb, bit_of, [], get_or, build, listed, copied}
 use Rattle.filter.specs.declared.strengths.Strength.{Strength}
 use Rattle.filter.specs.Strengths.{strength_fine_of}
 use Rattle.modes.specs.declared.answers.Kinds.{Kinds}
 use Rattle.modes.specs.Modes.{each_below_of, context_fine_of}
 use Rattle.modes.specs.declared.contexts.Context.{Context}
-use Rattle.numbers.specs.declared.Checked.{Checked}
-use Rattle.numbers.specs.declared.Checked.TheVariants as K
+use Rattle.numbers.specs.declared.Refused.TheVariants as K
 use Rattle.column.specs.Column.{packed_bytes, context_unpacked}
 pub use Rattle.lent.specs.declared.columns.ColumnRecord.{ColumnRecord}
 use Rattle.lent.specs.declared.macroblocks.ModeRecord.{ModeRecord}
@@ -71,8 +70,8 @@ pub record Written : Type 0 where
 unfoldable pub record_written : (width : ℕ) → List ℕ → ℕ → (fine : Bool) → List ℕ → Written
 record_written width mem i fine bytes =
     elim (ltb i (records_in width mem) && fine) [
-      | true ↦ record { answer = K.Done; mem = record_set width mem i bytes }
-      | false ↦ record { answer = K.Refused; mem = mem }
+      | true ↦ record { answer = Ok tt; mem = record_set width mem i bytes }
+      | false ↦ record { answer = Err K.OutOfRange; mem = mem }
     ]
 
 -- reading: refused, and zeros, where there is no such record
@@ -84,8 +83,8 @@ pub record FoundRecord : Type 0 where
 unfoldable pub record_found : (width : ℕ) → List ℕ → ℕ → FoundRecord
 record_found width mem i =
     elim (ltb i (records_in width mem)) [
-      | true ↦ record { answer = K.Done; bytes = record_at width mem i }
-      | false ↦ record { answer = K.Refused; bytes = replicate width 0 }
+      | true ↦ record { answer = Ok tt; bytes = record_at width mem i }
+      | false ↦ record { answer = Err K.OutOfRange; bytes = replicate width 0 }
     ]
 
 -- ---- a macroblock column: the context that the macroblock above leaves, four modes and nine flags, in one of two forms

@@ -1,8 +1,8 @@
 -- The laws of records, for every width: what was written is read back, the other records stay, and what the calls answer.
 use Rattle.std.specs.Prelude.{◌+◌, ◌-◌, ◌*◌, ◌/◌, ◌≤◌, ◌<◌, ◌≡◌, ◌&&◌, ◌++◌}
-use Rattle.numbers.specs.Words.{ℕ, suc, le-div_iff_mul-le, mul-le-mul_right, suc-mul, zero-add, arith, sym, ◌∙◌, ap, Bool, true, false, inl, inr, ⊎_elim, ltb, lt_or, both_true, both_false, le-ltb, lt-ltb, List, [], append-nil, length, get_or, take, drop, replicate, get_or-append, length-append, length-drop, length-replicate, ext_get_or, get_or-append-add, get_or-drop, get_or-take, length-take-le, build_listed, get_or_build, built, build_same, get_or_constant, copied, Off, length_copied, copied_in, copied_off}
+use Rattle.numbers.specs.Words.{Ok, Err, ℕ, suc, le-div_iff_mul-le, mul-le-mul_right, suc-mul, zero-add, arith, sym, ◌∙◌, ap, Bool, true, false, inl, inr, ⊎_elim, ltb, lt_or, both_true, both_false, le-ltb, lt-ltb, List, [], append-nil, length, get_or, take, drop, replicate, get_or-append, length-append, length-drop, length-replicate, ext_get_or, get_or-append-add, get_or-drop, get_or-take, length-take-le, build_listed, get_or_build, built, build_same, get_or_constant, copied, Off, length_copied, copied_in, copied_off}
 use Rattle.lent.specs.Memory.{record_at, record_set, records_in, bytes_of, Written, record_written, record_found}
-use Rattle.numbers.specs.declared.Checked.TheVariants as K
+use Rattle.numbers.specs.declared.Refused.TheVariants as K
 
 -- ---- a record, byte by byte
 module _ (w : ℕ) (mem : List ℕ) (i : ℕ) where
@@ -62,22 +62,22 @@ module _ (w : ℕ) (mem : List ℕ) (i : ℕ) (b : List ℕ) where
 -- ---- the calls
 module _ (w : ℕ) (mem : List ℕ) (i : ℕ) where
   module _ (fine : Bool) (b : List ℕ) where
-    pub write_good : i < records_in w mem → fine ≡ true → record_written w mem i fine b ≡ record { answer = K.Done; mem = record_set w mem i b }
+    pub write_good : i < records_in w mem → fine ≡ true → record_written w mem i fine b ≡ record { answer = Ok tt; mem = record_set w mem i b }
     unfolding record_written
     write_good h e = rw (both_true (lt-ltb i (records_in w mem) h) e, record_written)
 
-    refused : ltb i (records_in w mem) && fine ≡ false → record { answer = K.Refused; mem = mem } ≡ record_written w mem i fine b
+    refused : ltb i (records_in w mem) && fine ≡ false → record { answer = Err K.OutOfRange; mem = mem } ≡ record_written w mem i fine b
     unfolding record_written
     refused e = rw (e, record_written)
 
-    pub write_place : records_in w mem ≤ i → record { answer = K.Refused; mem = mem } ≡ record_written w mem i fine b
+    pub write_place : records_in w mem ≤ i → record { answer = Err K.OutOfRange; mem = mem } ≡ record_written w mem i fine b
     write_place h = refused (rw (le-ltb i (records_in w mem) h))
 
-    pub write_values : fine ≡ false → record { answer = K.Refused; mem = mem } ≡ record_written w mem i fine b
+    pub write_values : fine ≡ false → record { answer = Err K.OutOfRange; mem = mem } ≡ record_written w mem i fine b
     write_values e = refused (both_false (ltb i (records_in w mem)) e)
 
     -- as the code stores it, with the record's start worked out
-    pub write_stored : {at : ℕ} {y : List ℕ} → i < records_in w mem → fine ≡ true → at ≡ i * w → y ≡ copied mem at b 0 w → record { answer = K.Done; mem = y } ≡ record_written w mem i fine b
+    pub write_stored : {at : ℕ} {y : List ℕ} → i < records_in w mem → fine ≡ true → at ≡ i * w → y ≡ copied mem at b 0 w → record { answer = Ok tt; mem = y } ≡ record_written w mem i fine b
     unfolding record_set
     write_stored {at} {y} h e f g =
         let z : y ≡ record_set w mem i b = g ∙ ap (λ (a : ℕ). copied mem a b 0 w) f in
@@ -87,11 +87,11 @@ module _ (w : ℕ) (mem : List ℕ) (i : ℕ) where
   pub written_as : {f fine : Bool} {b bytes : List ℕ} {x : Written} → length b ≡ w → f ≡ fine → b ≡ bytes → x ≡ record_written (length b) mem i f b → x ≡ record_written w mem i fine bytes
   written_as e g h k = k ∙ (λ o. record_written (e o) mem i (g o) (h o))
 
-  pub read_good : i < records_in w mem → record_found w mem i ≡ record { answer = K.Done; bytes = record_at w mem i }
+  pub read_good : i < records_in w mem → record_found w mem i ≡ record { answer = Ok tt; bytes = record_at w mem i }
   unfolding record_found
   read_good h = rw (lt-ltb i (records_in w mem) h, record_found)
 
-  pub read_place : {b : List ℕ} → b ≡ replicate w 0 → records_in w mem ≤ i → record { answer = K.Refused; bytes = b } ≡ record_found w mem i
+  pub read_place : {b : List ℕ} → b ≡ replicate w 0 → records_in w mem ≤ i → record { answer = Err K.OutOfRange; bytes = b } ≡ record_found w mem i
   unfolding record_found
   read_place e h = rw (le-ltb i (records_in w mem) h, record_found, e)
 
@@ -141,7 +141,7 @@ copied_whole z b e = rw (append-nil z, append-nil b) at (copied_middle [] z b []
 
 -- a part of memory, copied over as many others
 pub read_stored : (mem z : List ℕ) (i : ℕ) {at e : ℕ} {x : List ℕ} → 0 < length z → i < records_in (length z) mem → at ≡ i * length z → at + length z ≡ e
-    → x ≡ copied z 0 (take (e - at) (drop at mem)) 0 (length (take (e - at) (drop at mem))) → record { answer = K.Done; bytes = x } ≡ record_found (length z) mem i
+    → x ≡ copied z 0 (take (e - at) (drop at mem)) 0 (length (take (e - at) (drop at mem))) → record { answer = Ok tt; bytes = x } ≡ record_found (length z) mem i
 read_stored mem z i {at} {e} {x} p h f l g =
     let w : ℕ = length z in
     let k : i * w + w ≤ length mem = record_inside w (length mem) i p h in

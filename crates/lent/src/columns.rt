@@ -5,19 +5,20 @@ ghost use Rattle.lent.specs.Memory.{Written, column_written, column_found};
 use crate::records::{read, write};
 use column::{pack, unpack};
 use modes::contexts::{Context, context_fine};
-use numbers::Checked;
+use numbers::Refused;
 
 pub const COLUMN_WIDTH: usize = 4;
 
 // A column's context as it was found; the empty one where it is refused.
+// Stays beside the answer: callers use the context without a test, and a refused read promises the empty one.
 #[derive(Clone, Copy)]
 pub struct ColumnRecord {
-    pub answer: Checked,
+    pub answer: Result<(), Refused>,
     pub context: Context,
 }
 
 // Writes the context of column x.
-pub fn write_column(mem: &mut [u8], x: usize, c: Context) -> Checked
+pub fn write_column(mem: &mut [u8], x: usize, c: Context) -> Result<(), Refused>
     ensures { ◌≡◌ {A = Written} (record { answer = result; mem = mem.new }) (column_written mem.old x c) }
 {
     let bytes = pack(c);

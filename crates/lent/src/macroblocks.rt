@@ -7,24 +7,26 @@ use crate::records::{read, store, write};
 use filter::strengths::{Strength, strength_fine};
 use modes::answers::Kinds;
 use modes::contexts::each_below;
-use numbers::Checked;
+use numbers::Refused;
 
 pub const MODE_WIDTH: usize = 20;
 
 pub const STRENGTH_WIDTH: usize = 6;
 
 // A macroblock's modes as they were found; zeros where they are refused.
+// They stay beside the answer: survey and profile use them without a test, and a refused read promises zeros.
 #[derive(Clone, Copy)]
 pub struct ModeRecord {
-    pub answer: Checked,
+    pub answer: Result<(), Refused>,
     pub kinds: Kinds,
     pub modes: [u8; 16],
 }
 
 // A macroblock's strengths as they were found, its segment and whether its modes are small; zeros where they are refused.
+// They stay beside the answer: survey and deblock use them without a test, and a refused read promises zeros.
 #[derive(Clone, Copy)]
 pub struct StrengthRecord {
-    pub answer: Checked,
+    pub answer: Result<(), Refused>,
     pub strength: Strength,
     pub segment: u8,
     pub small: bool,
@@ -50,7 +52,12 @@ fn kinds_fine(k: Kinds) -> bool
 }
 
 // Writes the modes of macroblock i.
-pub fn write_mode_record(mem: &mut [u8], i: usize, kinds: Kinds, modes: &[u8; 16]) -> Checked
+pub fn write_mode_record(
+    mem: &mut [u8],
+    i: usize,
+    kinds: Kinds,
+    modes: &[u8; 16],
+) -> Result<(), Refused>
     ensures { ◌≡◌ {A = Written} (record { answer = result; mem = mem.new })
         (mode_written mem.old i kinds modes.now) }
 {
@@ -80,7 +87,7 @@ pub fn read_mode_record(mem: &[u8], i: usize) -> ModeRecord
 }
 
 // Writes the strengths of macroblock i, and of its kinds the segment and whether its modes are small.
-pub fn write_strength(mem: &mut [u8], i: usize, t: Strength, kinds: Kinds) -> Checked
+pub fn write_strength(mem: &mut [u8], i: usize, t: Strength, kinds: Kinds) -> Result<(), Refused>
     ensures { ◌≡◌ {A = Written} (record { answer = result; mem = mem.new })
         (strength_written mem.old i t kinds) }
 {

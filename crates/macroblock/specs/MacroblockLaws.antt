@@ -1,6 +1,6 @@
 -- The laws of one macroblock: what its inner functions ask, and what its three squares and its two grammars give.
 use Rattle.std.specs.Prelude.{◌+◌, ◌*◌, ◌/◌, ◌≤◌, ◌≡◌, ◌||◌}
-use Rattle.numbers.specs.Words.{ℕ, arith, refl, sym, ◌∙◌, ap, Bool, true, false, not, inl, inr, ⊎_elim, lt_or, never, List, length, get_or, take, drop, replicate, get_or-eq_default, length-drop, length-take, drop-drop, get_or-drop, get_or-take, length-take-le, take_all, ℤ, pos, negsuc, Each, of_le, Ok, Err}
+use Rattle.numbers.specs.Words.{Checked, ℕ, arith, refl, sym, ◌∙◌, ap, Bool, true, false, not, inl, inr, ⊎_elim, lt_or, never, List, length, get_or, take, drop, replicate, get_or-eq_default, length-drop, length-take, drop-drop, get_or-drop, get_or-take, length-take-le, take_all, ℤ, pos, negsuc, Each, of_le, Ok, Err}
 use Rattle.reader.specs.declared.boolean.Reader.{Reader}
 use Rattle.reader.specs.Reading.{Given, given, missing, run}
 use Rattle.header.specs.declared.frame.Frame.{Frame}
@@ -12,7 +12,6 @@ use Rattle.modes.specs.declared.contexts.Context.{Context}
 use Rattle.transform.specs.Lanes.{by_blocks, macroblock_blocks}
 use Rattle.transform.specs.LanesLaws.{length_by_blocks, blocks_luma, blocks_chroma}
 use Rattle.residual.specs.Residual.{Model, ModelInRange, residual_of}
-use Rattle.numbers.specs.declared.Checked.{Checked}
 use Rattle.planes.specs.Paint.{PaintedPlane, paint_of, square_blocks}
 use Rattle.planes.specs.PaintLaws.{Proper, paint_good, square_taken}
 use Rattle.filter.specs.declared.strengths.Strength.{Strength}

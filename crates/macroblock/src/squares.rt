@@ -30,7 +30,7 @@ pub(crate) fn squares(
 {
     let width = place.width;
     let half = width / 2;
-    paint(
+    let _ = paint(
         y,
         width,
         place.column,
@@ -42,7 +42,7 @@ pub(crate) fn squares(
         &c[0..256],
         0,
     );
-    paint(
+    let _ = paint(
         u,
         half,
         place.column,
@@ -54,7 +54,7 @@ pub(crate) fn squares(
         &c[256..384],
         U_FIRST,
     );
-    paint(
+    let _ = paint(
         v,
         half,
         place.column,

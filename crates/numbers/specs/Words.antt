@@ -47,7 +47,7 @@ pub use Rattle.numbers.specs.ClampLaws.{clamp_tests, clamp_cases, clamp_in, clam
 unfoldable pub use Rattle.numbers.specs.Wrap.{wrap_z, wrap16_of}
 pub use Rattle.numbers.specs.Wrap.{wrap16_number_of, signed16}
 pub use Rattle.numbers.specs.WrapLaws.{wrap_in, wrap_is, wrapped_source, wrapped_good, wrapped_value, wrapped_never}
-pub use Rattle.numbers.specs.Checked.{checked_number_of}
+pub use Rattle.numbers.specs.Checked.{Checked, checked_number_of}
 -- the code's values, and what a proof of code must show
 pub use Rattle.std.specs.Int.{w8, w16, w32, w64}
 pub use mir.Val.{Fits, SFits, bool_byte, hbits, of_z, to_z}

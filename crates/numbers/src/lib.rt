@@ -7,11 +7,10 @@ ghost use Rattle.numbers.specs.Lists.{byte_at, copied_over};
 ghost use Rattle.numbers.specs.Clamp.{up_to};
 ghost use Rattle.numbers.specs.Wrap.{wrap16_of};
 
-// Whether a call did its work, or refused an argument out of range (9) and left everything as it was.
-#[derive(Clone, Copy)]
-pub enum Checked {
-    Done,
-    Refused,
+// Why a call did nothing: an argument was out of range (9), and everything was left as it was.
+#[derive(Clone, Copy, Debug, PartialEq, Eq)]
+pub enum Refused {
+    OutOfRange,
 }
 
 // v modulo 65536, in -32768..32767; none beyond a thousand million, either way. The multiple of 65536 that is added keeps what is divided positive.

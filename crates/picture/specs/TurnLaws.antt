@@ -1,12 +1,11 @@
 -- What one macroblock leaves, from the answers of the calls that make it.
 use Rattle.std.specs.Prelude.{◌<◌, ◌≡◌, ◌&&◌}
-use Rattle.numbers.specs.Words.{ℕ, arith, refl, sym, ◌∙◌, ap, true, ltb, both_true, List, length, Ok}
+use Rattle.numbers.specs.Words.{Checked, ℕ, arith, refl, sym, ◌∙◌, ap, true, ltb, both_true, List, length, Ok}
 use Rattle.reader.specs.ReadingLaws.{Bytes, Valid}
 use Rattle.modes.specs.Modes.{kinds_of, each_below_of, context_fine_of, Shaped}
 use Rattle.modes.specs.declared.contexts.Context.{Context}
 use Rattle.modes.specs.ModesLaws.{modes_test}
 use Rattle.filter.specs.Strengths.{strength_fine_of}
-use Rattle.numbers.specs.declared.Checked.{Checked}
 use Rattle.lent.specs.declared.columns.ColumnRecord.{ColumnRecord}
 use Rattle.lent.specs.Memory.{Written, records_in, column_width, mode_width, strength_width, packed, column_bytes, column_at, column_found, column_set, column_written, kinds_fine_of, mode_record, mode_set, mode_written, strength_record, strength_set, strength_written, Memory, memory_of}
 use Rattle.lent.specs.RecordsLaws.{write_good}

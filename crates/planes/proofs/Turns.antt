@@ -1,6 +1,6 @@
 -- One turn of each loop over sub-blocks, and each way out of the public call, on plain values.
-use Rattle.numbers.specs.Words.{ℕ, ◌+◌, ◌*◌, ◌/◌, ◌%◌, ◌^◌, ◌≤◌, ◌<◌, add-one, zero-add, ◌≡◌, sym, ◌∙◌, ap, Bool, true, false, ◌&&◌, cond, eqb, both_true, both_false, List, length, get_or, Bytes, all_below, ℤ, pos, negsuc, mag, Know, round, any, w16, hbits}
-use Rattle.numbers.specs.declared.Checked.TheVariants.{Done, Refused}
+use Rattle.numbers.specs.Words.{Ok, Err, ℕ, ◌+◌, ◌*◌, ◌/◌, ◌%◌, ◌^◌, ◌≤◌, ◌<◌, add-one, zero-add, ◌≡◌, sym, ◌∙◌, ap, Bool, true, false, ◌&&◌, cond, eqb, both_true, both_false, List, length, get_or, Bytes, all_below, ℤ, pos, negsuc, mag, Know, round, any, w16, hbits}
+use Rattle.numbers.specs.declared.Refused.TheVariants as K
 use Rattle.planes.specs.declared.edges.Spot.{Spot}
 use Rattle.predict.specs.Predict.{small_block_of}
 use Rattle.planes.specs.Paint.{block_above_right_of, around_of, painted, block_painted, blocks_painted, small_at, small_rule, square_painted, square_blocks, paint_modes_fine, square_fine_of, coefficients_fine, paint_fine, paint_of}
@@ -59,17 +59,17 @@ pub all_next : (f : ℕ → Bool) (k : ℕ) {b : Bool} → b ≡ all_below k f �
 all_next f k e = rw (e, add-one)
 
 module _ (p : List ℕ) (w column row n : ℕ) (small : Bool) (mode : ℕ) (modes : List ℕ) (c : List ℤ) where
-  pub refused_modes : paint_modes_fine n small mode modes ≡ false → record { answer = Refused; plane = p } ≡ paint_of p w column row n small mode modes c
+  pub refused_modes : paint_modes_fine n small mode modes ≡ false → record { answer = Err K.OutOfRange; plane = p } ≡ paint_of p w column row n small mode modes c
   unfolding paint_of paint_fine
   refused_modes e = rw e
 
-  pub refused_square : square_fine_of (length p) w column row n ≡ false → record { answer = Refused; plane = p } ≡ paint_of p w column row n small mode modes c
+  pub refused_square : square_fine_of (length p) w column row n ≡ false → record { answer = Err K.OutOfRange; plane = p } ≡ paint_of p w column row n small mode modes c
   unfolding paint_of paint_fine
   refused_square e =
       let l : square_fine_of (length p) w column row n && coefficients_fine n c ≡ false = rw e in
       rw (both_false (paint_modes_fine n small mode modes) l)
 
-  pub refused_coefficients : coefficients_fine n c ≡ false → record { answer = Refused; plane = p } ≡ paint_of p w column row n small mode modes c
+  pub refused_coefficients : coefficients_fine n c ≡ false → record { answer = Err K.OutOfRange; plane = p } ≡ paint_of p w column row n small mode modes c
   unfolding paint_of paint_fine
   refused_coefficients e = rw (both_false (paint_modes_fine n small mode modes) (both_false (square_fine_of (length p) w column row n) e))
 
@@ -80,6 +80,6 @@ module _ (p : List ℕ) (w column row n : ℕ) (small : Bool) (mode : ℕ) (mode
 
   pub done : {q : List ℕ} {x y : ℕ} → paint_fine (length p) w column row n small mode modes c ≡ true
       → x ≡ column * n → y ≡ row * n → q ≡ square_painted p w x y n small mode modes c
-      → record { answer = Done; plane = q } ≡ paint_of p w column row n small mode modes c
+      → record { answer = Ok tt; plane = q } ≡ paint_of p w column row n small mode modes c
   unfolding paint_of
   done e a b h = rw (e, h, a, b)

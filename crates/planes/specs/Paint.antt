@@ -2,11 +2,10 @@
 -- and section 14.5, 4619-4629 (the residual is added). A plane is a list of samples, w to a row: the sample at column x of row y is its element
 -- y * w + x.
 use Rattle.std.specs.Prelude.{◌+◌, ◌*◌, ◌/◌, ◌%◌, ◌&&◌, ◌||◌, ◌∷◌, ◌+ℤ◌}
-use Rattle.numbers.specs.Words.{ℕ, zero, suc, Bool, true, false, cond, eqb, ltb, leb, List, [], length, get_or, take, drop, replicate, build, placed, copied, all_below, ℤ, pos, clip_z}
+use Rattle.numbers.specs.Words.{Ok, Err, Checked, ℕ, zero, suc, Bool, true, false, cond, eqb, ltb, leb, List, [], length, get_or, take, drop, replicate, build, placed, copied, all_below, ℤ, pos, clip_z}
 use Rattle.transform.specs.Transform.{samples_of, fits16}
 use Rattle.transform.specs.Lanes.{by_blocks, known_length_of}
-use Rattle.numbers.specs.declared.Checked.{Checked}
-use Rattle.numbers.specs.declared.Checked.TheVariants.{Done, Refused}
+use Rattle.numbers.specs.declared.Refused.TheVariants as K
 use Rattle.predict.specs.declared.Border.{Border}
 use Rattle.predict.specs.Predict.{small_block_of, dc_of, large_of}
 
@@ -176,5 +175,5 @@ pub record PaintedPlane : Type 0 where
 unfoldable pub paint_of : List ℕ → (w column row n : ℕ) (small : Bool) (mode : ℕ) (modes : List ℕ) → List ℤ → PaintedPlane
 paint_of p w column row n small mode modes c =
     cond (paint_fine (length p) w column row n small mode modes c)
-    (record { answer = Done; plane = square_painted p w (column * n) (row * n) n small mode modes c })
-    (record { answer = Refused; plane = p })
+    (record { answer = Ok tt; plane = square_painted p w (column * n) (row * n) n small mode modes c })
+    (record { answer = Err K.OutOfRange; plane = p })

@@ -1,10 +1,10 @@
 -- What callers and proofs cite of painting. Callers: `length_paint`, `paint_bytes`, `paint_off`, `paint-in`,
 -- `paint-same` and `paint_good`, at the end.
 use Rattle.std.specs.Prelude.{◌+◌, ◌-◌, ◌*◌, ◌/◌, ◌%◌, ◌≤◌, ◌<◌, ◌≡◌, ◌&&◌, ◌||◌, ◌⊎◌, ◌+ℤ◌}
-use Rattle.numbers.specs.Words.{ℕ, zero, suc, add-one, add_assoc, div-mul-le_self, mul-div_cancel, mul-le-mul, mul-le-mul_right, mul-mod_left, mul-one, zero-add, ℕ_discrete, arith, refl, sym, ◌∙◌, ap, subst, Bool, true, false, inl, inr, eqb, ltb, leb, lt_or, eq_or, both_left, both_right, both_true, cond_at, eq-eqb, eqb-true, le-leb, leb-true, lt-ltb, ltb-true, List, [], length, get_or, set, take, drop, replicate, length-drop, length-take, get_or-drop, get_or-take, get_or_build, get_or_build_past, placed, Off, off_less, placed_none, placed_next, length_placed, placed_in, placed_off, placed_keeps, placed_same, copied_placed, all_below, all_below_lem, ℤ, pos, negsuc, Each, le_true, up_to_le}
+use Rattle.numbers.specs.Words.{Ok, Err, ℕ, zero, suc, add-one, add_assoc, div-mul-le_self, mul-div_cancel, mul-le-mul, mul-le-mul_right, mul-mod_left, mul-one, zero-add, ℕ_discrete, arith, refl, sym, ◌∙◌, ap, subst, Bool, true, false, inl, inr, eqb, ltb, leb, lt_or, eq_or, both_left, both_right, both_true, cond_at, eq-eqb, eqb-true, le-leb, leb-true, lt-ltb, ltb-true, List, [], length, get_or, set, take, drop, replicate, length-drop, length-take, get_or-drop, get_or-take, get_or_build, get_or_build_past, placed, Off, off_less, placed_none, placed_next, length_placed, placed_in, placed_off, placed_keeps, placed_same, copied_placed, all_below, all_below_lem, ℤ, pos, negsuc, Each, le_true, up_to_le}
 pub use Rattle.numbers.specs.Lists.{Bytes}
 use Rattle.transform.specs.Lanes.{by_blocks}
-use Rattle.numbers.specs.declared.Checked.TheVariants.{Done, Refused}
+use Rattle.numbers.specs.declared.Refused.TheVariants as K
 use Rattle.predict.specs.declared.Border.{Border}
 use Rattle.predict.specs.Predict.{Size, dc_of}
 use Rattle.planes.specs.Paint.{sample_at, near_of, first_places, edge_of, above_right_of, rows_painted, painted, block_coefficients, block_residual, summed_of, block_painted, cell_column, cell_row, blocks_painted, large_rule, small_rule, prediction_rule, square_painted, square_blocks, paint_modes_fine, side_fine_of, square_fine_of, coefficients_fine, paint_fine, PaintedPlane, paint_of}
@@ -424,8 +424,8 @@ module _ {len w columns rows column row n mode : ℕ} {small : Bool} {modes : Li
 
 module _ (p : List ℕ) (w column row n : ℕ) (small : Bool) (mode : ℕ) (modes : List ℕ) (cs : List ℤ) where
   answered : (P : PaintedPlane → Type 0)
-      → (paint_fine (length p) w column row n small mode modes cs ≡ true → P (record { answer = Done; plane = square_painted p w (column * n) (row * n) n small mode modes cs }))
-      → P (record { answer = Refused; plane = p }) → P (paint_of p w column row n small mode modes cs)
+      → (paint_fine (length p) w column row n small mode modes cs ≡ true → P (record { answer = Ok tt; plane = square_painted p w (column * n) (row * n) n small mode modes cs }))
+      → P (record { answer = Err K.OutOfRange; plane = p }) → P (paint_of p w column row n small mode modes cs)
   unfolding paint_of
   answered P f g = cond_at (paint_fine (length p) w column row n small mode modes cs) P f (λ e. g)
 
@@ -443,10 +443,10 @@ module _ (p : List ℕ) (w column row n : ℕ) (small : Bool) (mode : ℕ) (mode
 
   -- with arguments in their ranges the square is painted
   pub paint_fine_lem : paint_fine (length p) w column row n small mode modes cs ≡ true
-      → paint_of p w column row n small mode modes cs ≡ record { answer = Done; plane = square_painted p w (column * n) (row * n) n small mode modes cs }
+      → paint_of p w column row n small mode modes cs ≡ record { answer = Ok tt; plane = square_painted p w (column * n) (row * n) n small mode modes cs }
   unfolding paint_of
   paint_fine_lem e = rw e
 
   pub paint_good : {columns rows : ℕ} → Proper (length p) w columns rows column row n small mode modes cs
-      → paint_of p w column row n small mode modes cs ≡ record { answer = Done; plane = square_painted p w (column * n) (row * n) n small mode modes cs }
+      → paint_of p w column row n small mode modes cs ≡ record { answer = Ok tt; plane = square_painted p w (column * n) (row * n) n small mode modes cs }
   paint_good g = paint_fine_lem (proper_fine g)

@@ -11,7 +11,7 @@ mod put;
 ghost use Rattle.std.specs.Prelude.{◌≡◌};
 ghost use Rattle.planes.specs.Paint.{paint_of, square_blocks};
 
-use numbers::Checked;
+use numbers::Refused;
 use transform::lanes::residuals;
 
 // Paints the square of macroblock (column, row): 16 samples wide in luma, where the modes may be small, and 8 in chroma.
@@ -28,19 +28,19 @@ pub fn paint(
     modes: &[u8; 16],
     coefficients: &[i16],
     from: usize,
-) -> Checked
+) -> Result<(), Refused>
     ensures { record { answer = result; plane = plane.new }
         ≡ paint_of plane.old stride column row size small mode modes.now
         (square_blocks size from coefficients.now) }
 {
     if !checks::modes_fine(size, small, mode, modes) {
-        return Checked::Refused;
+        return Err(Refused::OutOfRange);
     }
     if !checks::square_fine(plane.len(), stride, column, row, size) {
-        return Checked::Refused;
+        return Err(Refused::OutOfRange);
     }
     if !checks::blocks_fine(size, coefficients.len(), from) {
-        return Checked::Refused;
+        return Err(Refused::OutOfRange);
     }
     let coded = blocks::coded_blocks(coefficients, coefficients.len() / 16);
     let mut values = blocks::no_values();
@@ -65,5 +65,5 @@ pub fn paint(
             from,
         );
     }
-    Checked::Done
+    Ok(())
 }

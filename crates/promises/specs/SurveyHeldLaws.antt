@@ -1,7 +1,6 @@
 -- For a survey (request M-110): the records of a finished macroblock hold what its step made, and every value of them has its place in its table.
 use Rattle.std.specs.Prelude.{◌≤◌, ◌<◌, ◌≡◌, ◌&&◌}
-use Rattle.numbers.specs.Words.{ℕ, arith, refl, sym, ◌∙◌, ap, subst, ⊎_elim, leb, lit<, eq_or, both_right, leb-true, List, get_or}
-use Rattle.numbers.specs.declared.Checked.TheVariants as K
+use Rattle.numbers.specs.Words.{Ok, ℕ, arith, refl, sym, ◌∙◌, ap, subst, ⊎_elim, leb, lit<, eq_or, both_right, leb-true, List, get_or}
 use Rattle.reader.specs.ReadingLaws.{Bytes}
 use Rattle.modes.specs.declared.answers.Kinds.{Kinds}
 use Rattle.modes.specs.Modes.{kinds_of}
@@ -85,7 +84,7 @@ module _ (t : Call) (m : Memory) (b : Bytes t.bytes) (e : Fine t m) where
         omega (arith, leb-true s.inside 1 (both_right (leb s.limit 189 && leb s.inner 63 && leb s.threshold 2) (leb s.inside 1) f))
 
     -- its mode record
-    kinds_held : mode_found end.modes k ≡ record { answer = K.Done; kinds = kinds_of x.modes; modes = x.modes.modes }
+    kinds_held : mode_found end.modes k ≡ record { answer = Ok tt; kinds = kinds_of x.modes; modes = x.modes.modes }
     kinds_held =
         let old : List ℕ = made.found.mem.modes in
         let c : Kinds = kinds_of x.modes in
@@ -96,7 +95,7 @@ module _ (t : Call) (m : Memory) (b : Bytes t.bytes) (e : Fine t m) where
         let a : kinds_at end.modes k ≡ c = ap kinds_in r ∙ kinds_back old k c l there range.luma.sixteen in
         let d : modes_at end.modes k ≡ l = ap modes_in r ∙ modes_back old k c l there range.luma.sixteen in
         mode_read end.modes k (subst (λ (n : Memory). k < records_in mode_width n.modes) (sym g.memory) (room_at p g.state k z.shared live_end below).modes)
-        ∙ (λ i. record { answer = K.Done; kinds = a i; modes = d i })
+        ∙ (λ i. record { answer = Ok tt; kinds = a i; modes = d i })
 
     -- its strengths
     strength_held : (strength_found end.strengths k).strength ≡ x.strength

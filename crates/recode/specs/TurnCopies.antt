@@ -1,6 +1,6 @@
 -- One macroblock read and written again: what its contract says, and its proof.
 use Rattle.std.specs.Prelude.{◌<◌, ◌≡◌}
-use Rattle.numbers.specs.Words.{ℕ, arith, refl, sym, ◌∙◌, ap, subst, Bool, true, List, length, Ok}
+use Rattle.numbers.specs.Words.{Checked, ℕ, arith, refl, sym, ◌∙◌, ap, subst, Bool, true, List, length, Ok}
 use Rattle.header.specs.Frame.{factors_at}
 use Rattle.lent.specs.Memory as lent
 use Rattle.lent.specs.Memory.{records_in, Form, packed, form_width, column_width, column_at, column_bytes, column_set, column_written}
@@ -12,7 +12,6 @@ use Rattle.modes.specs.declared.answers.Kinds.{Kinds}
 use Rattle.modes.specs.declared.contexts.Context.{Context}
 use Rattle.modes.specs.Modes.{macroblock_of, modes_answer, context_fine_of, Macroblock, modes_of, bottom_of, right_of}
 use Rattle.modes.specs.AnswersLaws.{stage_given, read}
-use Rattle.numbers.specs.declared.Checked.{Checked}
 use Rattle.choices.specs.Choices.{beside_of}
 use Rattle.reader.specs.declared.boolean.Reader.{Reader}
 use Rattle.reader.specs.Reading.{given, missing, ReadOf, Reading, run, trace}

@@ -94,7 +94,7 @@ fn tokens_turned(
         modes: lowest,
         flags: under,
     };
-    write_column(&mut columns[..], task.column, below);
+    let _ = write_column(&mut columns[..], task.column, below);
     let token = narrow(tokens, after);
     Turned {
         first: next,

@@ -98,9 +98,9 @@ pub(crate) fn turn(
     let all = m.modes;
     let strength = m.strength;
     let right = m.left;
-    write_column(&mut columns[..], place.column, below);
-    write_mode_record(&mut modes[..], task.k, kinds, &all);
-    write_strength(&mut strengths[..], task.k, strength, kinds);
+    let _ = write_column(&mut columns[..], place.column, below);
+    let _ = write_mode_record(&mut modes[..], task.k, kinds, &all);
+    let _ = write_strength(&mut strengths[..], task.k, strength, kinds);
     RebuiltTurn {
         answer: Ok(after),
         left: right,
