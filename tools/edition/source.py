@@ -127,7 +127,7 @@ class Declared:
     def __init__(self, crate, path):
         *modules, self.name = path.split(".")
         self.path = ROOT / "crates" / crate / "src" / ("/".join(modules or ["lib"]) + ".rt")
-        declared = rf"((?:^//[^\n]*\n)*)(?:^#\[[^\n]*\]\n)*^((?:pub(?:\(crate\))? )?(?:struct|enum) {self.name} \{{.*?^\}})"
+        declared = rf"((?:^//[^\n]*\n)*)(?:^#\[[^\n]*\]\n)*^((?:pub(?:\(crate\))? )?(?:(?:struct|enum) {self.name}(?:<\w+>)? \{{.*?^\}}|type {self.name}(?:<\w+>)? = [^;]*;))"
         m = re.search(declared, self.path.read_text(), re.M | re.S)
         if not m:
             raise Fault(f"{shown(self.path)}: no type {self.name}")
@@ -176,7 +176,7 @@ class Specs:
         for word in re.findall(r"\b[A-Z]\w*[a-z]\w*", re.sub(r"//.*", "", "\n".join(declared.lines))):
             if word == declared.name:
                 continue
-            if re.search(rf"^(?:pub(?:\(crate\))? )?(?:struct|enum) {word} \{{", text, re.M):
+            if re.search(rf"^(?:pub(?:\(crate\))? )?(?:(?:struct|enum) {word}(?:<\w+>)? \{{|type {word}(?:<\w+>)? =)", text, re.M):
                 out.append(self.declare(declared.crate, word if declared.path.stem == "lib" else f"{declared.path.stem}.{word}"))
             if word in brought:
                 other, *path = brought[word].split("::")

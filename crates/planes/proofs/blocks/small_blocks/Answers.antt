@@ -17,7 +17,7 @@ pub predict_small-requires : goal.predict_small-requires
 predict_small-requires c =
     record {
       lies = rw (c.loop-i.invariant.1, length_blocks) (sub_lies (inr refl) (omega arith) c.requires.square c.sub_block-s.ensures);
-      x_bound = λ e. omega (arith, not_last c.loop-i.i e, c.requires.square.columns, c.sub_block-s.ensures.across)
+      x_bound = λ e. omega (arith, not_last c.loop-i.i e, c.requires.square.columns, c.sub_block-s.ensures.across);
     }
 
 pub bounds-c-i : goal.bounds-c-i
