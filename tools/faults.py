@@ -24,7 +24,8 @@ TABLE = "## Faults that the prover must refuse"
 FACTS = [
     r"^note: src/\S+:\d+:\d+: it is not proved that ",
     r": error: (?:`[^`]*`: )?(?:as printed, |computed as far as they go, )?the two (?:types|sides) (?:are|(?:first )?differ) ",
-    r": error: `[^`]*`: expected type `(?!goal\.|tie\.|Rattle\.\w+\.proofs\.)",
+    # an invariant at the values that a turn leaves is a statement, where another name of goals is a place
+    r": error: `[^`]*`: expected type `(?!goal\.(?!the-invariant-)|tie\.|Rattle\.\w+\.proofs\.)",
     r": error: `[^`]*`: `(?!(?:search|omega|grind|cc|simp|rw|record)\b)",
     r": error: (?:`[^`]*`: )?`(?:search|omega|grind|cc|simp)\b[^`]*`:? (?:(?:found )?no proof|did not prove|the goal does not follow|the equations do not join)",
     r": error: (?:`[^`]*`: )?give a proof of that as the last argument",
@@ -106,7 +107,8 @@ def function_at(path, edit, line):
     for file, old, new in pairs(edit):
         text = text.replace(old, new) if file == path else text
     text = blanked(text)
-    starts = [(text.count("\n", 0, m.start()) + 1, m.group(1)) for m in re.finditer(r"\bfn (\w+)", text)]
+    # A function begins with its attributes: rt names their line where it names the whole function.
+    starts = [(text.count("\n", 0, m.start()) + 1, m.group(1)) for m in re.finditer(r"(?:^ *#\[[^\n]*\]\n)*^[^\n]*?\bfn (\w+)", text, re.M)]
     return next((name for at, name in reversed(starts) if at <= line), None)
 
 
