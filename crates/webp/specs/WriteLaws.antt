@@ -1,15 +1,18 @@
 -- The writer's laws: the parts of a file stored one behind the other, the answer as the code finds it, and what an answer says.
 use Rattle.std.specs.Prelude.{◌+◌, ◌-◌, ◌%◌, ◌≤◌, ◌<◌, ◌≡◌, ◌⊎◌, ◌∷◌, ◌++◌}
-use Rattle.numbers.specs.Words.{ℕ, zero, suc, Result, Ok, Err, arith, refl, sym, ◌∙◌, ap, subst, inl, inr, ⊎_elim, lt_or, le-leb, lt-leb, List, [], append_assoc, length, take, drop, replicate, length-append, length-replicate, drop-append-add, drop-drop, take-append_seam}
+use Rattle.numbers.specs.Words.{ℕ, zero, suc, Result, Ok, Err, arith, refl, sym, ◌∙◌, ap, subst, inl, inr, ⊎_elim, lt_or, le-leb, lt-leb, List, [], append_assoc, append-nil, length, take, drop, replicate, drop_of_length-le, length-append, length-drop, length-replicate, drop-append-add, drop-drop, take_all, take-append_seam, take-length}
 use Rattle.webp.specs.declared.write.WrapError.TheVariants as W
 use Rattle.webp.specs.Webp.{WrapError, pad_of, riff_size, most_size, file_of, WriteEnded, written_into, wrap_of}
 unfoldable pub use Rattle.webp.specs.Write.{head_of, laid}
 
 -- ---- stores one behind the other
--- the same as the code finds it: b in the place of as many
-pub laid_is : (out : List ℕ) (at : ℕ) (b : List ℕ) {y : List ℕ} → y ≡ b → take at out ++ (y ++ drop (at + length b - at) (drop at out)) ≡ laid out at b
+-- the same as the code finds it: b copied over the front of what follows the place
+pub laid_is : (out : List ℕ) (at : ℕ) (b : List ℕ) {y : List ℕ} → at + length b ≤ length out → y ≡ take (length b) b ++ drop (length b) (take (length out - at) (drop at out))
+    → take at out ++ (y ++ drop (length out - at) (drop at out)) ≡ laid out at b
 unfolding laid
-laid_is out at b e = let k : at + length b - at ≡ length b = omega arith in rw (e, k, drop-drop)
+laid_is out at b h e =
+    let l : length (drop at out) ≤ length out - at = rw length-drop (omega arith) in
+    rw (e, take-length b, take_all (length out - at) (drop at out) l, drop_of_length-le (drop at out) l, append-nil, drop-drop)
 
 -- behind a, where a ends
 laid_on : (a d b : List ℕ) (at : ℕ) → length a ≡ at → laid (a ++ d) at b ≡ a ++ b ++ drop (length b) d

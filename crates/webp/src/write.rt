@@ -1,5 +1,6 @@
 // The writer: twenty bytes of layout, the frame, and the pad byte that an odd frame takes.
 ghost use Rattle.std.specs.Prelude.{◌≡◌, ◌+◌, ◌≤◌, length};
+ghost use Rattle.numbers.specs.Lists.{copied_over};
 ghost use Rattle.webp.specs.Webp.{wrap_of, wrap_error_number};
 ghost use Rattle.webp.specs.Write.{head_of, laid};
 
@@ -37,12 +38,22 @@ fn head(n: usize) -> [u8; 20]
     ]
 }
 
+// As much of `from` as `to` has room for, at the start of `to`. A loop: the kit's copy_from_slice would have the archive ask for memmove.
+fn copy(from: &[u8], to: &mut [u8])
+    ensures { to.new ≡ copied_over from.now to.old }
+{
+    let n = from.len().min(to.len());
+    for i in 0..n {
+        to[i] = from[i];
+    }
+}
+
 // Stores `b` in `out`, from the place `at` on.
 fn lay(out: &mut [u8], at: usize, b: &[u8])
     requires { at + length b.now ≤ length out.old }
     ensures { out.new ≡ laid out.old at b.now }
 {
-    out[at..at + b.len()].copy_from_slice(b);
+    copy(b, &mut out[at..]);
 }
 
 // Writes the file around `frame` at the start of `out`, and says how long it is; what lies behind it in `out` is left alone.
