@@ -43,10 +43,13 @@ pub fn byte_or_zero(s: &[u8], i: usize) -> u8
     s.get(i).copied().unwrap_or(0)
 }
 
-// As much of `from` as `to` has room for, at the start of `to`; what lies behind it in `to` is left alone.
+// As much of `from` as `to` has room for, at the start of `to`; what lies behind it in `to` is left alone. A loop: the kit's
+// copy_from_slice would have the archive ask for memmove.
 pub fn copy(from: &[u8], to: &mut [u8])
     ensures { to.new ≡ copied_over from.now to.old }
 {
     let n = from.len().min(to.len());
-    to[..n].copy_from_slice(&from[..n]);
+    for i in 0..n {
+        to[i] = from[i];
+    }
 }

@@ -10,12 +10,12 @@ pub mod turn;
 mod walk;
 
 ghost use Rattle.std.specs.Prelude.{◌≡◌, ◌≤◌, ◌<◌};
-ghost use Rattle.numbers.specs.Lists.{copied_over};
 ghost use Rattle.lent.specs.Memory.{memory_of};
 ghost use Rattle.choices.specs.Choices.{call_of};
 ghost use Rattle.recode.specs.Recode.{recoded_refused, recode_of, one_tile_of, recode_ended};
 
 use crate::tokens::recode_tokens;
+use numbers::copy;
 use picture::decode;
 use reader::boolean::Reader;
 use tile::partitions::part;
@@ -63,16 +63,6 @@ fn one_tile(tile: Tile, n: usize, k: usize) -> Tile
         count: 1,
         width: tile.width,
         height: tile.height,
-    }
-}
-
-// As much of `from` as `to` has room for, at the start of `to`. A loop: the kit's copy_from_slice would have the archive ask for memmove.
-fn copy(from: &[u8], to: &mut [u8])
-    ensures { to.new ≡ copied_over from.now to.old }
-{
-    let n = from.len().min(to.len());
-    for i in 0..n {
-        to[i] = from[i];
     }
 }
 

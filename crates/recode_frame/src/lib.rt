@@ -10,13 +10,13 @@ mod mode;
 mod tree;
 
 ghost use Rattle.std.specs.Prelude.{◌≡◌, ◌++◌, ◌+◌, ◌*◌, ◌%◌, ◌≤◌, length, drop};
-ghost use Rattle.numbers.specs.Lists.{copied_over};
 ghost use Rattle.lent.specs.Memory.{memory_of};
 ghost use Rattle.frame.specs.Tag.{tag_of};
 ghost use Rattle.recode_frame.specs.RecodeFrame.{three_bytes, no_frame, frame_ended, frame_decoded, recode_frame_of};
 ghost use Rattle.recode_frame.specs.First.{Sized, IsTaken, Measured, Placed, Numbered, Lays};
 
 use crate::first::rewrite;
+use numbers::copy;
 use recode::tokens::recode_tokens;
 use take::take;
 use tile::partitions::part;
@@ -82,16 +82,6 @@ fn put_tag(bytes: &[u8], n: usize, out: &mut [u8])
     out[0] = bytes[0] % 32 + (n % 8 * 32) as u8;
     out[1] = (n / 8 % 256) as u8;
     out[2] = (n / 2048 % 256) as u8;
-}
-
-// As much of `from` as `to` has room for, at the start of `to`. A loop: the kit's copy_from_slice would have the archive ask for memmove.
-fn copy(from: &[u8], to: &mut [u8])
-    ensures { to.new ≡ copied_over from.now to.old }
-{
-    let n = from.len().min(to.len());
-    for i in 0..n {
-        to[i] = from[i];
-    }
 }
 
 // What stands before the tokens: the tag, start code and sizes, and the first partition of n bytes.

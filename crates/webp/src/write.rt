@@ -1,8 +1,9 @@
 // The writer: twenty bytes of layout, the frame, and the pad byte that an odd frame takes.
 ghost use Rattle.std.specs.Prelude.{◌≡◌, ◌+◌, ◌≤◌, length};
-ghost use Rattle.numbers.specs.Lists.{copied_over};
 ghost use Rattle.webp.specs.Webp.{wrap_of, wrap_error_number};
 ghost use Rattle.webp.specs.Write.{head_of, laid};
+
+use numbers::copy;
 
 // Why nothing was written.
 #[derive(Clone, Copy, Debug, PartialEq, Eq)]
@@ -36,16 +37,6 @@ fn head(n: usize) -> [u8; 20]
         b'R', b'I', b'F', b'F', a, b, c, d, b'W', b'E', b'B', b'P', b'V', b'P', b'8', b' ', e, f,
         g, h,
     ]
-}
-
-// As much of `from` as `to` has room for, at the start of `to`. A loop: the kit's copy_from_slice would have the archive ask for memmove.
-fn copy(from: &[u8], to: &mut [u8])
-    ensures { to.new ≡ copied_over from.now to.old }
-{
-    let n = from.len().min(to.len());
-    for i in 0..n {
-        to[i] = from[i];
-    }
 }
 
 // Stores `b` in `out`, from the place `at` on.
