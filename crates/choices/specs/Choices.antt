@@ -76,7 +76,7 @@ named (suc (suc (suc (suc zero)))) = Refusal.Memory
 named (suc (suc (suc (suc (suc zero))))) = Refusal.Partitions
 named _ = Refusal.Argument
 
--- as a number again: 9 where a macroblock is refused what it is given
+-- as a number again: 9 where a macroblock is refused what it is given; another as it is
 abbrev pub refusal_number_of : Refusal → ℕ
 refusal_number_of Refusal.Sides = 1
 refusal_number_of Refusal.Count = 2
@@ -84,6 +84,7 @@ refusal_number_of Refusal.Entries = 3
 refusal_number_of Refusal.Memory = 4
 refusal_number_of Refusal.Partitions = 5
 refusal_number_of Refusal.Argument = 9
+refusal_number_of (Refusal.Other n) = n
 
 -- 0 as no refusal, the others by name
 abbrev pub told_by : ℕ → Result (Unit {0}) Refusal

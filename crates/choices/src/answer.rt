@@ -5,7 +5,7 @@ ghost use Rattle.choices.specs.Choices.{refusal_number_of, number_of, values_of,
 use macroblock::arguments::Readers;
 use macroblock::ending::Unfinished;
 
-// Why an argument is refused: what the five checks find, in their order; the last where a macroblock refuses what it is given.
+// Why an argument is refused: by the five checks, in their order, or by a macroblock; or by a number that no call answers.
 #[derive(Clone, Copy, Debug, PartialEq, Eq)]
 pub enum Refusal {
     Sides,
@@ -14,6 +14,7 @@ pub enum Refusal {
     Memory,
     Partitions,
     Argument,
+    Other(u32),
 }
 
 impl Refusal {
@@ -27,6 +28,7 @@ impl Refusal {
             Refusal::Memory => 4,
             Refusal::Partitions => 5,
             Refusal::Argument => 9,
+            Refusal::Other(n) => n,
         }
     }
 }
