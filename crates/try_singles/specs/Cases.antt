@@ -1,7 +1,10 @@
 -- How the program reads its header, fills its planes and sums them.
-use Rattle.std.specs.Prelude.{◌+◌, ◌*◌, ◌%◌, ◌≡◌, ◌+ℤ◌, ◌-ℤ◌, ◌*ℤ◌}
-use Rattle.numbers.specs.Words.{ℕ, zero, suc, add-one, refl, List, get_or, build, ℤ, pos}
+use Rattle.std.specs.Prelude.{◌+◌, ◌*◌, ◌%◌, ◌≡◌, ◌∷◌, ◌+ℤ◌, ◌-ℤ◌, ◌*ℤ◌}
+use Rattle.numbers.specs.Words.{ℕ, zero, suc, add-one, refl, Some, None, false, List, [], replicate, get_or, build, ℤ, pos}
 use Rattle.header.specs.Header.{entry_count}
+use Rattle.header.specs.Quantizers.{no_factors}
+use Rattle.header.specs.declared.frame.Frame.{Frame}
+use Rattle.header.specs.Frame.{framed_of}
 
 -- ---- an entry of the header: two bytes, 32768 too large
 abbrev pub entry_of : ℕ → ℕ → ℤ
@@ -12,6 +15,19 @@ entry_at l i = entry_of (get_or l (2 * i) 0) (get_or l (2 * i + 1) 0)
 
 abbrev pub entries_of : List ℕ → List ℤ
 entries_of l = build entry_count (entry_at l)
+
+-- ---- the frame of the header; zeros where it is refused
+abbrev pub no_frame : Frame
+no_frame = record {
+  factors = no_factors ∷ no_factors ∷ no_factors ∷ no_factors ∷ [];
+  large = replicate 4 0;
+  small = replicate 4 0;
+  sharp = 0;
+  announced = record { map = false; map_probabilities = replicate 3 0; skips = false; skip_probability = 0 };
+}
+
+unfoldable pub frame_for : List ℤ → Frame
+frame_for h = elim (framed_of h) [ Some f ↦ f | None ↦ no_frame ]
 
 -- ---- a plane filled: the numbers after a seed, and a sample of each
 unfoldable pub after : ℕ → ℕ → ℕ

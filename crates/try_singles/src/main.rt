@@ -6,12 +6,13 @@
 ghost use Rattle.std.specs.Prelude.{◌≡◌, ◌+◌, ◌*◌, ◌<◌, ◌≤◌, pos, negsuc, length, get_or};
 ghost use Rattle.numbers.specs.In.{In};
 ghost use Rattle.macroblock.specs.Macroblock.{finish_number_of};
-ghost use Rattle.try_singles.specs.Cases.{entry_of, entries_of, samples_of, sum_to};
+ghost use Rattle.try_singles.specs.Cases.{entry_of, entries_of, samples_of, sum_to, no_frame, frame_for};
 
 use coefficients::block::probabilities;
 use filter::strengths::Strength;
 use header::entries::ENTRY_COUNT;
-use header::frame::{Frame, take};
+use header::frame::{Announced, Frame, take};
+use header::quantizers::Factors;
 use macroblock::arguments::{Around, Place, Readers, SymbolCounts};
 use macroblock::ending::{Outcome, Unfinished};
 use modes::answers::Kinds;
@@ -214,6 +215,42 @@ fn cases(rt: &impl Print, list: &[u8], frame: Frame, table: &[u8]) -> io::Result
     Ok(())
 }
 
+fn no_frame() -> Frame
+    ensures { result ≡ no_frame }
+{
+    let none = Factors {
+        ydc: 0,
+        yac: 0,
+        y2dc: 0,
+        y2ac: 0,
+        uvdc: 0,
+        uvac: 0,
+    };
+    Frame {
+        factors: [none; 4],
+        large: [0; 4],
+        small: [0; 4],
+        sharp: 0,
+        announced: Announced {
+            map: false,
+            map_probabilities: [0; 3],
+            skips: false,
+            skip_probability: 0,
+        },
+    }
+}
+
+// The cases of a header that is refused are decoded too.
+#[tactic(auto, unfolding(crate::specs::Cases::frame_for))]
+fn frame_for(h: &[i32]) -> Frame
+    ensures { result ≡ frame_for h.now }
+{
+    match take(h) {
+        Some(frame) => frame,
+        None => no_frame(),
+    }
+}
+
 fn all(rt: &impl Print, list: &[u8]) -> io::Result<()> {
     if list.len() < 2192 {
         return Ok(());
@@ -222,10 +259,7 @@ fn all(rt: &impl Print, list: &[u8]) -> io::Result<()> {
     let Some(table) = probabilities(&h) else {
         return Ok(());
     };
-    let Some(frame) = take(&h) else {
-        return Ok(());
-    };
-    cases(rt, &list[2192..], frame, &table)
+    cases(rt, &list[2192..], frame_for(&h), &table)
 }
 
 // Standard input's first 65536 bytes.
