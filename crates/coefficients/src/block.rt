@@ -215,7 +215,12 @@ fn read_block(
 fn small(out: &[i32; 16]) -> bool
     ensures { result ≡ sixteen_bits out.now 16 }
 {
-    out.iter().all(|v| -32768 <= *v && *v <= 32767)
+    // All are looked at, and not until the first, so that the compiler takes them together.
+    let mut fine = true;
+    for v in out {
+        fine = fine & ((-32768 <= *v) & (*v <= 32767));
+    }
+    fine
 }
 
 fn numeric(token: u8) -> bool

@@ -39,7 +39,12 @@ pub fn right(modes: &[u8; 16]) -> [u8; 4]
 pub fn each_below(l: &[u8], limit: u8) -> bool
     ensures { result ≡ each_below_of limit l.now }
 {
-    l.iter().all(|x| *x < limit)
+    // All are looked at, and not until the first, so that the compiler takes them together.
+    let mut fine = true;
+    for x in l {
+        fine = (*x < limit) & fine;
+    }
+    fine
 }
 
 // Whether it is in range: each mode below 10, each flag 0 or 1.

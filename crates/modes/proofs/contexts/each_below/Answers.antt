@@ -1,16 +1,12 @@
-use Rattle.std.specs.List.{list_all}
-use Rattle.std.proofs.Common.{tests}
-use Rattle.std.proofs.lemmas.Iterator.{YieldsList-from_slice}
-use Rattle.std.proofs.lemmas.Iterator.Search.{all_from_yields_List}
-use Rattle.numbers.specs.Words.{ℕ, suc, ◌≡◌, refl, ◌∙◌, ap, ltb, ◌&&◌, List, [], ◌∷◌, all_at, rules}
+use Rattle.numbers.specs.Words.{arith}
+use Rattle.modes.specs.ContextsLaws.{tested_start, tested_next, tested_end}
 use Rattle.modes.proofs.contexts.each_below.Goals as goal
 
--- the kit's test of a whole list is the definition's
-listed : (m i : ℕ) (l : List ℕ) → list_all (λ x. ltb x m) l ≡ all_at (λ k x. ltb x m) i l
-listed m i [] = refl
-listed m i (x ∷ xs) = ap (λ b. ltb x m && b) (listed m (suc i) xs)
+pub loop-x-init : goal.loop-x-init
+loop-x-init c = tested_start _ _
+
+pub loop-x-preserved : goal.loop-x-preserved
+loop-x-preserved c = tested_next _ _ (omega arith) c.loop-x.invariant
 
 pub returns : goal.returns
-returns c =
-    all_from_yields_List (λ x. ltb x c.args.limit) _ _ _ c.all.ensures.ran (YieldsList-from_slice c.args.l.now cc) (λ x b q k. search (rules, tests))
-    ∙ listed c.args.limit 0 c.args.l.now
+returns c = tested_end _ _ (omega arith) c.loop-x.invariant
