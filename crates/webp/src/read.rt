@@ -41,13 +41,15 @@ fn uint32(s: &[u8], at: usize) -> usize
     u32::from_le_bytes([s[at], s[at + 1], s[at + 2], s[at + 3]]) as usize
 }
 
-// Whether these four characters stand at the place.
+// Whether these four characters stand at the place. One by one: a comparison of slices is a call, and takes more stack and time.
 fn fourcc(s: &[u8], at: usize, c: [u8; 4]) -> bool
-    requires within { at ≤ 12 }
-    requires four { length c ≡ 4 }
+    requires { at ≤ 12 }
     ensures { result ≡ four_cc_at s.now at c }
 {
-    at + 4 <= s.len() && s[at..at + 4] == c[..]
+    if s.len() < at + 4 {
+        return false;
+    }
+    (s[at] == c[0]) & (s[at + 1] == c[1]) & (s[at + 2] == c[2]) & (s[at + 3] == c[3])
 }
 
 #[tactic(auto, unfolding(crate::specs::Webp::marked_of))]
