@@ -1,6 +1,6 @@
 -- The laws of the boolean decoder, of grammars and of traces.
-use Rattle.std.specs.Prelude.{◌+◌, ◌-◌, ◌*◌, ◌/◌, ◌%◌, ◌^◌, ◌≤◌, ◌<◌, ◌≡◌, ◌∷◌, ◌++◌}
-use Rattle.numbers.specs.Words.{ℕ, zero, suc, div-lt_iff_lt-mul, mul-lt-mul_of_pos_left, mul-one, arith, twice, cases8, refl, sym, ◌∙◌, Bool, true, false, ⊎_elim, eqb, ltb, leb, lit<, lt_or, eq_or, not_so, both_left, both_right, eq-eqb, eqb-true, le-leb, le-ltb, leb-true, lt-leb, lt-ltb, ltb-true, ne_eqb, List, length, get_or, suc-add, ap, [], length-append, Ok, Err}
+use Rattle.std.specs.Prelude.{◌+◌, ◌-◌, ◌*◌, ◌/◌, ◌%◌, ◌^◌, ◌≤◌, ◌<◌, ◌≡◌, ◌⊎◌, ◌∷◌, ◌++◌}
+use Rattle.numbers.specs.Words.{ℕ, zero, suc, div-lt_iff_lt-mul, mul-lt-mul_of_pos_left, mul-one, arith, twice, cases8, refl, sym, ◌∙◌, Bool, true, false, ⊎_elim, eqb, ltb, leb, lit<, lt_or, eq_or, not_so, both_left, both_right, eq-eqb, eqb-true, le-leb, le-ltb, leb-true, not_first, lt-leb, lt-ltb, ltb-true, ne_eqb, List, length, get_or, suc-add, ap, [], length-append, Ok, Err}
 use Rattle.reader.specs.declared.boolean.Unread.TheVariants as U
 pub use Rattle.numbers.specs.Lists.{Bytes}
 pub use Rattle.reader.specs.Reading.{From, Valid}
@@ -308,6 +308,11 @@ from_read (Err u) = missing
 pub from_read_lem : {A : Type 0} (g : Given A) → g ≡ from_read (to_read g)
 from_read_lem (given a r) = refl
 from_read_lem missing = refl
+
+-- every answer but a value says that a byte is missing, whatever `tag` numbers the cases from 0
+pub not_got : {A : Type 0} (tag : ReadOf A → ℕ) → ((v : A) (r : Reader) → tag (Ok (v, r)) ≡ 0) → (x : ReadOf A) → (tag x ≡ 1) ⊎ (tag x ≡ 2) → from_read x ≡ missing
+not_got tag z (Ok x) e = absurd (not_first e (z x.0 x.1))
+not_got tag z (Err u) e = refl
 
 -- why a run gave nothing
 pub unread_missing : {A : Type 0} {u : Unread} (g : Given A) → Err u ≡ to_read g → u ≡ U.Missing
