@@ -27,6 +27,15 @@ fn show_reader(rt: &impl Print, r: Reader) -> io::Result<()> {
     show(rt, r.window)
 }
 
+// As a text: printing it as a number takes several times as long.
+fn show_bit(rt: &impl Print, bit: bool) -> io::Result<()> {
+    if bit {
+        print!(rt; "1")
+    } else {
+        print!(rt; "0")
+    }
+}
+
 fn show_unread(rt: &impl Print, why: Unread) -> io::Result<()> {
     match why {
         Unread::Missing => print!(rt; "m"),
@@ -40,7 +49,7 @@ fn bits(rt: &impl Print, s: &[u8], r: Reader, probs: &[u8]) -> io::Result<()> {
     for prob in probs {
         match next.symbol(s, *prob) {
             Ok((bit, after)) => {
-                print!(rt; "{}", u8::from(bit))?;
+                show_bit(rt, bit)?;
                 next = after;
             }
             Err(why) => return show_unread(rt, why),
