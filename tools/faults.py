@@ -16,7 +16,7 @@ from pathlib import Path
 
 from sources import ROOT, blanked
 
-LEAST = 117
+LEAST = 126
 TABLE = "## Faults that the prover must refuse"
 
 # A goal for which there is no proof, as rt writes it at the code; two sides that are not equal, an equation or a bound that is not proved, as it
@@ -24,8 +24,8 @@ TABLE = "## Faults that the prover must refuse"
 FACTS = [
     r"^note: src/\S+:\d+:\d+: it is not proved that ",
     r": error: (?:`[^`]*`: )?(?:as printed, |computed as far as they go, )?the two (?:types|sides) (?:are|(?:first )?differ) ",
-    # an invariant at the values that a turn leaves is a statement, where another name of goals is a place
-    r": error: `[^`]*`: expected type `(?!goal\.(?!the-invariant-)|tie\.|Rattle\.\w+\.proofs\.)",
+    # an invariant at the values that a turn leaves is a statement; its name alone, like any other of goals, is a place
+    r": error: `[^`]*`: expected type `(?!goal\.(?!the-invariant-[\w-]+ \()|tie\.|Rattle\.\w+\.proofs\.)",
     r": error: `[^`]*`: `(?!(?:search|omega|grind|cc|simp|rw|record)\b)",
     r": error: (?:`[^`]*`: )?`(?:search|omega|grind|cc|simp)\b[^`]*`:? (?:(?:found )?no proof|did not prove|the goal does not follow|the equations do not join)",
     r": error: (?:`[^`]*`: )?give a proof of that as the last argument",

@@ -25,12 +25,12 @@ HERE = Path(__file__).resolve().parent
 ROOT = HERE.parent.parent
 GATE = [
     "tools/plain.py", "tools/determined.py", "tools/definitions.py --check", "tools/promised.py", "tools/faults.py", "tests/scripts/run.py", "tests/definitions/faults.py",
-    'tools/faults.py "$log"', "tools/archive.sh", "tests/outside/run.sh", "tests/second/kept.sh", "tests/rfc/kept.sh", "tests/cli/run.sh",
+    'tools/faults.py "$log"', "tests/model/refused_header.py crates/try_singles/out/try_singles", "tools/archive.sh", "tests/outside/run.sh", "tests/second/kept.sh", "tests/rfc/kept.sh", "tests/cli/run.sh",
 ]
 # `rt ci` as the gate runs it, plain; and what stands for a part of it where nothing is proved.
 PROOFS, STANDS_FOR_IT = 'rt ci 2>&1 | tee "$log"', ("tests/scripts/layout.sh",)
 # So that no edit goes without a change of this number.
-LEAST = 82
+LEAST = 83
 # What looks at a file that only an edit brings.
 BROUGHT = ("tools/axioms.py", "tools/faults.py ci.log")
 PARTS = [".ci", "bindings", "crates", "crates.txt", "docs", "include", "tests/outside", "tests/scripts", "tools"]
